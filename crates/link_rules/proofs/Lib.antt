@@ -1,1 +1,5 @@
 pub mod OctetLaws
+pub mod TableLaws
+pub mod MarkLaws
+pub mod RenumberingLaws
+pub mod MarkRenumbering

@@ -1,5 +1,6 @@
 pub mod Octets
 pub mod LinkIdx
 pub mod Network
+pub mod AdvanceRewind
 pub mod Renumbering
 pub mod Matching

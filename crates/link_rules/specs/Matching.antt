@@ -1,10 +1,11 @@
--- Matching (document 01) of link tables and of occupancies: p renumbers links, q trains. Assumes nothing.
+-- Matching (document 01) of link tables, occupancies and answers of mark: p renumbers links, q trains. Assumes nothing.
 use mathlib.Core.Path.{_≡_}
 use mathlib.Core.List.{List, map}
 use Prim.Native.Nat.{ℕ, _<_}
 use lib.ListN.{length}
 use Rattle.link_rules.specs.LinkIdx.{holder}
 use Rattle.link_rules.specs.Network.{Link, linkCount, linkAt}
+use Rattle.link_rules.specs.AdvanceRewind.{Marked}
 use Rattle.link_rules.specs.Renumbering.{rLink, rTrain}
 use Rattle.link_rules.specs.declared.link_idx.LinkIdx.{LinkIdx}
 
@@ -21,3 +22,8 @@ pub record TablesMatch (p : ℕ → ℕ) (tbl tbl′ : List ℕ) : Type 0 where
 pub record OccupanciesMatch (p q : ℕ → ℕ) (occ occ′ : List ℕ) : Type 0 where
   pub long : length occ′ ≡ length occ
   pub entry : (l : LinkIdx) → l .0 < length occ → holder occ′ (rLink p l) ≡ rTrain q (holder occ l)
+
+-- refused in both with the same number and place, or done in both; and the occupancies that are left
+pub record MarksMatch (p q : ℕ → ℕ) (a b : Marked) : Type 0 where
+  pub answer : b .answer ≡ a .answer
+  pub occupancies : OccupanciesMatch p q (a .occupancy) (b .occupancy)

@@ -8,46 +8,34 @@ use Rattle.link_rules.proofs.OctetLaws.{put-past}
 use borrow.Author.Needs.{needs}
 use Rattle.link_rules.proofs.octets.put_u16.Statement.{statement}
 use Rattle.link_rules.proofs.octets.put_u16.Tie as tie
-use Rattle.link_rules.proofs.octets.put_u16.Reads as reads
-use Rattle.link_rules.proofs.octets.put_u16.Lts as lts
-use Rattle.link_rules.proofs.octets.put_u16_in.Reads as put-u16-in-reads
 
--- src/octets.rt:56:9
 returns : tie.Need-returns
 returns c = let a = c .before .before .args in sym (put-past 2 (a .x) (a .at) (now (a .s)) (c .if1 .taken))
 
--- src/octets.rt:58:8
 sub-if2 : tie.Need-sub-if2
 sub-if2 c = search needs
 
--- src/octets.rt:59:17
 cast-s : tie.Need-cast-s
 cast-s c = search needs
 
--- src/octets.rt:59:9
 slice-write-s : tie.Need-slice-write-s
 slice-write-s c = search needs
 
--- src/octets.rt:60:9
 same-length : tie.Need-same-length
 same-length c = search needs
 
--- src/octets.rt:60:9
 returns-2 : tie.Need-returns-2
 unfolding putLe
 returns-2 c =
     let a = c .before .before .before .args in
     sym (put-past 1 (a .x / 256) (a .at + 1) (set (now (a .s)) (a .at) (a .x % 256)) (simp length-set (omega arith)))
 
--- src/octets.rt:62:5
 put-u16-in-requires : tie.Need-put-u16-in-requires
 put-u16-in-requires c κs = search needs
 
--- src/octets.rt:52:1
 same-length-2 : tie.Need-same-length-2
 same-length-2 c = search needs
 
--- src/octets.rt:52:1
 returns-3 : tie.Need-returns-3
 returns-3 c = search needs
 

@@ -6,34 +6,25 @@ use Rattle.link_rules.specs.Octets.{putLe}
 use borrow.Author.Needs.{needs}
 use Rattle.link_rules.proofs.octets.put_u16_in.Statement.{statement}
 use Rattle.link_rules.proofs.octets.put_u16_in.Tie as tie
-use Rattle.link_rules.proofs.octets.put_u16_in.Reads as reads
-use Rattle.link_rules.proofs.octets.put_u16_in.Lts as lts
 
--- src/octets.rt:113:13
 cast-s : tie.Need-cast-s
 cast-s c = search needs
 
--- src/octets.rt:113:5
 slice-write-s : tie.Need-slice-write-s
 slice-write-s c = search needs
 
--- src/octets.rt:114:17
 cast-s-2 : tie.Need-cast-s-2
 cast-s-2 c = search needs
 
--- src/octets.rt:114:7
 add-s : tie.Need-add-s
 add-s c = search needs
 
--- src/octets.rt:114:5
 slice-write-s-2 : tie.Need-slice-write-s-2
 slice-write-s-2 c = simp length-set (omega arith)
 
--- src/octets.rt:109:1
 same-length : tie.Need-same-length
 same-length c = search needs
 
--- src/octets.rt:109:1
 returns : tie.Need-returns
 unfolding putLe
 returns c = let e : c .args .x / 256 % 256 ≡ c .args .x / 256 = omega arith in rw e

@@ -7,62 +7,45 @@ use Rattle.link_rules.proofs.OctetLaws.{put-past, put-add, put-mod, len
 use borrow.Author.Needs.{needs}
 use Rattle.link_rules.proofs.octets.put_u32.Statement.{statement}
 use Rattle.link_rules.proofs.octets.put_u32.Tie as tie
-use Rattle.link_rules.proofs.octets.put_u32.Reads as reads
-use Rattle.link_rules.proofs.octets.put_u32.Lts as lts
-use Rattle.link_rules.proofs.octets.put_u16.Reads as put-u16-reads
-use Rattle.link_rules.proofs.octets.put_u16_in.Reads as put-u16-in-reads
 
--- src/octets.rt:69:9
 returns : tie.Need-returns
 returns c = let a = c .before .before .args in sym (put-past 4 (a .x) (a .at) (now (a .s)) (c .if1 .taken))
 
--- src/octets.rt:71:8
 sub-if2 : tie.Need-sub-if2
 sub-if2 c = search needs
 
--- src/octets.rt:72:24
 cast-put-u16 : tie.Need-cast-put-u16
 cast-put-u16 c = search needs
 
--- src/octets.rt:72:9
 put-u16-requires : tie.Need-put-u16-requires
 put-u16-requires c κs = search needs
 
--- src/octets.rt:73:9
 same-length : tie.Need-same-length
 same-length c = search needs
 
--- src/octets.rt:73:9
 returns-2 : tie.Need-returns-2
 returns-2 c =
     let a = c .before .before .before .before .before .before .before .args in
     cc (put-add 2 2 (a .x) (a .at) (now (a .s)), put-mod 2 (a .x) (a .at) (now (a .s)), put-past 2 (a .x / 256 ^ 2) (a .at + 2) (putLe 2 (a .x) (a .at) (now (a .s))) (rw length-put (omega arith)))
 
--- src/octets.rt:75:23
 cast-put-u16-in : tie.Need-cast-put-u16-in
 cast-put-u16-in c = search needs
 
--- src/octets.rt:75:5
 put-u16-in-requires : tie.Need-put-u16-in-requires
 put-u16-in-requires c κs = search needs
 
--- src/octets.rt:76:16
 add-put-u16 : tie.Need-add-put-u16
 add-put-u16 c = search needs
 
--- src/octets.rt:76:24
 cast-put-u16-2 : tie.Need-cast-put-u16-2
 cast-put-u16-2 c = search needs
 
--- src/octets.rt:76:5
 put-u16-requires-2 : tie.Need-put-u16-requires-2
 put-u16-requires-2 c κs = search needs
 
--- src/octets.rt:65:1
 same-length-2 : tie.Need-same-length-2
 same-length-2 c = search needs
 
--- src/octets.rt:65:1
 returns-3 : tie.Need-returns-3
 returns-3 c =
     let a = c .before .before .before .before .before .before .before .before .before .before .before .args in

@@ -7,61 +7,45 @@ use Rattle.link_rules.proofs.OctetLaws.{put-past, put-add, put-mod, len
 use borrow.Author.Needs.{needs}
 use Rattle.link_rules.proofs.octets.put_u64.Statement.{statement}
 use Rattle.link_rules.proofs.octets.put_u64.Tie as tie
-use Rattle.link_rules.proofs.octets.put_u64.Reads as reads
-use Rattle.link_rules.proofs.octets.put_u64.Lts as lts
-use Rattle.link_rules.proofs.octets.put_u32.Reads as put-u32-reads
 
--- src/octets.rt:83:9
 returns : tie.Need-returns
 returns c = let a = c .before .before .args in sym (put-past 8 (a .x) (a .at) (now (a .s)) (c .if1 .taken))
 
--- src/octets.rt:85:8
 sub-if2 : tie.Need-sub-if2
 sub-if2 c = search needs
 
--- src/octets.rt:86:24
 cast-put-u32 : tie.Need-cast-put-u32
 cast-put-u32 c = search needs
 
--- src/octets.rt:86:9
 put-u32-requires : tie.Need-put-u32-requires
 put-u32-requires c κs = search needs
 
--- src/octets.rt:87:9
 same-length : tie.Need-same-length
 same-length c = search needs
 
--- src/octets.rt:87:9
 returns-2 : tie.Need-returns-2
 returns-2 c =
     let a = c .before .before .before .before .before .before .before .args in
     cc (put-add 4 4 (a .x) (a .at) (now (a .s)), put-mod 4 (a .x) (a .at) (now (a .s)), put-past 4 (a .x / 256 ^ 4) (a .at + 4) (putLe 4 (a .x) (a .at) (now (a .s))) (rw length-put (omega arith)))
 
--- src/octets.rt:89:20
 cast-put-u32-2 : tie.Need-cast-put-u32-2
 cast-put-u32-2 c = search needs
 
--- src/octets.rt:89:5
 put-u32-requires-2 : tie.Need-put-u32-requires-2
 put-u32-requires-2 c κs = search needs
 
--- src/octets.rt:90:16
 add-put-u32 : tie.Need-add-put-u32
 add-put-u32 c = search needs
 
--- src/octets.rt:90:24
 cast-put-u32-3 : tie.Need-cast-put-u32-3
 cast-put-u32-3 c = search needs
 
--- src/octets.rt:90:5
 put-u32-requires-3 : tie.Need-put-u32-requires-3
 put-u32-requires-3 c κs = search needs
 
--- src/octets.rt:79:1
 same-length-2 : tie.Need-same-length-2
 same-length-2 c = search needs
 
--- src/octets.rt:79:1
 returns-3 : tie.Need-returns-3
 returns-3 c =
     let a = c .before .before .before .before .before .before .before .before .before .before .before .args in

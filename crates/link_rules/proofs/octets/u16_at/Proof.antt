@@ -7,36 +7,26 @@ use Rattle.link_rules.proofs.OctetLaws.{le-past}
 use borrow.Author.Needs.{needs}
 use Rattle.link_rules.proofs.octets.u16_at.Statement.{statement}
 use Rattle.link_rules.proofs.octets.u16_at.Tie as tie
-use Rattle.link_rules.proofs.octets.u16_at.Reads as reads
-use Rattle.link_rules.proofs.octets.u16_at.Lts as lts
-use Rattle.link_rules.proofs.octets.u16_in.Reads as u16-in-reads
 
--- src/octets.rt:12:9
 returns : tie.Need-returns
 returns c = let a = c .before .before .args in sym (le-past 2 (now (a .s)) (a .at) (c .if1 .taken))
 
--- src/octets.rt:14:8
 sub-if2 : tie.Need-sub-if2
 sub-if2 c = search needs
 
--- src/octets.rt:15:16
 shared-slice-read-result : tie.Need-shared-slice-read-result
 shared-slice-read-result c = search needs
 
--- src/octets.rt:15:16
 cast-result : tie.Need-cast-result
 cast-result c = omega (arith, c .shared-slice-known2 .given (c .before .before .before .before .args .at))
 
--- src/octets.rt:15:9
 returns-2 : tie.Need-returns-2
 unfolding leAt
 returns-2 c = let a = c .before .before .before .before .args in omega (arith, le-past 1 (now (a .s)) (a .at + 1) (omega arith))
 
--- src/octets.rt:17:5
 u16-in-requires : tie.Need-u16-in-requires
 u16-in-requires c κs = search needs
 
--- src/octets.rt:8:1
 returns-3 : tie.Need-returns-3
 returns-3 c = search needs
 

@@ -4,38 +4,28 @@ use Rattle.link_rules.specs.Octets.{leAt}
 use borrow.Author.Needs.{needs}
 use Rattle.link_rules.proofs.octets.u16_in.Statement.{statement}
 use Rattle.link_rules.proofs.octets.u16_in.Tie as tie
-use Rattle.link_rules.proofs.octets.u16_in.Reads as reads
-use Rattle.link_rules.proofs.octets.u16_in.Lts as lts
 
--- src/octets.rt:99:6
 shared-slice-read-result : tie.Need-shared-slice-read-result
 shared-slice-read-result c = search needs
 
--- src/octets.rt:99:6
 cast-result : tie.Need-cast-result
 cast-result c = omega (arith, c .shared-slice-known .given (c .before .args .at))
 
--- src/octets.rt:99:31
 add-result : tie.Need-add-result
 add-result c = search needs
 
--- src/octets.rt:99:29
 shared-slice-read-result-2 : tie.Need-shared-slice-read-result-2
 shared-slice-read-result-2 c = search needs
 
--- src/octets.rt:99:29
 cast-result-2 : tie.Need-cast-result-2
 cast-result-2 c = omega (arith, c .shared-slice-known2 .given (c .before .before .args .at + 1))
 
--- src/octets.rt:99:22
 mul-result : tie.Need-mul-result
 mul-result c = omega (arith, c .shared-slice-known2 .given (c .before .before .args .at + 1))
 
--- src/octets.rt:99:5
 add-result-2 : tie.Need-add-result-2
 add-result-2 c = omega (arith, c .shared-slice-known2 .given (c .before .before .args .at + 1), c .before .shared-slice-known .given (c .before .before .args .at))
 
--- src/octets.rt:95:1
 returns : tie.Need-returns
 unfolding leAt
 returns c = omega arith

@@ -4,39 +4,28 @@ use Rattle.link_rules.proofs.OctetLaws.{le-add}
 use borrow.Author.Needs.{needs}
 use Rattle.link_rules.proofs.octets.u32_in.Statement.{statement}
 use Rattle.link_rules.proofs.octets.u32_in.Tie as tie
-use Rattle.link_rules.proofs.octets.u32_in.Reads as reads
-use Rattle.link_rules.proofs.octets.u32_in.Lts as lts
-use Rattle.link_rules.proofs.octets.u16_in.Reads as u16-in-reads
 
--- src/octets.rt:106:6
 u16-in-requires : tie.Need-u16-in-requires
 u16-in-requires c κs = search needs
 
--- src/octets.rt:106:6
 cast-result : tie.Need-cast-result
 cast-result c = search needs
 
--- src/octets.rt:106:49
 add-u16-in : tie.Need-add-u16-in
 add-u16-in c = search needs
 
--- src/octets.rt:106:39
 u16-in-requires-2 : tie.Need-u16-in-requires-2
 u16-in-requires-2 c κs = search needs
 
--- src/octets.rt:106:39
 cast-result-2 : tie.Need-cast-result-2
 cast-result-2 c = search needs
 
--- src/octets.rt:106:30
 mul-result : tie.Need-mul-result
 mul-result c = search needs
 
--- src/octets.rt:106:5
 add-result : tie.Need-add-result
 add-result c = search needs
 
--- src/octets.rt:102:1
 returns : tie.Need-returns
 returns c = let a = c .before .before .before .args in omega (arith, le-add 2 2 (now (a .s)) (a .at))
 

@@ -6,94 +6,69 @@ use Rattle.link_rules.proofs.OctetLaws.{le-add, le-past}
 use borrow.Author.Needs.{needs}
 use Rattle.link_rules.proofs.octets.u64_at.Statement.{statement}
 use Rattle.link_rules.proofs.octets.u64_at.Tie as tie
-use Rattle.link_rules.proofs.octets.u64_at.Reads as reads
-use Rattle.link_rules.proofs.octets.u64_at.Lts as lts
-use Rattle.link_rules.proofs.octets.u32_at.Reads as u32-at-reads
-use Rattle.link_rules.proofs.octets.u32_in.Reads as u32-in-reads
 
--- src/octets.rt:40:9
 returns : tie.Need-returns
 returns c = let a = c .before .before .args in sym (le-past 8 (now (a .s)) (a .at) (c .if1 .taken))
 
--- src/octets.rt:42:16
 sub-left : tie.Need-sub-left
 sub-left c = search needs
 
--- src/octets.rt:45:20
 u32-at-requires : tie.Need-u32-at-requires
 u32-at-requires c κs = search needs
 
--- src/octets.rt:45:20
 cast-result : tie.Need-cast-result
 cast-result c = search needs
 
--- src/octets.rt:45:13
 returns-2 : tie.Need-returns-2
 returns-2 c =
     let a = c .before .before .before .before .before .args in
     omega (arith, le-add 4 4 (now (a .s)) (a .at), le-past 4 (now (a .s)) (a .at + 4) (omega arith))
 
--- src/octets.rt:47:17
 u32-in-requires : tie.Need-u32-in-requires
 u32-in-requires c κs = search needs
 
--- src/octets.rt:47:17
 cast-result-2 : tie.Need-cast-result-2
 cast-result-2 c = search needs
 
--- src/octets.rt:47:65
 add-u32-at : tie.Need-add-u32-at
 add-u32-at c = search needs
 
--- src/octets.rt:47:55
 u32-at-requires-2 : tie.Need-u32-at-requires-2
 u32-at-requires-2 c κs = search needs
 
--- src/octets.rt:47:55
 cast-result-3 : tie.Need-cast-result-3
 cast-result-3 c = search needs
 
--- src/octets.rt:47:41
 mul-result : tie.Need-mul-result
 mul-result c = search needs
 
--- src/octets.rt:47:16
 add-result : tie.Need-add-result
 add-result c = search needs
 
--- src/octets.rt:47:9
 returns-3 : tie.Need-returns-3
 returns-3 c = let a = c .before .before .before .before .before .before .args in omega (arith, le-add 4 4 (now (a .s)) (a .at))
 
--- src/octets.rt:49:6
 u32-in-requires-2 : tie.Need-u32-in-requires-2
 u32-in-requires-2 c κs = search needs
 
--- src/octets.rt:49:6
 cast-result-4 : tie.Need-cast-result-4
 cast-result-4 c = search needs
 
--- src/octets.rt:49:54
 add-u32-in : tie.Need-add-u32-in
 add-u32-in c = search needs
 
--- src/octets.rt:49:44
 u32-in-requires-3 : tie.Need-u32-in-requires-3
 u32-in-requires-3 c κs = search needs
 
--- src/octets.rt:49:44
 cast-result-5 : tie.Need-cast-result-5
 cast-result-5 c = search needs
 
--- src/octets.rt:49:30
 mul-result-2 : tie.Need-mul-result-2
 mul-result-2 c = search needs
 
--- src/octets.rt:49:5
 add-result-2 : tie.Need-add-result-2
 add-result-2 c = search needs
 
--- src/octets.rt:36:1
 returns-4 : tie.Need-returns-4
 returns-4 c = let a = c .before .before .before .before .before .args in omega (arith, le-add 4 4 (now (a .s)) (a .at))
 

@@ -1,0 +1,66 @@
+-- Laws of the link table: a pass over its records, and the list of a link's lockouts as a loop walks it. Assumes nothing.
+use mathlib.Core.Path.{_≡_, refl, sym, ap, _∙_}
+use mathlib.Core.Bool.{Bool, true, false, _&&_}
+use mathlib.Core.List.{List, [], _∷_}
+use mathlib.Core.Logic.{_⊎_, inl, inr}
+use Prim.Native.Nat.{ℕ, zero, suc, _+_, _-_, _≤_, _<_}
+use native.Mathlib.Omega.{arith}
+use native.Mathlib.Nat.{eq-or-lt-of-le}
+use native.Mathlib.Numerals.{add-one}
+use lib.ListN.{length, getD}
+use Rattle.link_rules.specs.Network.{allBelow, lockouts, lockoutAt}
+use Rattle.link_rules.specs.LinkIdx.{noLink}
+
+-- ---- allBelow, a turn at a time
+
+module _ (test : ℕ → Bool) where
+  pub all-more : (i : ℕ) → allBelow i test ≡ true → test i ≡ true → allBelow (i + 1) test ≡ true
+  unfolding allBelow
+  all-more i h t = rw (add-one, allBelow, h, t)
+
+  -- a number below n that fails
+  pub all-fails : (n i : ℕ) → i < n → test i ≡ false → allBelow n test ≡ false
+  unfolding allBelow
+  all-fails zero i l t = absurd (omega arith)
+  all-fails (suc n) i l t = go (eq-or-lt-of-le l) (λ m. all-fails n i m t)
+    where
+      and-false : (a : Bool) → (a && false) ≡ false
+      and-false true = refl
+      and-false false = refl
+
+      go : (suc i ≡ suc n) ⊎ (suc i < suc n) → (i < n → allBelow n test ≡ false) → (allBelow n test && test n) ≡ false
+      go (inl e) h = let k : i ≡ n = omega arith in rw (← k, t) (and-false (allBelow i test))
+      go (inr m) h = rw (h (omega arith))
+
+  -- what all of them passing says of one
+  pub all-at : (n i : ℕ) → allBelow n test ≡ true → i < n → test i ≡ true
+  all-at n i h l = go (test i) refl
+    where
+      go : (t : Bool) → test i ≡ t → test i ≡ true
+      go true e = e
+      go false e = let z : _≡_ {A = Bool} true false = sym h ∙ all-fails n i l e in let k : _≡_ {A = ℕ} 0 1 = cc in absurd (omega arith)
+
+-- ---- the lockouts of a link, n of them from index j on
+
+pub lockouts-length : (tbl : List ℕ) (n j : ℕ) → length (lockouts tbl n j) ≡ n
+unfolding lockouts
+lockouts-length tbl zero j = refl
+lockouts-length tbl (suc n) j = ap suc (lockouts-length tbl n (j + 1))
+
+pub lockouts-at : (tbl : List ℕ) (n j i : ℕ) → i < n → getD (lockouts tbl n j) i noLink ≡ record { 0 = lockoutAt tbl (j + i) }
+unfolding lockouts
+lockouts-at tbl zero j i h = absurd (omega arith)
+lockouts-at tbl (suc n) j zero h = let e : j + 0 ≡ j = omega arith in rw e
+lockouts-at tbl (suc n) j (suc i) h = let e : j + suc i ≡ j + 1 + i = omega arith in rw e (lockouts-at tbl n (j + 1) i (omega arith))
+
+-- the i-th of n is the head of what is left
+pub lockouts-turn : (tbl : List ℕ) (n j i : ℕ) → i < n → lockouts tbl (n - i) (j + i) ≡ record { 0 = lockoutAt tbl (j + i) } ∷ lockouts tbl (n - (i + 1)) (j + (i + 1))
+unfolding lockouts
+lockouts-turn tbl n j i h =
+    let e : n - i ≡ suc (n - (i + 1)) = omega arith in
+    let k : j + i + 1 ≡ j + (i + 1) = omega arith in
+    rw (e, lockouts, k)
+
+pub lockouts-end : (tbl : List ℕ) (n j i : ℕ) → n ≤ i → lockouts tbl (n - i) (j + i) ≡ []
+unfolding lockouts
+lockouts-end tbl n j i h = let e : n - i ≡ 0 = omega arith in rw e

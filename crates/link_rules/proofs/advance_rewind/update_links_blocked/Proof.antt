@@ -1,0 +1,37 @@
+use denote.Ref.{now}
+use mathlib.Core.Path.{_∙_, sym, ap}
+use Prim.Native.Nat.{ℕ}
+use Rattle.link_rules.specs.AdvanceRewind.{marked, markedBy, markOf, updateLinksBlocked}
+use Rattle.link_rules.specs.declared.advance_rewind.MarkAnswer.the-variants.{Done}
+use Rattle.link_rules.proofs.MarkLaws.{refused-by}
+use borrow.Author.Needs.{needs}
+use Rattle.link_rules.proofs.advance_rewind.update_links_blocked.Statement.{statement}
+use Rattle.link_rules.proofs.advance_rewind.update_links_blocked.Tie as tie
+
+mark-refusal-requires : tie.Need-mark-refusal-requires
+mark-refusal-requires c κs = search needs
+
+returns : tie.Need-returns
+unfolding markOf
+returns c =
+    let a = c .before .before .before .before .args in
+    let after = updateLinksBlocked (now (a .table)) (now (a .occupancy)) (a .link) (a .train) in
+    sym (refused-by (c .before .mark-refusal .result) (now (a .occupancy)) after (c .if1 .taken))
+    ∙ ap (λ (n : ℕ). markedBy n (now (a .occupancy)) after) (c .before .mark-refusal .ensures)
+
+mark-requires : tie.Need-mark-requires
+mark-requires c κs = search needs
+
+same-length : tie.Need-same-length
+same-length c = search needs
+
+returns-2 : tie.Need-returns-2
+unfolding markOf
+returns-2 c =
+    let a = c .before .before .before .before .before .before .before .before .args in
+    ap (marked Done) (c .before .before .mark .ensures)
+    ∙ ap (λ (n : ℕ). markedBy n (now (a .occupancy)) (updateLinksBlocked (now (a .table)) (now (a .occupancy)) (a .link) (a .train))) (sym (c .before .before .before .before .if1 .left) ∙ c .before .before .before .before .before .mark-refusal .ensures)
+
+pub update-links-blocked-spec : {M : Type 1} → statement M
+update-links-blocked-spec =
+    tie.close (tie.spec mark-refusal-requires returns mark-requires same-length returns-2)

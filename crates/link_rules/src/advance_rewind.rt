@@ -1,0 +1,146 @@
+// Marking and releasing a link: update_links_blocked and reset_link_train_idx (advance_rewind.rs 549-584).
+ghost use mathlib.Core.Path.{_≡_};
+ghost use lib.ListN.{length, getD, set};
+ghost use Rattle.link_rules.specs.LinkIdx.{occupied};
+ghost use Rattle.link_rules.specs.Network.{linkAt};
+ghost use Rattle.link_rules.specs.AdvanceRewind.{holdAll, refilled, resetLinkTrainIdx, resetAll, updateLinksBlocked, markRefusal, marked, markOf};
+use crate::link_idx::LinkIdx;
+use crate::link_idx::TrainIdx;
+use crate::network;
+
+// Document 01's number of a refusal, and its place.
+pub struct Refusal {
+    pub number: u16,
+    pub place: u16,
+}
+
+pub enum MarkAnswer {
+    Done,
+    Refused(Refusal),
+}
+
+// Marks a link for a train; train 0 releases it. Refused by 1 (table), 2 (length of the occupancy), 3 (link): then nothing is changed.
+pub fn update_links_blocked(
+    table: &[u8],
+    occupancy: &mut [u16],
+    link: LinkIdx,
+    train: TrainIdx,
+) -> MarkAnswer
+    ensures { λ r. ⌜ marked r (now (occupancy .exit)) ≡ markOf (now (table .entry)) (now (occupancy .entry)) link train ⌝ }
+{
+    let number = mark_refusal(table, occupancy.len(), link);
+    if number != 0 {
+        return MarkAnswer::Refused(Refusal {
+            number: number,
+            place: 0,
+        });
+    }
+    mark(table, occupancy, link, train);
+    MarkAnswer::Done
+}
+
+fn mark_refusal(table: &[u8], n: usize, link: LinkIdx) -> u16
+    ensures { λ r. ⌜ r ≡ markRefusal (now (table .entry)) n link ⌝ }
+{
+    if !network::table_fits(table) {
+        return 1;
+    }
+    if n != network::link_count(table) as usize {
+        return 2;
+    }
+    let l = link.0;
+    if l == 0 {
+        return 3;
+    }
+    if network::link_count(table) <= l {
+        return 3;
+    }
+    0
+}
+
+fn mark(table: &[u8], occupancy: &mut [u16], link: LinkIdx, train: TrainIdx)
+    ensures { λ _. ⌜ now (occupancy .exit) ≡ updateLinksBlocked (now (table .entry)) (now (occupancy .entry)) link train ⌝ }
+{
+    let flip = network::idx_flip(table, link);
+    hold(occupancy, flip.0, train.0);
+    hold_lockouts(table, occupancy, link, train);
+    if train.0 == 0 {
+        reset_link_train_idx(table, occupancy, flip);
+        reset_lockouts(table, occupancy, link);
+    }
+}
+
+// Stores a train; a link past the end stays out.
+fn hold(occupancy: &mut [u16], l: u32, t: u16)
+    ensures { λ _. ⌜ now (occupancy .exit) ≡ set (now (occupancy .entry)) l t ⌝ }
+{
+    let at = l as usize;
+    if at < occupancy.len() {
+        occupancy[at] = t;
+    }
+}
+
+fn train_at(occupancy: &[u16], l: u32) -> u16
+    ensures { λ r. ⌜ r ≡ getD (now (occupancy .entry)) l 0 ⌝ }
+{
+    let at = l as usize;
+    if at < occupancy.len() {
+        return occupancy[at];
+    }
+    0
+}
+
+fn hold_lockouts(table: &[u8], occupancy: &mut [u16], link: LinkIdx, train: TrainIdx)
+    ensures { λ _. ⌜ now (occupancy .exit) ≡ holdAll (now (occupancy .entry)) (linkAt (now (table .entry)) link .«link_idxs_lockout») train ⌝ }
+{
+    let start = network::start_at(table, link.0) as u64;
+    let n = network::count_at(table, link.0) as u64;
+    let t = train.0;
+    let mut j: u64 = 0;
+    while j < n {
+        hold(occupancy, network::lockout_at(table, start + j), t);
+        j += 1;
+    }
+}
+
+fn reset_lockouts(table: &[u8], occupancy: &mut [u16], link: LinkIdx)
+    ensures { λ _. ⌜ now (occupancy .exit) ≡ resetAll (now (table .entry)) (now (occupancy .entry)) (linkAt (now (table .entry)) link .«link_idxs_lockout») ⌝ }
+{
+    let start = network::start_at(table, link.0) as u64;
+    let n = network::count_at(table, link.0) as u64;
+    let mut j: u64 = 0;
+    while j < n {
+        reset_link_train_idx(
+            table,
+            occupancy,
+            LinkIdx(network::lockout_at(table, start + j)),
+        );
+        j += 1;
+    }
+}
+
+fn reset_link_train_idx(table: &[u8], occupancy: &mut [u16], link: LinkIdx)
+    ensures { λ _. ⌜ now (occupancy .exit) ≡ resetLinkTrainIdx (now (table .entry)) (now (occupancy .entry)) link ⌝ }
+{
+    if network::lockout_len(table, link) <= 1 {
+        return;
+    }
+    refill(table, occupancy, link);
+}
+
+// The first lockout that is held passes its train on.
+fn refill(table: &[u8], occupancy: &mut [u16], link: LinkIdx)
+    ensures { λ _. ⌜ now (occupancy .exit) ≡ refilled (now (occupancy .entry)) link (linkAt (now (table .entry)) link .«link_idxs_lockout») ⌝ }
+{
+    let start = network::start_at(table, link.0) as u64;
+    let n = network::count_at(table, link.0) as u64;
+    let mut j: u64 = 0;
+    while j < n {
+        let t = train_at(occupancy, network::lockout_at(table, start + j));
+        if t != 0 {
+            hold(occupancy, link.0, t);
+            return;
+        }
+        j += 1;
+    }
+}
