@@ -4,8 +4,9 @@ use mathlib.Core.Path.{_≡_, refl, ap, ap₂}
 use mathlib.Core.Logic.{⊎-elim, _↔_}
 use mathlib.Core.Bool.{Bool, true, false, _||_}
 use mathlib.Core.List.{List}
-use Prim.Native.Nat.{ℕ, zero, suc, _+_, _-_, _<_, _≤_}
+use Prim.Native.Nat.{ℕ, zero, suc, _+_, _-_, _<_, _≤_, min}
 use native.Mathlib.Omega.{arith}
+use native.Mathlib.Nat.{min-eq-left}
 use native.Mathlib.Numerals.{add-one}
 use lib.ListN.{getD, length, set, take}
 use lib.Seq.{getD-set-same, getD-set-other, getD-take}
@@ -56,7 +57,7 @@ module _ (next alt : List ℕ) (e : ℕ) where
     pub rank-below : (a : ℕ) → a < e → rankOf a < e
     rank-below a l = omega (arith, count-lt e (λ x. reach next alt e e x a) (λ _. true) (λ x k t. refl) a l (off a l) refl, count-bound e (λ _. true))
 
-    -- d records in a row, each of which steps to the one behind it
+    -- d records, each of which steps to the next one
     module _ (s : List ℕ) (d : ℕ) (first : getD s 0 0 < e) (steps : Steps next alt e s d) where
       pub steps-below : (i : ℕ) → i < d → getD s i 0 < e
       steps-below zero l = first
@@ -130,6 +131,10 @@ module _ (next alt next′ alt′ : List ℕ) (e : ℕ)
   pub cycle-same : firstOnCycle next alt e ≡ firstOnCycle next′ alt′ e
   cycle-same = first-same (onCycle next alt e) (onCycle next′ alt′ e) e 0 (λ j m. reach-same e j j (omega arith))
 
--- so do lists of e entries, and arrays that hold them and any padding
+-- so do a list of e entries and an array that holds them before any padding
 pub cycle-take : (next alt : List ℕ) (e : ℕ) → firstOnCycle (take e next) (take e alt) e ≡ firstOnCycle next alt e
 cycle-take next alt e = cycle-same (take e next) (take e alt) next alt e (λ i l. rw getD-take) (λ i l. rw getD-take)
+
+-- what cycle_at answers of e records that the arrays have room for
+pub cycle-room : (next alt : List ℕ) (e : ℕ) → e ≤ 512 → firstOnCycle next alt (min e 512) ≡ firstOnCycle next alt e
+cycle-room next alt e l = rw (min-eq-left l)

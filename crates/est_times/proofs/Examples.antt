@@ -19,7 +19,7 @@ pub itself : firstOnCycle (0 ∷ 0 ∷ []) (0 ∷ 1 ∷ []) 2 ≡ At 1
 unfolding follow via reach firstAt
 itself = refl
 
--- a link to 0 is none
+-- an index of 0 is none
 pub to-zero : firstOnCycle (1 ∷ 0 ∷ []) (0 ∷ 0 ∷ []) 2 ≡ None
 unfolding follow via reach firstAt
 to-zero = refl

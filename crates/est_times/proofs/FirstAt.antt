@@ -6,6 +6,7 @@ use Prim.Native.Nat.{ℕ, zero, suc, _+_, _-_, _<_, _≤_}
 use native.Mathlib.Omega.{arith}
 use native.Mathlib.Nat.{eq-or-lt-of-le}
 use Rattle.est_times.specs.Cycles.{firstAt}
+use Rattle.est_times.specs.declared.Cycle.{Cycle}
 use Rattle.est_times.specs.declared.Cycle.the-variants.{None, At}
 use Rattle.est_times.proofs.Counting.{two}
 
@@ -56,14 +57,14 @@ first-same f g (suc k) i h = ⊎-elim
     (λ t. first-miss f k i t ∙ first-same f g k (i + 1) (λ j m. h j (omega arith)) ∙ sym (first-miss g k i (sym (h i (omega arith)) ∙ t)))
     (two (f i))
 
--- one turn of a scan, at a place i of n
-module _ (f : ℕ → Bool) (n i : ℕ) where
-  pub scan-hit : i < n → f i ≡ true → firstAt f (n - i) i ≡ At i
-  scan-hit l h = let e : n - i ≡ suc (n - (i + 1)) = omega arith in rw e (first-hit f (n - (i + 1)) i h)
+-- one turn of a scan of n numbers that has come to i, where the test of i gives t: what is still to come gives the whole answer r
+module _ (f : ℕ → Bool) (n i : ℕ) {r : Cycle} (rest : firstAt f (n - i) i ≡ r) where
+  pub scan-hit : {t : Bool} → i < n → t ≡ f i → t ≡ true → At i ≡ r
+  scan-hit l q h = let e : n - i ≡ suc (n - (i + 1)) = omega arith in sym (first-hit f (n - (i + 1)) i (sym q ∙ h)) ∙ (rw e at rest)
 
-  pub scan-miss : i < n → f i ≡ false → firstAt f (n - i) i ≡ firstAt f (n - (i + 1)) (i + 1)
-  scan-miss l h = let e : n - i ≡ suc (n - (i + 1)) = omega arith in rw e (first-miss f (n - (i + 1)) i h)
+  pub scan-miss : {t : Bool} → i < n → t ≡ f i → t ≡ false → firstAt f (n - (i + 1)) (i + 1) ≡ r
+  scan-miss l q h = let e : n - i ≡ suc (n - (i + 1)) = omega arith in sym (first-miss f (n - (i + 1)) i (sym q ∙ h)) ∙ (rw e at rest)
 
-  pub scan-end : n ≤ i → firstAt f (n - i) i ≡ None
+  pub scan-end : n ≤ i → None ≡ r
   unfolding firstAt
-  scan-end l = let e : n - i ≡ 0 = omega arith in rw e
+  scan-end l = let e : n - i ≡ 0 = omega arith in rw e at rest

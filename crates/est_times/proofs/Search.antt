@@ -1,4 +1,5 @@
--- The search by which the code tells whether a record comes back to itself: a queue of the records come to, and a flag for each. Assumes nothing.
+-- The search by which comes_back tells whether the record a comes back to itself: a queue of the records that a comes to,
+-- and a flag for each. Assumes nothing.
 use mathlib.Core.Path.{_≡_, refl, sym, ap, _∙_}
 use mathlib.Core.Logic.{_⊎_, inl, inr, ⊎-elim}
 use mathlib.Core.Bool.{Bool, true, false, not, _&&_, _||_}
@@ -39,7 +40,7 @@ set-seen seen s q l h z = ⊎-elim
     (λ n. h (sym (getD-set-other seen s q 1 0 n) ∙ z))
     (same-or-not q s)
 
--- a is a record, and one of the links s and t leads to it
+-- a is not 0, and s or t is a
 abbrev pub meets : ℕ → ℕ → ℕ → Bool
 meets a s t = not (eqb a 0) && (eqb s a || eqb t a)
 

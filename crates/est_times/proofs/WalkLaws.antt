@@ -125,6 +125,11 @@ module _ (next alt : List ℕ) (e : ℕ) where
   walk-from (last g) = g .from
   walk-from (then g w) = g .from
 
+  -- no walk leads to 0, so est 0 is on no cycle
+  pub walk-some : {a b : ℕ} → Walk next alt e a b → b ≡ 0 → ⊥
+  walk-some (last g) = g .some
+  walk-some (then g w) = walk-some w
+
   pub walk-more : {a t b : ℕ} → Walk next alt e a t → Step next alt e t b → Walk next alt e a b
   walk-more (last g) h = then g (last h)
   walk-more (then g w) h = then g (walk-more w h)

@@ -13,9 +13,9 @@ use Rattle.est_times.specs.declared.Cycle.the-variants.{None, At}
 unfoldable pub follow : ℕ → List ℕ → ℕ → ℕ
 follow e idxs a = cond (ltb (getD idxs a 0) e) (getD idxs a 0) 0
 
--- t is a record, and it is b or passes the test on
+-- t is some record, 0 being none, and it is b or passes the test
 unfoldable pub via : (ℕ → Bool) → ℕ → ℕ → Bool
-via on b t = not (eqb t 0) && (eqb t b || on t)
+via test b t = not (eqb t 0) && (eqb t b || test t)
 
 -- from a one comes to b in at least one step and at most k
 unfoldable pub reach : List ℕ → List ℕ → ℕ → ℕ → ℕ → ℕ → Bool

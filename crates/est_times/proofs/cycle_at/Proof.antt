@@ -1,7 +1,4 @@
-use mathlib.Core.Path.{sym, ap, _∙_}
-use Prim.Native.Nat.{ℕ}
-use denote.Ref.{now}
-use Rattle.est_times.specs.Cycles.{firstOnCycle}
+use mathlib.Core.Path.{sym}
 use borrow.Author.Needs.{needs}
 use Rattle.est_times.proofs.cycle_at.Statement.{statement}
 use Rattle.est_times.proofs.cycle_at.Tie as tie
@@ -16,17 +13,13 @@ rank-rises-requires : tie.Need-rank-rises-requires
 rank-rises-requires c κs = search needs
 
 returns : tie.Need-returns
-returns c =
-    let s = c .before .before .before .before .before .before in
-    sym (c .before .rank-rises .ensures (c .if1 .taken)) ∙ ap (λ (n : ℕ). firstOnCycle (now (s .args .next)) (now (s .args .alt)) n) (c .before .before .before .before .before .at-most-512 .ensures .0)
+returns c = rw (← c .before .before .before .before .before .at-most-512 .ensures .0) (sym (c .before .rank-rises .ensures (c .if1 .taken)))
 
 lowest-requires : tie.Need-lowest-requires
 lowest-requires c κs = search needs
 
 returns-2 : tie.Need-returns-2
-returns-2 c =
-    let s = c .before .before .before .before .before .before .before in
-    c .lowest .ensures ∙ ap (λ (n : ℕ). firstOnCycle (now (s .args .next)) (now (s .args .alt)) n) (c .before .before .before .before .before .before .at-most-512 .ensures .0)
+returns-2 c = rw (← c .before .before .before .before .before .before .at-most-512 .ensures .0) (c .lowest .ensures)
 
 pub cycle-at-spec : {M : Type 1} → statement M
 cycle-at-spec =

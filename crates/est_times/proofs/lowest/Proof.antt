@@ -2,7 +2,7 @@ use Rattle.est_times.specs.Cycles.{firstAt, onCycle, firstOnCycle}
 use Rattle.est_times.proofs.FirstAt.{scan-hit, scan-miss, scan-end}
 use native.Mathlib.Nat.{sub-zero}
 use Prim.Native.Nat.{_-_, _≤_}
-use mathlib.Core.Path.{_≡_, sym, _∙_}
+use mathlib.Core.Path.{_≡_}
 use native.Mathlib.Omega.{arith}
 use borrow.Author.Needs.{needs}
 use denote.Ref.{now}
@@ -25,7 +25,7 @@ returns : tie.Need-returns Inv-loop μ-loop
 returns c =
     let b = c .before .before .before in
     let s = b .before in
-    sym (scan-hit (onCycle (now (s .args .next)) (now (s .args .alt)) (s .args .e)) (s .args .e) (b .loop .a) (omega arith) (sym (c .before .comes-back .ensures) ∙ c .if1 .taken)) ∙ b .loop .inv .1
+    scan-hit (onCycle (now (s .args .next)) (now (s .args .alt)) (s .args .e)) (s .args .e) (b .loop .a) (b .loop .inv .1) (omega arith) (c .before .comes-back .ensures) (c .if1 .taken)
 
 add-a : tie.Need-add-a Inv-loop μ-loop
 add-a c = search needs
@@ -37,13 +37,13 @@ loop-again : tie.Need-loop-again Inv-loop μ-loop
 loop-again c =
     let b = c .before .before .before in
     let s = b .before in
-    (search needs, sym (scan-miss (onCycle (now (s .args .next)) (now (s .args .alt)) (s .args .e)) (s .args .e) (b .loop .a) (omega arith) (sym (c .before .comes-back .ensures) ∙ c .if1 .left)) ∙ b .loop .inv .1)
+    (search needs, scan-miss (onCycle (now (s .args .next)) (now (s .args .alt)) (s .args .e)) (s .args .e) (b .loop .a) (b .loop .inv .1) (omega arith) (c .before .comes-back .ensures) (c .if1 .left))
 
 returns-2 : tie.Need-returns-2 Inv-loop μ-loop
 returns-2 c =
     let b = c .before in
     let s = b .before in
-    sym (scan-end (onCycle (now (s .args .next)) (now (s .args .alt)) (s .args .e)) (s .args .e) (b .loop .a) (omega arith)) ∙ b .loop .inv .1
+    scan-end (onCycle (now (s .args .next)) (now (s .args .alt)) (s .args .e)) (s .args .e) (b .loop .a) (b .loop .inv .1) (omega arith)
 
 pub lowest-spec : {M : Type 1} → statement M
 lowest-spec =
