@@ -1,0 +1,14 @@
+-- Answers as numbers of 32 bits, for C. Assumes nothing.
+use Prim.Native.Nat.{ℕ, _+_, _*_}
+use Rattle.link_rules.specs.declared.advance_rewind.Refusal.{Refusal}
+use Rattle.link_rules.specs.declared.advance_rewind.MarkAnswer.{MarkAnswer}
+use Rattle.link_rules.specs.declared.advance_rewind.MarkAnswer.the-variants.{Done, Refused}
+
+-- document 01's number, with the place in the upper 16 bits
+abbrev pub refusalWord : Refusal → ℕ
+refusalWord r = r .number + 65536 * r .place
+
+-- 0 where the call is done
+abbrev pub markWord : MarkAnswer → ℕ
+markWord Done = 0
+markWord (Refused r) = refusalWord r
