@@ -1,0 +1,276 @@
+// The header's numbers and the records of an image, read from its bytes and written to them.
+// What lies past the end reads as 0 and is not written, so that each function is total.
+use disp_structs::DispNode;
+use disp_structs::DivergeNode;
+use disp_structs::EstIdx;
+use disp_structs::EstTime;
+use disp_structs::EstType;
+use disp_structs::LinkEvent;
+use disp_structs::Metres;
+use disp_structs::Seconds;
+use disp_structs::floats;
+use link_rules::link_idx::LinkIdx;
+use link_rules::link_idx::TrainIdx;
+use link_rules::octets;
+ghost use mathlib.Core.Path.{_≡_};
+ghost use Prim.Native.Nat.{_+_, _*_, _-_, _^_, _<_};
+ghost use Rattle.link_rules.specs.Octets.{leAt, putLe};
+ghost use Rattle.disp_structs.specs.Floats.{realOf};
+ghost use Rattle.image.specs.Image.{sizeOf, estCount, pathCount, divergeCount, divergeRoom, trainIdx, pathHeader, distDispPathSearch, distFixedMax, estPlace, nodePlace, divergePlace, typeOf, typeNumber, estAt, nodeAt, divergeAt, putEst, putNode, putDiverge, zeroWords, clearNodes, clearDiverges, putPathHeader};
+
+// The header's numbers that an update changes.
+pub struct PathHeader {
+    pub path_count: u32,
+    pub diverge_count: u32,
+    pub fixed: u16,
+    pub free: u16,
+    pub front: u16,
+    pub back: u16,
+}
+
+// ---- header
+
+pub fn size(img: &[u8]) -> u32
+    ensures { λ r. ⌜ r ≡ sizeOf (now (img .entry)) ⌝ }
+{
+    octets::u32_at(img, 0)
+}
+
+pub fn est_count(img: &[u8]) -> u32
+    ensures { λ r. ⌜ r ≡ estCount (now (img .entry)) ⌝ }
+{
+    octets::u32_at(img, 4)
+}
+
+pub fn path_count(img: &[u8]) -> u32
+    ensures { λ r. ⌜ r ≡ pathCount (now (img .entry)) ⌝ }
+{
+    octets::u32_at(img, 8)
+}
+
+pub fn diverge_count(img: &[u8]) -> u32
+    ensures { λ r. ⌜ r ≡ divergeCount (now (img .entry)) ⌝ }
+{
+    octets::u32_at(img, 12)
+}
+
+pub fn diverge_room(img: &[u8]) -> u32
+    ensures { λ r. ⌜ r ≡ divergeRoom (now (img .entry)) ⌝ }
+{
+    octets::u32_at(img, 16)
+}
+
+pub fn train_idx(img: &[u8]) -> TrainIdx
+    ensures { λ r. ⌜ r ≡ trainIdx (now (img .entry)) ⌝ }
+{
+    TrainIdx(octets::u16_at(img, 32))
+}
+
+pub fn path_header(img: &[u8]) -> PathHeader
+    ensures { λ r. ⌜ r ≡ pathHeader (now (img .entry)) ⌝ }
+{
+    PathHeader {
+        path_count: octets::u32_at(img, 8),
+        diverge_count: octets::u32_at(img, 12),
+        fixed: octets::u16_at(img, 34),
+        free: octets::u16_at(img, 36),
+        front: octets::u16_at(img, 38),
+        back: octets::u16_at(img, 40),
+    }
+}
+
+pub fn dist_disp_path_search(img: &[u8]) -> Metres
+    ensures { λ r. ⌜ r ≡ distDispPathSearch (now (img .entry)) ⌝ }
+{
+    Metres(floats::real_of(octets::u64_at(img, 48)))
+}
+
+pub fn dist_fixed_max(img: &[u8]) -> Metres
+    ensures { λ r. ⌜ r ≡ distFixedMax (now (img .entry)) ⌝ }
+{
+    Metres(floats::real_of(octets::u64_at(img, 56)))
+}
+
+pub fn put_path_header(img: &mut [u8], h: PathHeader)
+    ensures { λ _. ⌜ now (img .exit) ≡ putPathHeader h (now (img .entry)) ⌝ }
+{
+    octets::put_u32(img, 8, h.path_count);
+    octets::put_u32(img, 12, h.diverge_count);
+    octets::put_u16(img, 34, h.fixed);
+    octets::put_u16(img, 36, h.free);
+    octets::put_u16(img, 38, h.front);
+    octets::put_u16(img, 40, h.back);
+}
+
+// ---- where the records begin
+
+fn est_place(i: u32) -> usize
+    ensures { λ r. ⌜ r ≡ estPlace i ⌝ }
+{
+    64 + 32 * (i as usize)
+}
+
+fn node_place(e: u32, i: u32) -> usize
+    ensures { λ r. ⌜ r ≡ nodePlace e i ⌝ }
+{
+    64 + 32 * (e as usize) + 32 * (i as usize)
+}
+
+fn diverge_place(e: u32, i: u32) -> usize
+    ensures { λ r. ⌜ r ≡ divergePlace e i ⌝ }
+{
+    64 + 64 * (e as usize) + 4 * (i as usize)
+}
+
+// ---- records
+
+fn octet_at(s: &[u8], at: usize) -> u8
+    ensures { λ r. ⌜ r ≡ leAt 1 (now (s .entry)) at ⌝ }
+{
+    if s.len() <= at {
+        return 0;
+    }
+    s[at]
+}
+
+fn type_of(n: u8) -> EstType
+    ensures { λ r. ⌜ r ≡ typeOf n ⌝ }
+{
+    match n {
+        0 => EstType::Arrive,
+        1 => EstType::Clear,
+        _ => EstType::Fake,
+    }
+}
+
+fn type_number(t: EstType) -> u16
+    ensures { λ r. ⌜ r ≡ typeNumber t ⌝ }
+{
+    match t {
+        EstType::Arrive => 0,
+        EstType::Clear => 1,
+        EstType::Fake => 2,
+    }
+}
+
+pub fn est_at(img: &[u8], i: u32) -> EstTime
+    ensures { λ r. ⌜ r ≡ estAt (now (img .entry)) i ⌝ }
+{
+    let at = est_place(i);
+    EstTime {
+        dist_to_next: Metres(floats::real_of(octets::u64_at(img, at))),
+        idx_next: EstIdx(octets::u32_at(img, at + 8)),
+        idx_next_alt: EstIdx(octets::u32_at(img, at + 12)),
+        idx_prev: EstIdx(octets::u32_at(img, at + 16)),
+        idx_prev_alt: EstIdx(octets::u32_at(img, at + 20)),
+        link_event: LinkEvent {
+            link_idx: LinkIdx(octets::u32_at(img, at + 24)),
+            est_type: type_of(octet_at(img, at + 28)),
+        },
+    }
+}
+
+pub fn node_at(img: &[u8], i: u32) -> DispNode
+    ensures { λ r. ⌜ r ≡ nodeAt (now (img .entry)) i ⌝ }
+{
+    let at = node_place(est_count(img), i);
+    DispNode {
+        offset: Metres(floats::real_of(octets::u64_at(img, at))),
+        time_pass: Seconds(floats::real_of(octets::u64_at(img, at + 8))),
+        link_event: LinkEvent {
+            link_idx: LinkIdx(octets::u32_at(img, at + 16)),
+            est_type: type_of(octet_at(img, at + 26)),
+        },
+        est_idx: EstIdx(octets::u32_at(img, at + 20)),
+        disp_auth_idx_entry: octets::u16_at(img, at + 24),
+    }
+}
+
+pub fn diverge_at(img: &[u8], i: u32) -> DivergeNode
+    ensures { λ r. ⌜ r ≡ divergeAt (now (img .entry)) i ⌝ }
+{
+    let at = diverge_place(est_count(img), i);
+    DivergeNode {
+        train_idx: TrainIdx(octets::u16_at(img, at)),
+        disp_node_idx: octets::u16_at(img, at + 2),
+    }
+}
+
+// ---- records written, every byte of them
+
+pub fn put_est(img: &mut [u8], i: u32, x: EstTime)
+    ensures { λ _. ⌜ now (img .exit) ≡ putEst x (estPlace i) (now (img .entry)) ⌝ }
+{
+    let at = est_place(i);
+    octets::put_u64(img, at, floats::bits_of(x.dist_to_next.0));
+    octets::put_u32(img, at + 8, x.idx_next.0);
+    octets::put_u32(img, at + 12, x.idx_next_alt.0);
+    octets::put_u32(img, at + 16, x.idx_prev.0);
+    octets::put_u32(img, at + 20, x.idx_prev_alt.0);
+    octets::put_u32(img, at + 24, x.link_event.link_idx.0);
+    let e = x.link_event;
+    let t = e.est_type;
+    octets::put_u32(img, at + 28, type_number(t) as u32);
+}
+
+pub fn put_node(img: &mut [u8], i: u32, x: DispNode)
+    ensures { λ _. ⌜ now (img .exit) ≡ putNode x (nodePlace (estCount (now (img .entry))) i) (now (img .entry)) ⌝ }
+{
+    let at = node_place(est_count(img), i);
+    octets::put_u64(img, at, floats::bits_of(x.offset.0));
+    octets::put_u64(img, at + 8, floats::bits_of(x.time_pass.0));
+    octets::put_u32(img, at + 16, x.link_event.link_idx.0);
+    octets::put_u32(img, at + 20, x.est_idx.0);
+    octets::put_u16(img, at + 24, x.disp_auth_idx_entry);
+    let e = x.link_event;
+    let t = e.est_type;
+    octets::put_u16(img, at + 26, type_number(t));
+    octets::put_u32(img, at + 28, 0);
+}
+
+pub fn put_diverge(img: &mut [u8], i: u32, x: DivergeNode)
+    ensures { λ _. ⌜ now (img .exit) ≡ putDiverge x (divergePlace (estCount (now (img .entry))) i) (now (img .entry)) ⌝ }
+{
+    let at = diverge_place(est_count(img), i);
+    octets::put_u16(img, at, x.train_idx.0);
+    octets::put_u16(img, at + 2, x.disp_node_idx);
+}
+
+// The path records from n on become zero.
+pub fn clear_nodes(img: &mut [u8], n: u32)
+    ensures { λ _. ⌜ now (img .exit) ≡ clearNodes n (now (img .entry)) ⌝ }
+{
+    let e = est_count(img);
+    let at = node_place(e, n);
+    clear_words(img, at, 8 * count_from(n, e));
+}
+
+// The diverge records from m on become zero.
+pub fn clear_diverges(img: &mut [u8], m: u32)
+    ensures { λ _. ⌜ now (img .exit) ≡ clearDiverges m (now (img .entry)) ⌝ }
+{
+    let at = diverge_place(est_count(img), m);
+    let q = diverge_room(img);
+    clear_words(img, at, count_from(m, q));
+}
+
+// How many numbers there are from a up to b.
+fn count_from(a: u32, b: u32) -> usize
+    ensures { λ r. ⌜ r ≡ b - a ⌝ }
+{
+    if b <= a {
+        return 0;
+    }
+    (b - a) as usize
+}
+
+fn clear_words(img: &mut [u8], at: usize, k: usize)
+    requires { ⌜ at + 4 * k < 2 ^ 48 ⌝ }
+    ensures { λ _. ⌜ now (img .exit) ≡ zeroWords k at (now (img .entry)) ⌝ }
+{
+    let mut i = 0;
+    while i < k {
+        octets::put_u32(img, at + 4 * i, 0);
+        i += 1;
+    }
+}
