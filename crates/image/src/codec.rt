@@ -104,19 +104,19 @@ pub fn put_path_header(img: &mut [u8], h: PathHeader)
 
 // ---- where the records begin
 
-fn est_place(i: u32) -> usize
+pub fn est_place(i: u32) -> usize
     ensures { λ r. ⌜ r ≡ estPlace i ⌝ }
 {
     64 + 32 * (i as usize)
 }
 
-fn node_place(e: u32, i: u32) -> usize
+pub fn node_place(e: u32, i: u32) -> usize
     ensures { λ r. ⌜ r ≡ nodePlace e i ⌝ }
 {
     64 + 32 * (e as usize) + 32 * (i as usize)
 }
 
-fn diverge_place(e: u32, i: u32) -> usize
+pub fn diverge_place(e: u32, i: u32) -> usize
     ensures { λ r. ⌜ r ≡ divergePlace e i ⌝ }
 {
     64 + 64 * (e as usize) + 4 * (i as usize)
@@ -196,6 +196,36 @@ pub fn diverge_at(img: &[u8], i: u32) -> DivergeNode
     }
 }
 
+// ---- single fields of records
+
+pub fn est_next(img: &[u8], i: u32) -> EstIdx
+    ensures { λ r. ⌜ r ≡ estAt (now (img .entry)) i .«idx_next» ⌝ }
+{
+    EstIdx(octets::u32_at(img, est_place(i) + 8))
+}
+
+pub fn est_next_alt(img: &[u8], i: u32) -> EstIdx
+    ensures { λ r. ⌜ r ≡ estAt (now (img .entry)) i .«idx_next_alt» ⌝ }
+{
+    EstIdx(octets::u32_at(img, est_place(i) + 12))
+}
+
+pub fn node_link_event(img: &[u8], i: u32) -> LinkEvent
+    ensures { λ r. ⌜ r ≡ nodeAt (now (img .entry)) i .«link_event» ⌝ }
+{
+    let at = node_place(est_count(img), i);
+    LinkEvent {
+        link_idx: LinkIdx(octets::u32_at(img, at + 16)),
+        est_type: type_of(octet_at(img, at + 26)),
+    }
+}
+
+pub fn node_est_idx(img: &[u8], i: u32) -> EstIdx
+    ensures { λ r. ⌜ r ≡ nodeAt (now (img .entry)) i .«est_idx» ⌝ }
+{
+    EstIdx(octets::u32_at(img, node_place(est_count(img), i) + 20))
+}
+
 // ---- records written, every byte of them
 
 pub fn put_est(img: &mut [u8], i: u32, x: EstTime)
@@ -255,7 +285,7 @@ pub fn clear_diverges(img: &mut [u8], m: u32)
 }
 
 // How many numbers there are from a up to b.
-fn count_from(a: u32, b: u32) -> usize
+pub fn count_from(a: u32, b: u32) -> usize
     ensures { λ r. ⌜ r ≡ b - a ⌝ }
 {
     if b <= a {

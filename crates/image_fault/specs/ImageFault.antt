@@ -1,0 +1,187 @@
+-- Refusals 6, 7 and 9 of an image with their places (document 01, Update). L is the number of links. Assumes nothing.
+use Prim.Native.Nat.{ℕ, zero, suc, _+_, _*_, _-_, _%_, _≤_}
+use mathlib.Core.Bool.{Bool, true, false, cond, not, _&&_, _||_}
+use mathlib.Core.List.{List}
+use lib.Dec.{ltb, leb, eqb}
+use lib.Ieee.{lt}
+use lib.ListN.{length}
+use Rattle.link_rules.specs.Octets.{leAt}
+use Rattle.link_rules.specs.LinkIdx.{noLink, sameLink}
+use Rattle.link_rules.specs.Network.{allBelow}
+use Rattle.link_rules.specs.declared.link_idx.LinkIdx.{LinkIdx}
+use Rattle.disp_structs.specs.Floats.{realOf, inReach, nought}
+use Rattle.disp_structs.specs.Values.{noEst, sameEst, isArrive}
+use Rattle.disp_structs.specs.declared.EstIdx.{EstIdx}
+use Rattle.disp_structs.specs.declared.LinkEvent.{LinkEvent}
+use Rattle.disp_structs.specs.declared.EstTime.{EstTime}
+use Rattle.disp_structs.specs.declared.DivergeNode.{DivergeNode}
+use Rattle.image.specs.Image.{sizeOf, estCount, pathCount, divergeCount, divergeRoom, trainIdx, pathHeader, estPlace, nodePlace, divergePlace, imageSize, estAt, nodeAt, divergeAt}
+use Rattle.image.specs.declared.codec.PathHeader.{PathHeader}
+use Rattle.image_fault.specs.declared.Fault.{Fault}
+
+-- ---- answers
+
+abbrev pub noFault : Fault
+noFault = record { number = 0; place = 0 }
+
+abbrev pub refused : ℕ → ℕ → Fault
+refused n i = record { number = n; place = i }
+
+-- a, or b where a is no fault
+abbrev pub orElse : Fault → Fault → Fault
+orElse a b = cond (eqb (a .number) 0) b a
+
+-- refusal n at the first of the k indices from i on that does not fit
+unfoldable pub firstUnfit : ℕ → (ℕ → Bool) → ℕ → ℕ → Fault
+firstUnfit n fits zero i = noFault
+firstUnfit n fits (suc k) i = elim (fits i) [ true ↦ firstUnfit n fits k (i + 1) | false ↦ refused n i ]
+
+-- ---- 6: header, size, types, spare bytes, unused records
+
+-- E from 1 to 512, N from 1 to E, M from 2 to Q, Q to 1,024
+unfoldable pub countsFit : List ℕ → Bool
+countsFit bs =
+    leb 1 (estCount bs) && (leb (estCount bs) 512 && (leb 1 (pathCount bs) && (leb (pathCount bs) (estCount bs)
+    && (leb 2 (divergeCount bs) && (leb (divergeCount bs) (divergeRoom bs) && leb (divergeRoom bs) 1024)))))
+
+-- the same as a fact
+pub record CountsFit (bs : List ℕ) : Type 0 where
+  pub some-est : 1 ≤ estCount bs
+  pub few-est : estCount bs ≤ 512
+  pub some-path : 1 ≤ pathCount bs
+  pub few-path : pathCount bs ≤ estCount bs
+  pub some-diverge : 2 ≤ divergeCount bs
+  pub few-diverge : divergeCount bs ≤ divergeRoom bs
+  pub few-room : divergeRoom bs ≤ 1024
+
+-- the parts follow without gaps, and the size is that of the whole buffer
+unfoldable pub partsFit : List ℕ → Bool
+partsFit bs =
+    eqb (leAt 4 bs 20) (estPlace 0) && (eqb (leAt 4 bs 24) (nodePlace (estCount bs) 0) && (eqb (leAt 4 bs 28) (divergePlace (estCount bs) 0)
+    && (eqb (sizeOf bs) (imageSize (estCount bs) (divergeRoom bs)) && eqb (sizeOf bs) (length bs))))
+
+-- the train is not 0, and the six spare bytes are
+unfoldable pub trainFits : List ℕ → Bool
+trainFits bs = not (eqb (trainIdx bs .0) 0) && (eqb (leAt 2 bs 42) 0 && eqb (leAt 4 bs 44) 0)
+
+-- a type is at most 2, and the spare bytes behind it are 0
+unfoldable pub estTypeFits : List ℕ → ℕ → Bool
+estTypeFits bs i = leb (leAt 4 bs (estPlace i + 28)) 2
+
+unfoldable pub nodeTypeFits : List ℕ → ℕ → Bool
+nodeTypeFits bs i = leb (leAt 2 bs (nodePlace (estCount bs) i + 26)) 2 && eqb (leAt 4 bs (nodePlace (estCount bs) i + 28)) 0
+
+-- the four bytes of number j from at are 0
+unfoldable pub zeroWord : List ℕ → ℕ → ℕ → Bool
+zeroWord bs at j = eqb (leAt 4 bs (at + 4 * j)) 0
+
+-- the path records from N on and the diverge records from M on are zero
+unfoldable pub unusedZero : List ℕ → Bool
+unusedZero bs =
+    allBelow (8 * (estCount bs - pathCount bs)) (zeroWord bs (nodePlace (estCount bs) (pathCount bs)))
+    && allBelow (divergeRoom bs - divergeCount bs) (zeroWord bs (divergePlace (estCount bs) (divergeCount bs)))
+
+unfoldable pub recordsFit : List ℕ → Bool
+recordsFit bs = allBelow (estCount bs) (estTypeFits bs) && (allBelow (pathCount bs) (nodeTypeFits bs) && unusedZero bs)
+
+unfoldable pub imageFits : List ℕ → Bool
+imageFits bs = countsFit bs && (partsFit bs && (trainFits bs && recordsFit bs))
+
+-- ---- 7: floats, links, est indices, and the header's indices
+
+-- the pattern of a finite float, at most 1e12 in magnitude
+unfoldable pub floatFits : ℕ → Bool
+floatFits b = leb (b % 0x8000_0000_0000_0000) 0x7ff0_0000_0000_0000 && inReach (realOf b)
+
+-- time_pass may be +infinity
+unfoldable pub timeFits : ℕ → Bool
+timeFits b = eqb b 0x7ff0_0000_0000_0000 || floatFits b
+
+-- a distance setting is not negative; -0.0 is not
+unfoldable pub distFits : ℕ → Bool
+distFits b = floatFits b && not (lt (realOf b) nought)
+
+-- the link is below L, and not 0 at an Arrive
+unfoldable pub eventFits : ℕ → LinkEvent → Bool
+eventFits l e = ltb (e .«link_idx» .0) l && not (isArrive (e .«est_type») && sameLink (e .«link_idx») noLink)
+
+-- the four est indices are below E
+unfoldable pub estLinksFit : ℕ → EstTime → Bool
+estLinksFit e x = ltb (x .«idx_next» .0) e && (ltb (x .«idx_next_alt» .0) e && (ltb (x .«idx_prev» .0) e && ltb (x .«idx_prev_alt» .0) e))
+
+unfoldable pub estFits : List ℕ → ℕ → ℕ → Bool
+estFits bs l i = floatFits (leAt 8 bs (estPlace i)) && (estLinksFit (estCount bs) (estAt bs i) && eventFits l (estAt bs i .«link_event»))
+
+unfoldable pub nodeFits : List ℕ → ℕ → ℕ → Bool
+nodeFits bs l i =
+    floatFits (leAt 8 bs (nodePlace (estCount bs) i)) && (timeFits (leAt 8 bs (nodePlace (estCount bs) i + 8))
+    && (ltb (nodeAt bs i .«est_idx» .0) (estCount bs) && eventFits l (nodeAt bs i .«link_event»)))
+
+-- fixed and free at most N, front and back below N
+unfoldable pub indicesFit : PathHeader → Bool
+indicesFit h = leb (h .fixed) (h .«path_count») && (leb (h .free) (h .«path_count») && (ltb (h .front) (h .«path_count») && ltb (h .back) (h .«path_count»)))
+
+unfoldable pub headerFits : List ℕ → Bool
+headerFits bs = distFits (leAt 8 bs 48) && (distFits (leAt 8 bs 56) && indicesFit (pathHeader bs))
+
+-- est records come first, then path records, then the header
+unfoldable pub valueFault : List ℕ → ℕ → Fault
+valueFault bs l =
+    orElse (firstUnfit 7 (estFits bs l) (estCount bs) 0)
+    (orElse (firstUnfit 7 (nodeFits bs l) (pathCount bs) 0)
+    (cond (headerFits bs) noFault (refused 7 0)))
+
+-- ---- 9: the path, then the diverge nodes
+
+-- a step by next or alt; 0 is none, and never a step
+unfoldable pub stepsTo : EstIdx → EstIdx → EstIdx → Bool
+stepsTo next alt x = not (sameEst x noEst) && (sameEst x next || sameEst x alt)
+
+-- the path starts at est 0, and each node is a step from the node before it
+unfoldable pub comesFrom : List ℕ → ℕ → Bool
+comesFrom bs i =
+    cond (eqb i 0) (sameEst (nodeAt bs i .«est_idx») noEst)
+    (let b = nodeAt bs (i - 1) .«est_idx» .0 in stepsTo (estAt bs b .«idx_next») (estAt bs b .«idx_next_alt») (nodeAt bs i .«est_idx»))
+
+-- the last node's est has no next
+unfoldable pub endsAt : List ℕ → ℕ → Bool
+endsAt bs i = not (eqb (i + 1) (pathCount bs)) || sameEst (estAt bs (nodeAt bs i .«est_idx» .0) .«idx_next») noEst
+
+-- an Arrive on link l
+unfoldable pub arrivesOn : LinkIdx → LinkEvent → Bool
+arrivesOn l e = isArrive (e .«est_type») && sameLink (e .«link_idx») l
+
+-- one of the first i nodes is an Arrive on link l
+unfoldable pub arrived : List ℕ → LinkIdx → ℕ → Bool
+arrived bs l zero = false
+arrived bs l (suc i) = arrived bs l i || arrivesOn l (nodeAt bs i .«link_event»)
+
+-- an Arrive whose link no Arrive before it has, or no Arrive
+unfoldable pub firstArrival : List ℕ → ℕ → Bool
+firstArrival bs i = not (isArrive (nodeAt bs i .«link_event» .«est_type») && arrived bs (nodeAt bs i .«link_event» .«link_idx») i)
+
+unfoldable pub onRoute : List ℕ → ℕ → Bool
+onRoute bs i = comesFrom bs i && (endsAt bs i && firstArrival bs i)
+
+-- between the first and the last: a train, a node from 1 to N - 1, not below the node before it
+unfoldable pub innerFits : ℕ → DivergeNode → DivergeNode → Bool
+innerFits n d b =
+    not (eqb (d .«train_idx» .0) 0) && (leb 1 (d .«disp_node_idx») && (ltb (d .«disp_node_idx») n && leb (b .«disp_node_idx») (d .«disp_node_idx»)))
+
+-- first (0, 0), last at N
+unfoldable pub divergeFits : List ℕ → ℕ → Bool
+divergeFits bs i =
+    cond (eqb i 0) (eqb (divergeAt bs i .«train_idx» .0) 0 && eqb (divergeAt bs i .«disp_node_idx») 0)
+    (cond (eqb (i + 1) (divergeCount bs)) (eqb (divergeAt bs i .«disp_node_idx») (pathCount bs))
+    (innerFits (pathCount bs) (divergeAt bs i) (divergeAt bs (i - 1))))
+
+unfoldable pub routeFault : List ℕ → Fault
+routeFault bs = orElse (firstUnfit 9 (onRoute bs) (pathCount bs) 0) (firstUnfit 9 (divergeFits bs) (divergeCount bs) 0)
+
+-- ---- all in order; an L outside 2 to 4,000 is that of no occupancy table (2)
+
+unfoldable pub imageFault : List ℕ → ℕ → Fault
+imageFault bs l =
+    cond (leb 2 l && leb l 4000)
+    (cond (imageFits bs) (orElse (valueFault bs l) (routeFault bs)) (refused 6 0))
+    (refused 2 0)

@@ -1,0 +1,563 @@
+// Refusals 6, 7 and 9 of an image with their places (document 01), read straight from its bytes.
+// Every function here is proved, the crate assumes nothing of its own, and no public function has a `requires`.
+use disp_structs::DivergeNode;
+use disp_structs::EstIdx;
+use disp_structs::EstTime;
+use disp_structs::EstType;
+use disp_structs::LinkEvent;
+use disp_structs::floats;
+use image::codec;
+use image::codec::PathHeader;
+use link_rules::octets;
+ghost use mathlib.Core.Path.{_≡_};
+ghost use mathlib.Core.Bool.{cond, not, _&&_};
+ghost use lib.Dec.{eqb};
+ghost use Prim.Native.Nat.{ℕ, _+_, _*_, _^_, _≤_, _<_};
+ghost use Rattle.link_rules.specs.Network.{allBelow};
+ghost use Rattle.disp_structs.specs.Values.{isArrive};
+ghost use Rattle.image.specs.Image.{pathCount, nodeAt};
+ghost use Rattle.image_fault.specs.ImageFault.{imageFault, imageFits, valueFault, routeFault, firstUnfit, CountsFit, countsFit, partsFit, trainFits, estTypeFits, nodeTypeFits, zeroWord, unusedZero, recordsFit, floatFits, timeFits, distFits, eventFits, estLinksFit, estFits, nodeFits, indicesFit, headerFits, stepsTo, comesFrom, endsAt, onRoute, innerFits, divergeFits};
+
+// A refusal's number and place; number 0 is none.
+pub struct Fault {
+    pub number: u16,
+    pub place: u16,
+}
+
+// ---- 6: header, size, types, spare bytes, unused records
+
+fn counts_fit(img: &[u8]) -> bool
+    ensures { λ r. ⌜ r ≡ countsFit (now (img .entry)) ⌝ }
+{
+    let e = codec::est_count(img);
+    let n = codec::path_count(img);
+    let m = codec::diverge_count(img);
+    let q = codec::diverge_room(img);
+    if e < 1 {
+        return false;
+    }
+    if 512 < e {
+        return false;
+    }
+    if n < 1 {
+        return false;
+    }
+    if e < n {
+        return false;
+    }
+    if m < 2 {
+        return false;
+    }
+    if q < m {
+        return false;
+    }
+    q <= 1024
+}
+
+fn parts_fit(img: &[u8]) -> bool
+    ensures { λ r. ⌜ r ≡ partsFit (now (img .entry)) ⌝ }
+{
+    let e = codec::est_count(img);
+    let q = codec::diverge_room(img);
+    let size = codec::size(img) as usize;
+    if octets::u32_at(img, 20) as usize != codec::est_place(0) {
+        return false;
+    }
+    if octets::u32_at(img, 24) as usize != codec::node_place(e, 0) {
+        return false;
+    }
+    if octets::u32_at(img, 28) as usize != codec::diverge_place(e, 0) {
+        return false;
+    }
+    if size != codec::diverge_place(e, q) {
+        return false;
+    }
+    size == img.len()
+}
+
+fn train_fits(img: &[u8]) -> bool
+    ensures { λ r. ⌜ r ≡ trainFits (now (img .entry)) ⌝ }
+{
+    let t = codec::train_idx(img);
+    if t.0 == 0 {
+        return false;
+    }
+    if octets::u16_at(img, 42) != 0 {
+        return false;
+    }
+    octets::u32_at(img, 44) == 0
+}
+
+fn est_type_fits(img: &[u8], i: u32) -> bool
+    ensures { λ r. ⌜ r ≡ estTypeFits (now (img .entry)) i ⌝ }
+{
+    octets::u32_at(img, codec::est_place(i) + 28) <= 2
+}
+
+fn node_type_fits(img: &[u8], i: u32) -> bool
+    ensures { λ r. ⌜ r ≡ nodeTypeFits (now (img .entry)) i ⌝ }
+{
+    let at = codec::node_place(codec::est_count(img), i);
+    if 2 < octets::u16_at(img, at + 26) {
+        return false;
+    }
+    octets::u32_at(img, at + 28) == 0
+}
+
+fn est_types_fit(img: &[u8], e: u32) -> bool
+    ensures { λ r. ⌜ r ≡ allBelow e (estTypeFits (now (img .entry))) ⌝ }
+{
+    let mut i: u32 = 0;
+    while i < e {
+        if est_type_fits(img, i) {
+            i += 1;
+        } else {
+            return false;
+        }
+    }
+    true
+}
+
+fn node_types_fit(img: &[u8], n: u32) -> bool
+    ensures { λ r. ⌜ r ≡ allBelow n (nodeTypeFits (now (img .entry))) ⌝ }
+{
+    let mut i: u32 = 0;
+    while i < n {
+        if node_type_fits(img, i) {
+            i += 1;
+        } else {
+            return false;
+        }
+    }
+    true
+}
+
+fn words_zero(img: &[u8], at: usize, k: usize) -> bool
+    requires { ⌜ at + 4 * k < 2 ^ 48 ⌝ }
+    ensures { λ r. ⌜ r ≡ allBelow k (zeroWord (now (img .entry)) at) ⌝ }
+{
+    let mut j = 0;
+    while j < k {
+        if octets::u32_at(img, at + 4 * j) != 0 {
+            return false;
+        }
+        j += 1;
+    }
+    true
+}
+
+fn unused_zero(img: &[u8]) -> bool
+    ensures { λ r. ⌜ r ≡ unusedZero (now (img .entry)) ⌝ }
+{
+    let e = codec::est_count(img);
+    let n = codec::path_count(img);
+    let m = codec::diverge_count(img);
+    let q = codec::diverge_room(img);
+    if words_zero(img, codec::node_place(e, n), 8 * codec::count_from(n, e)) {
+        return words_zero(img, codec::diverge_place(e, m), codec::count_from(m, q));
+    }
+    false
+}
+
+fn records_fit(img: &[u8]) -> bool
+    ensures { λ r. ⌜ r ≡ recordsFit (now (img .entry)) ⌝ }
+{
+    if est_types_fit(img, codec::est_count(img)) {
+        if node_types_fit(img, codec::path_count(img)) {
+            return unused_zero(img);
+        }
+        return false;
+    }
+    false
+}
+
+fn image_fits(img: &[u8]) -> bool
+    ensures { λ r. ⌜ r ≡ imageFits (now (img .entry)) ⌝ }
+{
+    if counts_fit(img) {
+        if parts_fit(img) {
+            if train_fits(img) {
+                return records_fit(img);
+            }
+            return false;
+        }
+        return false;
+    }
+    false
+}
+
+// ---- 7: floats, links, est indices, and the header's indices
+
+fn float_fits(b: u64) -> bool
+    ensures { λ r. ⌜ r ≡ floatFits b ⌝ }
+{
+    if 0x7ff0_0000_0000_0000 < b % 0x8000_0000_0000_0000 {
+        return false;
+    }
+    floats::in_reach(floats::real_of(b))
+}
+
+fn time_fits(b: u64) -> bool
+    ensures { λ r. ⌜ r ≡ timeFits b ⌝ }
+{
+    if b == 0x7ff0_0000_0000_0000 {
+        return true;
+    }
+    float_fits(b)
+}
+
+fn dist_fits(b: u64) -> bool
+    ensures { λ r. ⌜ r ≡ distFits b ⌝ }
+{
+    if float_fits(b) {
+        if floats::real_of(b) < 0.0 {
+            return false;
+        }
+        return true;
+    }
+    false
+}
+
+fn event_fits(l: u32, e: LinkEvent) -> bool
+    ensures { λ r. ⌜ r ≡ eventFits l e ⌝ }
+{
+    if l <= e.link_idx.0 {
+        return false;
+    }
+    let t = e.est_type;
+    match t {
+        EstType::Arrive => e.link_idx.0 != 0,
+        EstType::Clear => true,
+        EstType::Fake => true,
+    }
+}
+
+fn est_links_fit(e: u32, x: EstTime) -> bool
+    ensures { λ r. ⌜ r ≡ estLinksFit e x ⌝ }
+{
+    if e <= x.idx_next.0 {
+        return false;
+    }
+    if e <= x.idx_next_alt.0 {
+        return false;
+    }
+    if e <= x.idx_prev.0 {
+        return false;
+    }
+    x.idx_prev_alt.0 < e
+}
+
+fn est_fits(img: &[u8], l: u32, i: u32) -> bool
+    ensures { λ r. ⌜ r ≡ estFits (now (img .entry)) l i ⌝ }
+{
+    if float_fits(octets::u64_at(img, codec::est_place(i))) {
+        let x = codec::est_at(img, i);
+        if est_links_fit(codec::est_count(img), x) {
+            return event_fits(l, x.link_event);
+        }
+        return false;
+    }
+    false
+}
+
+fn node_fits(img: &[u8], l: u32, i: u32) -> bool
+    ensures { λ r. ⌜ r ≡ nodeFits (now (img .entry)) l i ⌝ }
+{
+    let e = codec::est_count(img);
+    let at = codec::node_place(e, i);
+    if float_fits(octets::u64_at(img, at)) {
+        if time_fits(octets::u64_at(img, at + 8)) {
+            let x = codec::node_at(img, i);
+            if e <= x.est_idx.0 {
+                return false;
+            }
+            return event_fits(l, x.link_event);
+        }
+        return false;
+    }
+    false
+}
+
+fn indices_fit(h: PathHeader) -> bool
+    ensures { λ r. ⌜ r ≡ indicesFit h ⌝ }
+{
+    if h.path_count < h.fixed as u32 {
+        return false;
+    }
+    if h.path_count < h.free as u32 {
+        return false;
+    }
+    if h.path_count <= h.front as u32 {
+        return false;
+    }
+    (h.back as u32) < h.path_count
+}
+
+fn header_fits(img: &[u8]) -> bool
+    ensures { λ r. ⌜ r ≡ headerFits (now (img .entry)) ⌝ }
+{
+    if dist_fits(octets::u64_at(img, 48)) {
+        if dist_fits(octets::u64_at(img, 56)) {
+            return indices_fit(codec::path_header(img));
+        }
+        return false;
+    }
+    false
+}
+
+fn est_fault(img: &[u8], l: u32, e: u32) -> Fault
+    requires { ⌜ e ≤ 512 ⌝ }
+    ensures { λ r. ⌜ r ≡ firstUnfit 7 (estFits (now (img .entry)) l) e 0 ⌝ }
+{
+    let mut i: u32 = 0;
+    while i < e {
+        if est_fits(img, l, i) {
+            i += 1;
+        } else {
+            return Fault {
+                number: 7,
+                place: i as u16,
+            };
+        }
+    }
+    Fault {
+        number: 0,
+        place: 0,
+    }
+}
+
+fn node_fault(img: &[u8], l: u32, n: u32) -> Fault
+    requires { ⌜ n ≤ 512 ⌝ }
+    ensures { λ r. ⌜ r ≡ firstUnfit 7 (nodeFits (now (img .entry)) l) n 0 ⌝ }
+{
+    let mut i: u32 = 0;
+    while i < n {
+        if node_fits(img, l, i) {
+            i += 1;
+        } else {
+            return Fault {
+                number: 7,
+                place: i as u16,
+            };
+        }
+    }
+    Fault {
+        number: 0,
+        place: 0,
+    }
+}
+
+// Est records come first, then path records, then the header.
+fn value_fault(img: &[u8], l: u32) -> Fault
+    requires { ⌜ CountsFit (now img) ⌝ }
+    ensures { λ r. ⌜ r ≡ valueFault (now (img .entry)) l ⌝ }
+{
+    let f = est_fault(img, l, codec::est_count(img));
+    if f.number != 0 {
+        return f;
+    }
+    let g = node_fault(img, l, codec::path_count(img));
+    if g.number != 0 {
+        return g;
+    }
+    if header_fits(img) {
+        return Fault {
+            number: 0,
+            place: 0,
+        };
+    }
+    Fault {
+        number: 7,
+        place: 0,
+    }
+}
+
+// ---- 9: the path, then the diverge nodes
+
+fn steps_to(next: EstIdx, alt: EstIdx, x: EstIdx) -> bool
+    ensures { λ r. ⌜ r ≡ stepsTo next alt x ⌝ }
+{
+    if x.0 == 0 {
+        return false;
+    }
+    if x.0 == next.0 {
+        return true;
+    }
+    x.0 == alt.0
+}
+
+fn comes_from(img: &[u8], i: u32) -> bool
+    ensures { λ r. ⌜ r ≡ comesFrom (now (img .entry)) i ⌝ }
+{
+    let x = codec::node_est_idx(img, i);
+    if i == 0 {
+        return x.0 == 0;
+    }
+    let b = codec::node_est_idx(img, i - 1);
+    steps_to(codec::est_next(img, b.0), codec::est_next_alt(img, b.0), x)
+}
+
+fn ends_at(img: &[u8], i: u32) -> bool
+    ensures { λ r. ⌜ r ≡ endsAt (now (img .entry)) i ⌝ }
+{
+    if (i as usize) + 1 != codec::path_count(img) as usize {
+        return true;
+    }
+    let x = codec::node_est_idx(img, i);
+    let next = codec::est_next(img, x.0);
+    next.0 == 0
+}
+
+// With seen, whether an Arrive before node i has the link of event e.
+fn on_route(img: &[u8], i: u32, t: EstType, seen: u8) -> bool
+    ensures { λ r. ⌜ r ≡ (comesFrom (now (img .entry)) i && (endsAt (now (img .entry)) i && not (isArrive t && not (eqb seen 0)))) ⌝ }
+{
+    if comes_from(img, i) {
+        if ends_at(img, i) {
+            return is_first(t, seen);
+        }
+        return false;
+    }
+    false
+}
+
+fn is_first(t: EstType, seen: u8) -> bool
+    ensures { λ r. ⌜ r ≡ not (isArrive t && not (eqb seen 0)) ⌝ }
+{
+    match t {
+        EstType::Arrive => seen == 0,
+        EstType::Clear => true,
+        EstType::Fake => true,
+    }
+}
+
+// The flag of an event's link, after the event.
+fn marked(t: EstType, seen: u8) -> u8
+    ensures { λ r. ⌜ r ≡ cond (isArrive t) 1 seen ⌝ }
+{
+    match t {
+        EstType::Arrive => 1,
+        EstType::Clear => seen,
+        EstType::Fake => seen,
+    }
+}
+
+// The links of the Arrive nodes so far are kept as flags.
+fn path_fault(img: &[u8], n: u32) -> Fault
+    requires { ⌜ (n ≤ 512) × ((i : ℕ) → i < n → nodeAt (now img) i .«link_event» .«link_idx» .0 < 4000) ⌝ }
+    ensures { λ r. ⌜ r ≡ firstUnfit 9 (onRoute (now (img .entry))) n 0 ⌝ }
+{
+    let mut seen = [0u8; 4000];
+    let mut i: u32 = 0;
+    while i < n {
+        let e = codec::node_link_event(img, i);
+        let t = e.est_type;
+        let l = e.link_idx.0 as usize;
+        if on_route(img, i, t, seen[l]) {
+            seen[l] = marked(t, seen[l]);
+            i += 1;
+        } else {
+            return Fault {
+                number: 9,
+                place: i as u16,
+            };
+        }
+    }
+    Fault {
+        number: 0,
+        place: 0,
+    }
+}
+
+fn inner_fits(n: u32, d: DivergeNode, b: DivergeNode) -> bool
+    ensures { λ r. ⌜ r ≡ innerFits n d b ⌝ }
+{
+    if d.train_idx.0 == 0 {
+        return false;
+    }
+    if d.disp_node_idx < 1 {
+        return false;
+    }
+    if n <= d.disp_node_idx as u32 {
+        return false;
+    }
+    b.disp_node_idx <= d.disp_node_idx
+}
+
+fn diverge_fits(img: &[u8], i: u32) -> bool
+    ensures { λ r. ⌜ r ≡ divergeFits (now (img .entry)) i ⌝ }
+{
+    let d = codec::diverge_at(img, i);
+    let n = codec::path_count(img);
+    if i == 0 {
+        if d.train_idx.0 == 0 {
+            return d.disp_node_idx == 0;
+        }
+        return false;
+    }
+    if (i as usize) + 1 == codec::diverge_count(img) as usize {
+        return d.disp_node_idx as u32 == n;
+    }
+    inner_fits(n, d, codec::diverge_at(img, i - 1))
+}
+
+fn diverge_fault(img: &[u8], m: u32) -> Fault
+    requires { ⌜ m ≤ 1024 ⌝ }
+    ensures { λ r. ⌜ r ≡ firstUnfit 9 (divergeFits (now (img .entry))) m 0 ⌝ }
+{
+    let mut i: u32 = 0;
+    while i < m {
+        if diverge_fits(img, i) {
+            i += 1;
+        } else {
+            return Fault {
+                number: 9,
+                place: i as u16,
+            };
+        }
+    }
+    Fault {
+        number: 0,
+        place: 0,
+    }
+}
+
+fn route_fault(img: &[u8]) -> Fault
+    requires { ⌜ (CountsFit (now img)) × ((i : ℕ) → i < pathCount (now img) → nodeAt (now img) i .«link_event» .«link_idx» .0 < 4000) ⌝ }
+    ensures { λ r. ⌜ r ≡ routeFault (now (img .entry)) ⌝ }
+{
+    let f = path_fault(img, codec::path_count(img));
+    if f.number != 0 {
+        return f;
+    }
+    diverge_fault(img, codec::diverge_count(img))
+}
+
+// The first refusal of an image over `links` links, in document 01's order.
+pub fn image_fault(img: &[u8], links: u32) -> Fault
+    ensures { λ r. ⌜ r ≡ imageFault (now (img .entry)) links ⌝ }
+{
+    if links < 2 {
+        return Fault {
+            number: 2,
+            place: 0,
+        };
+    }
+    if 4000 < links {
+        return Fault {
+            number: 2,
+            place: 0,
+        };
+    }
+    if image_fits(img) {
+        let f = value_fault(img, links);
+        if f.number != 0 {
+            return f;
+        }
+        return route_fault(img);
+    }
+    Fault {
+        number: 6,
+        place: 0,
+    }
+}
