@@ -1,3 +1,4 @@
 pub mod ScanLaws
 pub mod ArrivalLaws
 pub mod AcceptLaws
+pub mod CycleArrays

@@ -1,12 +1,10 @@
 -- One turn of each scan, as a loop has it, and what a scan that finds nothing says of each index. Assumes nothing.
-use mathlib.Core.Path.{_≡_, refl, sym, _∙_}
+use mathlib.Core.Path.{_≡_, refl}
 use mathlib.Core.Logic.{_⊎_, inl, inr}
 use mathlib.Core.Bool.{Bool, true, false, _&&_}
 use Prim.Native.Nat.{ℕ, zero, suc, _+_, _-_, _≤_, _<_}
 use native.Mathlib.Nat.{eq-or-lt-of-le}
-use native.Mathlib.Numerals.{add-one}
 use native.Mathlib.Omega.{arith}
-use Rattle.link_rules.specs.Network.{allBelow}
 use Rattle.image_fault.specs.ImageFault.{noFault, refused, firstUnfit}
 
 -- ---- both tests hold
@@ -15,33 +13,6 @@ pub both : (a b : Bool) → a && b ≡ true → (a ≡ true) × (b ≡ true)
 both true true h = (refl, refl)
 both true false h = let z : _≡_ {A = ℕ} 0 1 = cc in absurd (omega arith)
 both false b h = let z : _≡_ {A = ℕ} 0 1 = cc in absurd (omega arith)
-
--- ---- every number below n
-
-module _ (test : ℕ → Bool) where
-  pub all-none : allBelow 0 test ≡ true
-  unfolding allBelow
-  all-none = refl
-
-  pub all-more : (n : ℕ) → allBelow n test ≡ true → test n ≡ true → allBelow (n + 1) test ≡ true
-  unfolding allBelow
-  all-more n h t = rw (add-one, h, t)
-
-  pub all-each : (n : ℕ) → allBelow n test ≡ true → (i : ℕ) → i < n → test i ≡ true
-  unfolding allBelow
-  all-each zero h i l = absurd (omega arith)
-  all-each (suc n) h i l = go (eq-or-lt-of-le l) (all-each n (both (allBelow n test) (test n) h .0) i)
-    where
-      go : (suc i ≡ suc n) ⊎ (suc i < suc n) → (i < n → test i ≡ true) → test i ≡ true
-      go (inl q) r = let e : i ≡ n = omega arith in rw e (both (allBelow n test) (test n) h .1)
-      go (inr q) r = r (omega arith)
-
-  pub all-fails : (n i : ℕ) → i < n → test i ≡ false → allBelow n test ≡ false
-  all-fails n i l t = go (allBelow n test) refl
-    where
-      go : (b : Bool) → allBelow n test ≡ b → b ≡ false
-      go true h = sym (all-each n h i l) ∙ t
-      go false h = refl
 
 -- ---- the first index that does not fit
 

@@ -1,4 +1,4 @@
--- Refusals 6, 7 and 9 of an image with their places (document 01, Update). L is the number of links. Assumes nothing.
+-- Refusals 6 to 9 of an image with their places (document 01, Update). L is the number of links. Assumes nothing.
 use Prim.Native.Nat.{ℕ, zero, suc, _+_, _*_, _-_, _%_, _≤_}
 use mathlib.Core.Bool.{Bool, true, false, cond, not, _&&_, _||_}
 use mathlib.Core.List.{List}
@@ -15,6 +15,10 @@ use Rattle.disp_structs.specs.declared.EstIdx.{EstIdx}
 use Rattle.disp_structs.specs.declared.LinkEvent.{LinkEvent}
 use Rattle.disp_structs.specs.declared.EstTime.{EstTime}
 use Rattle.disp_structs.specs.declared.DivergeNode.{DivergeNode}
+use Rattle.disp_structs.specs.Listed.{listed}
+use Rattle.est_times.specs.Cycles.{firstOnCycle}
+use Rattle.est_times.specs.declared.Cycle.{Cycle}
+use Rattle.est_times.specs.declared.Cycle.the-variants.{None, At}
 use Rattle.image.specs.Image.{sizeOf, estCount, pathCount, divergeCount, divergeRoom, trainIdx, pathHeader, estPlace, nodePlace, divergePlace, imageSize, estAt, nodeAt, divergeAt}
 use Rattle.image.specs.declared.codec.PathHeader.{PathHeader}
 use Rattle.image_fault.specs.declared.Fault.{Fault}
@@ -131,6 +135,22 @@ valueFault bs l =
     (orElse (firstUnfit 7 (nodeFits bs l) (pathCount bs) 0)
     (cond (headerFits bs) noFault (refused 7 0)))
 
+-- ---- 8: next and alt form a cycle
+
+-- idx_next and idx_next_alt of the est records
+abbrev pub nexts : List ℕ → List ℕ
+nexts bs = listed (estCount bs) (λ i. estAt bs i .«idx_next» .0)
+
+abbrev pub alts : List ℕ → List ℕ
+alts bs = listed (estCount bs) (λ i. estAt bs i .«idx_next_alt» .0)
+
+abbrev pub cycleRefused : Cycle → Fault
+cycleRefused None = noFault
+cycleRefused (At i) = refused 8 i
+
+unfoldable pub cycleFault : List ℕ → Fault
+cycleFault bs = cycleRefused (firstOnCycle (nexts bs) (alts bs) (estCount bs))
+
 -- ---- 9: the path, then the diverge nodes
 
 -- a step by next or alt; 0 is none, and never a step
@@ -183,5 +203,5 @@ routeFault bs = orElse (firstUnfit 9 (onRoute bs) (pathCount bs) 0) (firstUnfit 
 unfoldable pub imageFault : List ℕ → ℕ → Fault
 imageFault bs l =
     cond (leb 2 l && leb l 4000)
-    (cond (imageFits bs) (orElse (valueFault bs l) (routeFault bs)) (refused 6 0))
+    (cond (imageFits bs) (orElse (valueFault bs l) (orElse (cycleFault bs) (routeFault bs))) (refused 6 0))
     (refused 2 0)

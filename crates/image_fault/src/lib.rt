@@ -1,4 +1,4 @@
-// Refusals 6, 7 and 9 of an image with their places (document 01), read straight from its bytes.
+// Refusals 6 to 9 of an image with their places (document 01), read straight from its bytes.
 // Every function here is proved, the crate assumes nothing of its own, and no public function has a `requires`.
 use disp_structs::DivergeNode;
 use disp_structs::EstIdx;
@@ -6,6 +6,7 @@ use disp_structs::EstTime;
 use disp_structs::EstType;
 use disp_structs::LinkEvent;
 use disp_structs::floats;
+use est_times::Cycle;
 use image::codec;
 use image::codec::PathHeader;
 use link_rules::octets;
@@ -15,8 +16,8 @@ ghost use lib.Dec.{eqb};
 ghost use Prim.Native.Nat.{ℕ, _+_, _*_, _^_, _≤_, _<_};
 ghost use Rattle.link_rules.specs.Network.{allBelow};
 ghost use Rattle.disp_structs.specs.Values.{isArrive};
-ghost use Rattle.image.specs.Image.{pathCount, nodeAt};
-ghost use Rattle.image_fault.specs.ImageFault.{imageFault, imageFits, valueFault, routeFault, firstUnfit, CountsFit, countsFit, partsFit, trainFits, estTypeFits, nodeTypeFits, zeroWord, unusedZero, recordsFit, floatFits, timeFits, distFits, eventFits, estLinksFit, estFits, nodeFits, indicesFit, headerFits, stepsTo, comesFrom, endsAt, onRoute, innerFits, divergeFits};
+ghost use Rattle.image.specs.Image.{estCount, pathCount, nodeAt};
+ghost use Rattle.image_fault.specs.ImageFault.{imageFault, imageFits, valueFault, cycleFault, routeFault, firstUnfit, CountsFit, countsFit, partsFit, trainFits, estTypeFits, nodeTypeFits, zeroWord, unusedZero, recordsFit, floatFits, timeFits, distFits, eventFits, estLinksFit, estFits, nodeFits, indicesFit, headerFits, stepsTo, comesFrom, endsAt, onRoute, innerFits, divergeFits};
 
 // A refusal's number and place; number 0 is none.
 pub struct Fault {
@@ -372,6 +373,35 @@ fn value_fault(img: &[u8], l: u32) -> Fault
     }
 }
 
+// ---- 8: next and alt form a cycle
+
+fn cycle_fault(img: &[u8], e: u32) -> Fault
+    requires { ⌜ (e ≡ estCount (now img)) × (e ≤ 512) ⌝ }
+    ensures { λ r. ⌜ r ≡ cycleFault (now (img .entry)) ⌝ }
+{
+    let mut next = [0u32; 512];
+    let mut alt = [0u32; 512];
+    let mut i: u32 = 0;
+    while i < e {
+        let x = codec::est_next(img, i);
+        let y = codec::est_next_alt(img, i);
+        next[i as usize] = x.0;
+        alt[i as usize] = y.0;
+        i += 1;
+    }
+    let c = est_times::cycle_at(&next, &alt, e as usize);
+    match c {
+        Cycle::None => Fault {
+            number: 0,
+            place: 0,
+        },
+        Cycle::At(a) => Fault {
+            number: 8,
+            place: a as u16,
+        },
+    }
+}
+
 // ---- 9: the path, then the diverge nodes
 
 fn steps_to(next: EstIdx, alt: EstIdx, x: EstIdx) -> bool
@@ -553,6 +583,10 @@ pub fn image_fault(img: &[u8], links: u32) -> Fault
         let f = value_fault(img, links);
         if f.number != 0 {
             return f;
+        }
+        let g = cycle_fault(img, codec::est_count(img));
+        if g.number != 0 {
+            return g;
         }
         return route_fault(img);
     }

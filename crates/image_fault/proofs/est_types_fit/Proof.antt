@@ -1,6 +1,6 @@
-use Rattle.image_fault.proofs.ScanLaws.{all-none, all-more, all-fails}
+use Rattle.link_rules.proofs.TableLaws.{all-more, all-fails}
 use Rattle.link_rules.specs.Network.{allBelow}
-use mathlib.Core.Path.{_≡_, sym, _∙_}
+use mathlib.Core.Path.{refl, _≡_, sym, _∙_}
 use mathlib.Core.Bool.{true}
 use Prim.Native.Nat.{_-_, _≤_}
 use denote.Ref.{now}
@@ -17,7 +17,8 @@ abbrev μ-loop : tie.MeasureT-loop
 μ-loop img e i₀ i = e - i
 
 loop-holds : tie.Need-loop-holds Inv-loop μ-loop
-loop-holds c = (search needs, all-none (estTypeFits (now (c .before .args .img))))
+unfolding allBelow
+loop-holds c = (search needs, refl)
 
 est-type-fits-requires : tie.Need-est-type-fits-requires Inv-loop μ-loop
 est-type-fits-requires c κs = search needs

@@ -27,18 +27,28 @@ returns-3 : tie.Need-returns-3
 unfolding imageFault
 returns-3 c = rw (le-leb 2 (c .before .before .before .before .before .before .before .before .args .links) (omega arith), le-leb (c .before .before .before .before .before .before .before .before .args .links) 4000 (omega arith), ← c .before .before .before .before .image-fits .ensures, c .before .before .before .if3 .taken, ← c .before .before .value-fault .ensures, ne-eqb _ _ (c .if4 .taken))
 
-route-fault-requires : tie.Need-route-fault-requires
-route-fault-requires c κs =
-    let clean = sym (ap (λ (f : Fault). f .number) (c .before .before .value-fault .ensures)) ∙ c .if4 .left in
-    (fits-counts (now (c .before .before .before .before .before .before .before .before .args .img)) (sym (c .before .before .before .before .image-fits .ensures) ∙ c .before .before .before .if3 .taken), λ i h. let k = clean-link (now (c .before .before .before .before .before .before .before .before .args .img)) (c .before .before .before .before .before .before .before .before .args .links) clean i h in omega arith)
+est-count-requires : tie.Need-est-count-requires
+est-count-requires c κs = search needs
+
+cycle-fault-requires : tie.Need-cycle-fault-requires
+cycle-fault-requires c κs = let k = fits-counts (now (c .before .before .before .before .before .before .before .before .before .args .img)) (sym (c .before .before .before .before .before .image-fits .ensures) ∙ c .before .before .before .before .if3 .taken) .few-est in (c .est-count .ensures, omega arith)
 
 returns-4 : tie.Need-returns-4
 unfolding imageFault
-returns-4 c = rw (le-leb 2 (c .before .before .before .before .before .before .before .before .before .args .links) (omega arith), le-leb (c .before .before .before .before .before .before .before .before .before .args .links) 4000 (omega arith), ← c .before .before .before .before .before .image-fits .ensures, c .before .before .before .before .if3 .taken, ← c .before .before .before .value-fault .ensures, eq-eqb _ _ (c .before .if4 .left), ← c .route-fault .ensures)
+returns-4 c = rw (le-leb 2 (c .before .before .before .before .before .before .before .before .before .before .before .before .args .links) (omega arith), le-leb (c .before .before .before .before .before .before .before .before .before .before .before .before .args .links) 4000 (omega arith), ← c .before .before .before .before .before .before .before .before .image-fits .ensures, c .before .before .before .before .before .before .before .if3 .taken, ← c .before .before .before .before .before .before .value-fault .ensures, eq-eqb _ _ (c .before .before .before .before .if4 .left), ← c .before .before .cycle-fault .ensures, ne-eqb _ _ (c .if5 .taken))
+
+route-fault-requires : tie.Need-route-fault-requires
+route-fault-requires c κs =
+    let clean = sym (ap (λ (f : Fault). f .number) (c .before .before .before .before .before .before .value-fault .ensures)) ∙ c .before .before .before .before .if4 .left in
+    (fits-counts (now (c .before .before .before .before .before .before .before .before .before .before .before .before .args .img)) (sym (c .before .before .before .before .before .before .before .before .image-fits .ensures) ∙ c .before .before .before .before .before .before .before .if3 .taken), λ i h. let k = clean-link (now (c .before .before .before .before .before .before .before .before .before .before .before .before .args .img)) (c .before .before .before .before .before .before .before .before .before .before .before .before .args .links) clean i h in omega arith)
 
 returns-5 : tie.Need-returns-5
 unfolding imageFault
-returns-5 c = rw (le-leb 2 (c .before .before .before .before .before .args .links) (omega arith), le-leb (c .before .before .before .before .before .args .links) 4000 (omega arith), ← c .before .image-fits .ensures, c .if3 .left)
+returns-5 c = rw (le-leb 2 (c .before .before .before .before .before .before .before .before .before .before .before .before .before .args .links) (omega arith), le-leb (c .before .before .before .before .before .before .before .before .before .before .before .before .before .args .links) 4000 (omega arith), ← c .before .before .before .before .before .before .before .before .before .image-fits .ensures, c .before .before .before .before .before .before .before .before .if3 .taken, ← c .before .before .before .before .before .before .before .value-fault .ensures, eq-eqb _ _ (c .before .before .before .before .before .if4 .left), ← c .before .before .before .cycle-fault .ensures, eq-eqb _ _ (c .before .if5 .left), ← c .route-fault .ensures)
+
+returns-6 : tie.Need-returns-6
+unfolding imageFault
+returns-6 c = rw (le-leb 2 (c .before .before .before .before .before .args .links) (omega arith), le-leb (c .before .before .before .before .before .args .links) 4000 (omega arith), ← c .before .image-fits .ensures, c .if3 .left)
 
 pub image-fault-spec : {M : Type 1} → statement M
 image-fault-spec =
@@ -49,6 +59,9 @@ image-fault-spec =
     image-fits-requires
     value-fault-requires
     returns-3
-    route-fault-requires
+    est-count-requires
+    cycle-fault-requires
     returns-4
-    returns-5)
+    route-fault-requires
+    returns-5
+    returns-6)

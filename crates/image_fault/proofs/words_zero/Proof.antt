@@ -1,6 +1,6 @@
-use Rattle.image_fault.proofs.ScanLaws.{all-none, all-more, all-fails}
+use Rattle.link_rules.proofs.TableLaws.{all-more, all-fails}
 use Rattle.link_rules.specs.Network.{allBelow}
-use mathlib.Core.Path.{_≡_, sym}
+use mathlib.Core.Path.{refl, _≡_, sym}
 use mathlib.Core.Bool.{true}
 use Prim.Native.Nat.{_-_, _≤_}
 use denote.Ref.{now}
@@ -18,7 +18,8 @@ abbrev μ-loop : tie.MeasureT-loop
 μ-loop img at k j₀ j = k - j
 
 loop-holds : tie.Need-loop-holds Inv-loop μ-loop
-loop-holds c = (search needs, all-none (zeroWord (now (c .before .args .img)) (c .before .args .at)))
+unfolding allBelow
+loop-holds c = (search needs, refl)
 
 mul-u32-at : tie.Need-mul-u32-at Inv-loop μ-loop
 mul-u32-at c = search needs
