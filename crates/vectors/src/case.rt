@@ -1,0 +1,157 @@
+// The parts of a recorded case, and the counts of a replay.
+use link_rules::octets;
+
+pub(crate) const MARK: u32 = 1;
+
+pub(crate) const UPDATE: u32 = 3;
+
+// An output buffer of this length is as its input was.
+const UNCHANGED: u32 = 4294967295;
+
+// The cases of one kind, and those whose answer differs.
+pub(crate) struct Count {
+    pub(crate) cases: u64,
+    pub(crate) differ: u64,
+}
+
+impl Count {
+    pub(crate) fn with(self, agrees: bool) -> Count {
+        let cases = std::num::wrapping_add_u64(self.cases, 1);
+        if agrees {
+            return Count {
+                cases: cases,
+                differ: self.differ,
+            };
+        }
+        Count {
+            cases: cases,
+            differ: std::num::wrapping_add_u64(self.differ, 1),
+        }
+    }
+}
+
+pub(crate) struct Counts {
+    pub(crate) marks: Count,
+    pub(crate) images: Count,
+    pub(crate) skipped: u64,
+    pub(crate) broken: bool,
+}
+
+pub(crate) fn none() -> Counts {
+    Counts {
+        marks: Count {
+            cases: 0,
+            differ: 0,
+        },
+        images: Count {
+            cases: 0,
+            differ: 0,
+        },
+        skipped: 0,
+        broken: false,
+    }
+}
+
+pub(crate) fn broken(counts: Counts) -> Counts {
+    let mut out = counts;
+    out.broken = true;
+    out
+}
+
+// The list ends between two cases; where part of a head is left, it is broken.
+pub(crate) fn ended_at(counts: Counts, got: usize) -> Counts {
+    if got == 0 {
+        return counts;
+    }
+    broken(counts)
+}
+
+pub(crate) fn with_mark(counts: Counts, agrees: bool) -> Counts {
+    let mut out = counts;
+    let marks = counts.marks;
+    let next = marks.with(agrees);
+    out.marks = next;
+    out
+}
+
+pub(crate) fn with_image(counts: Counts, agrees: bool) -> Counts {
+    let mut out = counts;
+    let images = counts.images;
+    let next = images.with(agrees);
+    out.images = next;
+    out
+}
+
+pub(crate) fn with_skipped(counts: Counts) -> Counts {
+    let mut out = counts;
+    out.skipped = std::num::wrapping_add_u64(counts.skipped, 1);
+    out
+}
+
+// ---- the head: size, operation, tag, line, 8 arguments, 4 lengths of inputs, 8 numbers of the answer, 2 lengths of outputs
+
+pub(crate) fn operation(head: &[u8]) -> u32 {
+    octets::u32_at(head, 4)
+}
+
+pub(crate) fn argument(head: &[u8], i: u32) -> u32 {
+    octets::u32_at(head, 16 + 4 * (i as usize))
+}
+
+pub(crate) fn answer(head: &[u8], i: u32) -> u32 {
+    octets::u32_at(head, 64 + 4 * (i as usize))
+}
+
+fn input_len(head: &[u8], i: u32) -> u32 {
+    octets::u32_at(head, 48 + 4 * (i as usize))
+}
+
+// How many bytes follow the head; a size below the head's counts as none.
+pub(crate) fn body_size(head: &[u8]) -> usize {
+    let size = octets::u32_at(head, 0) as usize;
+    if size < 104 {
+        return 0;
+    }
+    size - 104
+}
+
+// ---- the buffers
+
+// n bytes from a on; none where they do not lie within the slice.
+pub(crate) fn part(s: &[u8], a: usize, n: usize) -> &[u8] {
+    if s.len() < a {
+        return &s[0..0];
+    }
+    if s.len() - a < n {
+        return &s[0..0];
+    }
+    let e = a + n;
+    &s[a..e]
+}
+
+pub(crate) fn first_input<'a>(head: &[u8], body: &'a [u8]) -> &'a [u8] {
+    part(body, 0, input_len(head, 0) as usize)
+}
+
+pub(crate) fn second_input<'a>(head: &[u8], body: &'a [u8]) -> &'a [u8] {
+    part(
+        body,
+        input_len(head, 0) as usize,
+        input_len(head, 1) as usize,
+    )
+}
+
+// Where the outputs begin.
+fn outputs_at(head: &[u8]) -> usize {
+    let two = (input_len(head, 0) as usize) + (input_len(head, 1) as usize);
+    two + (input_len(head, 2) as usize) + (input_len(head, 3) as usize)
+}
+
+// The first output, or the input that it was before the call where it is unchanged.
+pub(crate) fn first_output<'a>(head: &[u8], body: &'a [u8], was: &'a [u8]) -> &'a [u8] {
+    let n = octets::u32_at(head, 96);
+    if n == UNCHANGED {
+        return was;
+    }
+    part(body, outputs_at(head), n as usize)
+}

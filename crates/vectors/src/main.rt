@@ -1,0 +1,115 @@
+// Replays the recorded answers of the Rust (data/cases) and prints, for each call, how many cases there are and how many differ.
+// The format of a case is described in tools/oracle/README.md: 26 numbers of 32 bits, the input buffers, the output buffers.
+ghost use mathlib.Core.Path.{_≡_};
+ghost use lib.ListN.{length};
+
+mod case;
+mod image_refusal;
+mod mark;
+
+use case::Count;
+use case::Counts;
+use libc::STDOUT_FILENO;
+
+fn main() {
+    let path = b"cases";
+    let fd = os::open_read(path);
+    if fd < 0 {
+        os::fail(path);
+        return;
+    }
+    let counts = replay_all(fd);
+    libc::close(fd);
+    print_line(b"mark or release: ", counts.marks);
+    print_line(b"refusals 6 to 9 of an image: ", counts.images);
+    print_skipped(counts.skipped);
+    if counts.broken {
+        io::write_all(STDOUT_FILENO, b"the list is broken\n");
+    }
+}
+
+// A proved loop has to end, and nothing says that a file does: a million cases are more than the list has.
+fn replay_all(fd: i32) -> Counts {
+    let mut counts = case::none();
+    let mut turns: u32 = 1000000;
+    while 0 < turns {
+        let more = replay_next(fd, counts);
+        counts = more.counts;
+        if more.ended {
+            return counts;
+        }
+        turns -= 1;
+    }
+    counts
+}
+
+// Room for the buffers of a case.
+fn room() -> [u8; 262144]
+    ensures { λ r. ⌜ 262144 ≡ length r ⌝ }
+{
+    [0u8; 262144]
+}
+
+struct Replayed {
+    counts: Counts,
+    ended: bool,
+}
+
+// Reads one case and replays it.
+fn replay_next(fd: i32, counts: Counts) -> Replayed {
+    let mut head = [0u8; 104];
+    let mut body = room();
+    let got = io::read_full(fd, &mut head);
+    if got < 104 {
+        let done = case::ended_at(counts, got);
+        return Replayed {
+            counts: done,
+            ended: true,
+        };
+    }
+    let size = case::body_size(&head);
+    if body.len() < size {
+        return Replayed {
+            counts: case::broken(counts),
+            ended: true,
+        };
+    }
+    replay_body(fd, &head, &mut body[..size], counts)
+}
+
+fn replay_body(fd: i32, head: &[u8], body: &mut [u8], counts: Counts) -> Replayed {
+    if io::read_full(fd, body) != body.len() {
+        return Replayed {
+            counts: case::broken(counts),
+            ended: true,
+        };
+    }
+    Replayed {
+        counts: replay(head, body, counts),
+        ended: false,
+    }
+}
+
+fn replay(head: &[u8], body: &[u8], counts: Counts) -> Counts {
+    if case::operation(head) == case::MARK {
+        return case::with_mark(counts, mark::agrees(head, body));
+    }
+    if image_refusal::is_told(head) {
+        return case::with_image(counts, image_refusal::agrees(head, body));
+    }
+    case::with_skipped(counts)
+}
+
+fn print_line(name: &[u8], count: Count) {
+    io::write_all(STDOUT_FILENO, name);
+    io::print_decimal(STDOUT_FILENO, count.cases);
+    io::write_all(STDOUT_FILENO, b" cases, ");
+    io::print_decimal(STDOUT_FILENO, count.differ);
+    io::write_all(STDOUT_FILENO, b" differ\n");
+}
+
+fn print_skipped(skipped: u64) {
+    io::write_all(STDOUT_FILENO, b"not replayed yet: ");
+    io::print_decimal(STDOUT_FILENO, skipped);
+    io::write_all(STDOUT_FILENO, b" cases\n");
+}

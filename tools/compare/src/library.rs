@@ -1,0 +1,48 @@
+//! The exported functions of the proved library, each over a case.
+
+use oracle::cases::{Case, MARK, UPDATE};
+use oracle::layout::{u16_bytes, u16s};
+
+pub const KINDS: [&str; 2] = ["mark", "image"];
+
+extern "C" {
+    fn lavtoeu_image_fault(image: *const u8, n: usize, links: u32) -> u32;
+    fn lavtoeu_mark(table: *const u8, n: usize, occupancy: *mut u16, k: usize, link: u32, train: u16) -> u32;
+}
+
+/// Where the answer of an operation has the refusal's number.
+pub fn number_at(op: u32) -> usize {
+    match op {
+        MARK => 0,
+        _ => 1,
+    }
+}
+
+/// The case with the library's answer.
+pub fn answered(asked: &Case) -> Case {
+    let mut case = asked.clone();
+    case.answer = [0; 8];
+    match case.op {
+        MARK => mark(&mut case),
+        op => panic!("no operation {op}"),
+    }
+    case
+}
+
+fn mark(case: &mut Case) {
+    let mut occ = u16s(&case.ins[1]);
+    let table = &case.ins[0];
+    let (link, train) = (case.args[0], case.args[1] as u16);
+    // SAFETY: each pointer goes with its own length, and the function keeps to them.
+    let word = unsafe { lavtoeu_mark(table.as_ptr(), table.len(), occ.as_mut_ptr(), occ.len(), link, train) };
+    case.answer[0] = word & 0xffff;
+    case.answer[1] = word >> 16;
+    case.outs = [u16_bytes(&occ), vec![]];
+}
+
+/// The refusal of an image by 6 to 9, as a number and a place.
+pub fn image_fault(image: &[u8], links: u32) -> (u32, u32) {
+    // SAFETY: the pointer goes with its own length, and the function keeps to it.
+    let word = unsafe { lavtoeu_image_fault(image.as_ptr(), image.len(), links) };
+    (word & 0xffff, word >> 16)
+}

@@ -1,0 +1,95 @@
+//! The proved library beside the oracle: the same calls to both, and every number of the answer and every byte
+//! of each buffer compared.
+
+mod library;
+
+use oracle::cases::Case;
+use oracle::layout::read_image;
+use oracle::{calls, gen, model, rng::Rng};
+use std::io::Write;
+use std::process::exit;
+
+const USAGE: &str = "usage: compare KIND SEED COUNT
+KIND: mark, image. The first case that differs is written to the file `different.case`.";
+
+fn usage() -> ! {
+    eprintln!("{USAGE}");
+    exit(2)
+}
+
+/// A train of any of the generators: small and odd, dense, large.
+fn some_train(rng: &mut Rng) -> gen::UpdateCase {
+    match rng.below(20) {
+        0..=11 => gen::odd_update(rng),
+        12..=15 => gen::twin_update(rng),
+        16..=18 => calls::dense(rng),
+        _ => gen::large_update(rng),
+    }
+}
+
+/// The number of cases whose answers differ, and how many were refused by each number.
+struct Tally {
+    differ: u64,
+    refused: [u64; 32],
+}
+
+impl Tally {
+    fn add(&mut self, asked: &Case) {
+        let judged = asked.clone().answered();
+        let number = judged.answer[library::number_at(judged.op)] as usize;
+        self.refused[number.min(31)] += 1;
+        if library::answered(asked) != judged {
+            if self.differ == 0 {
+                let mut bytes = vec![];
+                judged.write(&mut bytes);
+                keep(&bytes);
+            }
+            self.differ += 1;
+        }
+    }
+
+    /// Refusals 6 to 9 of an image, half of them damaged.
+    fn add_image(&mut self, rng: &mut Rng) {
+        let case = some_train(rng);
+        let l = case.occ.len();
+        let image = if rng.chance(50) { gen::damaged(rng, &case.image, l) } else { case.image };
+        let judged = match read_image(&image, l) {
+            Ok(_) => (0, 0),
+            Err(r) => (r.number as u32, r.place),
+        };
+        self.refused[judged.0.min(31) as usize] += 1;
+        if library::image_fault(&image, l as u32) != judged {
+            if self.differ == 0 {
+                keep(&image);
+            }
+            self.differ += 1;
+        }
+    }
+}
+
+fn keep(bytes: &[u8]) {
+    std::fs::File::create("different.case").and_then(|mut f| f.write_all(bytes)).expect("different.case");
+}
+
+fn main() {
+    model::quiet_panics();
+    let args: Vec<String> = std::env::args().skip(1).collect();
+    let [kind, seed, count] = &args[..] else { usage() };
+    let number = |s: &String| s.parse::<u64>().unwrap_or_else(|_| usage());
+    if !library::KINDS.contains(&kind.as_str()) {
+        usage();
+    }
+    let mut rng = Rng::new(number(seed));
+    let mut tally = Tally { differ: 0, refused: [0; 32] };
+    for _ in 0..number(count) {
+        match kind.as_str() {
+            "image" => tally.add_image(&mut rng),
+            _ => tally.add(&calls::by_name(kind, &mut rng).unwrap_or_else(|| usage())),
+        }
+    }
+    println!("{kind}: {count} cases, {} differ", tally.differ);
+    for (n, &k) in tally.refused.iter().enumerate().filter(|(_, &k)| k > 0) {
+        println!("  {} {n}: {k}", if n == 0 { "done, not refused" } else { "refused" });
+    }
+    exit(if tally.differ == 0 { 0 } else { 1 });
+}

@@ -1,0 +1,179 @@
+//! Random calls of each operation, as cases without answers.
+
+use crate::cases::*;
+use crate::gen::*;
+use crate::layout::*;
+use crate::rng::Rng;
+use crate::yards::*;
+
+pub fn of_update(c: &UpdateCase) -> Case {
+    Case::update(&c.image, &c.occ, &c.blocking, c.moved, c.local, c.limit)
+}
+
+pub fn of_check(c: &CheckCase, report: &[u8]) -> Case {
+    Case::check(&c.yard, &c.args(), report)
+}
+
+pub fn bundle_of_check(c: &CheckCase) -> Vec<u8> {
+    bundle_of(&Bundle {
+        occupancy: c.occ.clone(),
+        blocking: c.blocking.clone(),
+        yard: &c.yard,
+        moved: c.moved,
+        begin: c.begin as u16,
+        limit: c.limit,
+        local: c.local,
+    })
+}
+
+pub fn mark(rng: &mut Rng) -> Case {
+    let l = rng.pick(&[2, 3, 5, 8, 12]);
+    let links = odd_table(rng, l);
+    let mut table = table_of(&links);
+    let mut occ = odd_occupancy(rng, l);
+    if rng.chance(20) {
+        let number = rng.pick(&[0, 1, l as u32 - 1, l as u32, 4_096, 4_097, u32::MAX]);
+        let at = 4 * rng.below(table.len() / 4);
+        put_u32(&mut table, at, number);
+    }
+    if rng.chance(3) {
+        table.truncate(rng.below(table.len()));
+    }
+    if rng.chance(6) {
+        occ.resize(rng.pick(&[0, l - 1, l + 1]), 0);
+    }
+    let link = if rng.chance(8) { rng.pick(&[0, l as u32, u32::MAX]) } else { rng.from(1, l - 1) as u32 };
+    let train = if rng.chance(60) { 0 } else { rng.pick(&[1, 2, 65_535]) };
+    Case::mark(&table, &occ, link, train)
+}
+
+pub fn lay_out(rng: &mut Rng) -> Case {
+    let (e, l) = (rng.from(1, 12), rng.pick(&[2, 6, 20, 60]));
+    let w = odds(rng);
+    let mut est = odd_net(rng, e, l, w);
+    if rng.chance(50) {
+        // links apart, so that none repeats
+        let mut numbers: Vec<u32> = (1..60).collect();
+        rng.shuffle(&mut numbers);
+        est.iter_mut().enumerate().filter(|(_, x)| x.kind == ARRIVE).for_each(|(i, x)| x.link = numbers[i]);
+    }
+    let mut bytes = est_bytes(&est);
+    let mut q = rng.pick(&[2, 3, 10]);
+    let mut size = image_size(e, q);
+    let (mut train, mut l) = (rng.pick(&[1, 5, 65_535]), l.max(60));
+    let mut settings = [rng.pick(&[0.0, -0.0, 100.0, 1e12]), rng.pick(&[0.0, 5.0, 1e12])];
+    let at = RECORD * rng.below(e);
+    match rng.below(30) {
+        0 => train = 0,
+        1 => q = rng.pick(&[0, 1, 1_025]),
+        2 => l = rng.pick(&[0, 1, 4_001]),
+        3 => size = rng.pick(&[0, size - 1, size + 1]),
+        4 => bytes[at + 28] = 3,
+        5 => bytes[at + 29 + rng.below(3)] = 1,
+        6 => put_f64(&mut bytes, at, rng.pick(&[f64::NAN, f64::INFINITY, 2e12, -2e12, 1e12, -1e12])),
+        7 => put_u32(&mut bytes, at + 8 + 4 * rng.below(4), rng.pick(&[e as u32, u32::MAX])),
+        8 => put_u32(&mut bytes, at + 24, rng.pick(&[0, l as u32, l as u32 - 1])),
+        9 => settings[rng.below(2)] = rng.pick(&[f64::NAN, f64::INFINITY, -1.0, 2e12, -0.0]),
+        10 | 11 => put_u32(&mut bytes, at + 8 + 4 * rng.below(2), rng.below(e) as u32),
+        12 => bytes.truncate(rng.below(bytes.len())),
+        _ => {}
+    }
+    let image: Vec<u8> = (0..size).map(|i| i as u8 | 1).collect();
+    Case::lay_out(&bytes, train, settings[0], settings[1], q as u32, l as u32, &image)
+}
+
+pub fn update(rng: &mut Rng) -> Case {
+    let mut c = match rng.below(10) {
+        0..=5 => odd_update(rng),
+        6..=7 => twin_update(rng),
+        8 => dense(rng),
+        _ => {
+            let mut c = odd_update(rng);
+            c.image = damaged(rng, &c.image, c.occ.len());
+            c
+        }
+    };
+    if rng.chance(4) {
+        wrong_arguments(rng, &mut c);
+    }
+    of_update(&c)
+}
+
+/// A dense net of middle size.
+pub fn dense(rng: &mut Rng) -> UpdateCase {
+    let (e, l) = (rng.from(10, 50), rng.from(10, 60));
+    dense_update(rng, e, l)
+}
+
+pub fn wrong_arguments(rng: &mut Rng, c: &mut UpdateCase) {
+    let l = c.occ.len();
+    match rng.below(6) {
+        0 => c.occ.resize(rng.pick(&[0, 1, 4_001]), 0),
+        1 => c.blocking.push(rng.pick(&[l as u32, l as u32 + 1, u32::MAX])),
+        2 => c.blocking = vec![1; rng.pick(&[4_000, 4_001])],
+        3 => c.moved = 0,
+        4 => c.limit = 0,
+        _ => c.blocking.push(l as u32 - 1),
+    }
+}
+
+pub fn check(rng: &mut Rng) -> Case {
+    let (c, report) = if rng.chance(25) {
+        damaged_check(rng)
+    } else {
+        let c = odd_check(rng);
+        let len = 16 * u32_at(&c.yard, 4) as usize;
+        (c, len)
+    };
+    of_check(&c, &vec![0xA5; report])
+}
+
+/// A check in a run of a tidy yard.
+pub fn tidy(rng: &mut Rng) -> Case {
+    let (sections, trains, moves) = (rng.from(1, 6), rng.from(1, 4), rng.from(1, 25));
+    let mut last = None;
+    tidy_run(rng, sections, trains, moves, |c| last = Some(c.clone()));
+    match last {
+        Some(c) => of_check(&c, &vec![0xA5; 16 * trains]),
+        None => tidy(rng),
+    }
+}
+
+pub fn sheet(rng: &mut Rng) -> Case {
+    let c = if rng.chance(25) { damaged_check(rng).0 } else { odd_check(rng) };
+    let mut b = bundle_of_check(&c);
+    match rng.below(12) {
+        0 => put_u32(&mut b, 4 * rng.below(6), rng.pick(&[0, 31, 32, 33, 40, u32::MAX])),
+        1 => put_u16(&mut b, 24 + 2 * rng.below(4), rng.pick(&[0, 1, 2, u16::MAX])),
+        2 => b.truncate(rng.below(b.len())),
+        3 => b.push(0),
+        _ => {}
+    }
+    Case::sheet(&b)
+}
+
+/// A case of any operation.
+pub fn any(rng: &mut Rng) -> Case {
+    match rng.below(100) {
+        0..=9 => mark(rng),
+        10..=19 => lay_out(rng),
+        20..=74 => update(rng),
+        75..=89 => check(rng),
+        90..=91 => tidy(rng),
+        _ => sheet(rng),
+    }
+}
+
+pub fn by_name(name: &str, rng: &mut Rng) -> Option<Case> {
+    Some(match name {
+        "mark" => mark(rng),
+        "layout" => lay_out(rng),
+        "update" => update(rng),
+        "large" => of_update(&large_update(rng)),
+        "check" => check(rng),
+        "tidy" => tidy(rng),
+        "sheet" => sheet(rng),
+        "any" => any(rng),
+        _ => return None,
+    })
+}

@@ -1,0 +1,204 @@
+//! Cases as bytes: arguments, input buffers and the answer of one call.
+//! README.md describes the format.
+
+use crate::layout::*;
+use crate::model::{self, CheckArgs, Checked, Outcome};
+
+pub const MARK: u32 = 1;
+pub const LAY_OUT: u32 = 2;
+pub const UPDATE: u32 = 3;
+pub const CHECK: u32 = 4;
+pub const SHEET: u32 = 5;
+
+const HEAD: usize = 104;
+/// The length of an output buffer that is as its input was.
+const UNCHANGED: u32 = u32::MAX;
+
+#[derive(Clone, Debug, Default, PartialEq)]
+pub struct Case {
+    pub op: u32,
+    pub tag: u32,
+    pub line: u32,
+    pub args: [u32; 8],
+    pub ins: [Vec<u8>; 4],
+    pub answer: [u32; 8],
+    pub outs: [Vec<u8>; 2],
+}
+
+/// The input that an output buffer was before the call: its index, by operation.
+fn before(op: u32) -> [Option<usize>; 2] {
+    match op {
+        MARK => [Some(1), None],
+        LAY_OUT => [Some(1), None],
+        UPDATE => [Some(0), None],
+        CHECK => [Some(0), Some(3)],
+        _ => [None, None],
+    }
+}
+
+impl Case {
+    pub fn mark(table: &[u8], occ: &[u16], link: u32, train: u16) -> Case {
+        let ins = [table.to_vec(), u16_bytes(occ), vec![], vec![]];
+        Case { op: MARK, args: [link, train as u32, 0, 0, 0, 0, 0, 0], ins, ..Case::default() }
+    }
+
+    pub fn lay_out(est: &[u8], train: u16, search: f64, fixed: f64, q: u32, l: u32, image: &[u8]) -> Case {
+        let (s, f) = (search.to_bits(), fixed.to_bits());
+        let args = [train as u32, q, l, s as u32, (s >> 32) as u32, f as u32, (f >> 32) as u32, 0];
+        Case { op: LAY_OUT, args, ins: [est.to_vec(), image.to_vec(), vec![], vec![]], ..Case::default() }
+    }
+
+    pub fn update(image: &[u8], occ: &[u16], blocking: &[u32], moved: u16, local: bool, limit: u16) -> Case {
+        let ins = [image.to_vec(), u16_bytes(occ), u32_bytes(blocking), vec![]];
+        let args = [moved as u32, local as u32, limit as u32, 0, 0, 0, 0, 0];
+        Case { op: UPDATE, args, ins, ..Case::default() }
+    }
+
+    pub fn check(yard: &[u8], a: &CheckArgs, report: &[u8]) -> Case {
+        let ins = [yard.to_vec(), u16_bytes(a.occ), u32_bytes(a.blocking), report.to_vec()];
+        let args = [a.moved as u32, a.begin, a.local as u32, a.limit as u32, 0, 0, 0, 0];
+        Case { op: CHECK, args, ins, ..Case::default() }
+    }
+
+    pub fn sheet(bundle: &[u8]) -> Case {
+        Case { op: SHEET, ins: [bundle.to_vec(), vec![], vec![], vec![]], ..Case::default() }
+    }
+
+    pub fn tagged(mut self, tag: u32) -> Case {
+        self.tag = tag;
+        self
+    }
+
+    /// Fills in the oracle's answer.
+    pub fn answered(mut self) -> Case {
+        self.answer = [0; 8];
+        self.line = 0;
+        match self.op {
+            MARK => self.answer_mark(),
+            LAY_OUT => self.answer_lay_out(),
+            UPDATE => self.answer_update(),
+            CHECK => self.answer_check(),
+            SHEET => self.outs = [model::sheet(&self.ins[0]).into_bytes(), vec![]],
+            op => panic!("no operation {op}"),
+        }
+        self
+    }
+
+    fn put_plain(&mut self, r: Result<(), Refusal>) {
+        if let Err(r) = r {
+            self.answer[0] = r.number as u32;
+            self.answer[1] = r.place;
+        }
+    }
+
+    fn answer_mark(&mut self) {
+        let mut occ = u16s(&self.ins[1]);
+        let r = model::mark(&self.ins[0], &mut occ, self.args[0], self.args[1] as u16);
+        self.put_plain(r);
+        self.outs = [u16_bytes(&occ), vec![]];
+    }
+
+    fn answer_lay_out(&mut self) {
+        let float = |lo: u32, hi: u32| f64::from_bits(lo as u64 | (hi as u64) << 32);
+        let a = self.args;
+        let mut image = self.ins[1].clone();
+        let (search, fixed) = (float(a[3], a[4]), float(a[5], a[6]));
+        let r = model::lay_out(&self.ins[0], a[0] as u16, search, fixed, a[1], a[2], &mut image);
+        self.put_plain(r);
+        self.outs = [image, vec![]];
+    }
+
+    fn answer_update(&mut self) {
+        let a = self.args;
+        let mut image = self.ins[0].clone();
+        let (occ, blocking) = (u16s(&self.ins[1]), u32s(&self.ins[2]));
+        let u = model::update(&mut image, &occ, &blocking, a[0] as u16, a[1] != 0, a[2] as u16);
+        let (kind, number, place, faults) = match u.outcome {
+            Outcome::Success => (0, 0, 0, 0),
+            Outcome::Blocked => (1, 0, 0, 0),
+            Outcome::Faulty(n) => (2, 0, 0, n),
+            Outcome::Refused(r) => (3, r.number as u32, r.place, 0),
+        };
+        self.answer = [kind, number, place, faults, u.rounds, u.strays, 0, 0];
+        self.line = u.line;
+        self.outs = [image, vec![]];
+    }
+
+    fn answer_check(&mut self) {
+        let a = self.args;
+        let mut yard = self.ins[0].clone();
+        let mut report = self.ins[3].clone();
+        let (occ, blocking) = (u16s(&self.ins[1]), u32s(&self.ins[2]));
+        let args = CheckArgs {
+            occ: &occ,
+            blocking: &blocking,
+            moved: a[0] as u16,
+            begin: a[1],
+            local: a[2] != 0,
+            limit: a[3] as u16,
+        };
+        self.answer = match model::check(&mut yard, &args, &mut report) {
+            Checked::Done { deadlock, next } => [0, 0, 0, 0, deadlock as u32, next, 0, 0],
+            Checked::Erred(n) => [1, 0, 0, n, 0, 0, 0, 0],
+            Checked::Refused(r) => [2, r.number as u32, r.place, 0, 0, 0, 0, 0],
+        };
+        self.outs = [yard, report];
+    }
+
+    pub fn write(&self, out: &mut Vec<u8>) {
+        let start = out.len();
+        let mut word = |n: u32| out.extend(n.to_le_bytes());
+        let same = |i: usize| before(self.op)[i].is_some_and(|j| self.ins[j] == self.outs[i]);
+        word(0);
+        word(self.op);
+        word(self.tag);
+        word(self.line);
+        self.args.iter().for_each(|&n| word(n));
+        self.ins.iter().for_each(|b| word(b.len() as u32));
+        self.answer.iter().for_each(|&n| word(n));
+        (0..2).for_each(|i| word(if same(i) { UNCHANGED } else { self.outs[i].len() as u32 }));
+        self.ins.iter().for_each(|b| out.extend(b));
+        (0..2).filter(|&i| !same(i)).for_each(|i| out.extend(&self.outs[i]));
+        let size = (out.len() - start) as u32;
+        put_u32(out, start, size);
+    }
+
+    /// Reads the case at the start of the bytes, and its size.
+    pub fn read(b: &[u8]) -> Option<(Case, usize)> {
+        if b.len() < HEAD {
+            return None;
+        }
+        let word = |i: usize| u32_at(b, 4 * i);
+        let size = word(0) as usize;
+        let mut case = Case { op: word(1), tag: word(2), line: word(3), ..Case::default() };
+        (0..8).for_each(|i| case.args[i] = word(4 + i));
+        (0..8).for_each(|i| case.answer[i] = word(16 + i));
+        let mut at = HEAD;
+        let mut part = |len: usize| {
+            at += len;
+            b.get(at - len..at).map(<[u8]>::to_vec)
+        };
+        for i in 0..4 {
+            case.ins[i] = part(word(12 + i) as usize)?;
+        }
+        for i in 0..2 {
+            case.outs[i] = match (word(24 + i), before(case.op)[i]) {
+                (UNCHANGED, Some(j)) => case.ins[j].clone(),
+                (len, _) => part(len as usize)?,
+            };
+        }
+        (at == size).then_some((case, size))
+    }
+}
+
+/// All cases of a file.
+pub fn read_all(b: &[u8]) -> Vec<Case> {
+    let mut cases = vec![];
+    let mut at = 0;
+    while at < b.len() {
+        let (case, size) = Case::read(&b[at..]).expect("a whole case");
+        cases.push(case);
+        at += size;
+    }
+    cases
+}

@@ -1,0 +1,333 @@
+//! A fuzz of demand 3: lists of calls over a yard and over the same yard with
+//! links and trains renumbered, compared as document 01's Matching says.
+
+use crate::gen::odd_blocking;
+use crate::layout::*;
+use crate::model::{self, CheckArgs, Checked};
+use crate::rng::Rng;
+use crate::yards::*;
+use std::fmt::Write;
+
+/// Which premises are asked of a check that is not refused.
+#[derive(Clone, Copy)]
+pub struct Premises {
+    pub begin: bool,
+    pub entry_zero: bool,
+    pub strays: bool,
+}
+
+pub const ALL: Premises = Premises { begin: true, entry_zero: true, strays: true };
+
+/// Links permuted within 1 to L - 1; trains 1 to S among themselves, the others turned round.
+struct Renumbering {
+    links: Vec<u32>,
+    slots: Vec<u16>,
+    turn: u32,
+}
+
+impl Renumbering {
+    fn new(rng: &mut Rng, l: usize, s: usize) -> Self {
+        let mut links: Vec<u32> = (0..l as u32).collect();
+        let mut slots: Vec<u16> = (0..=s as u16).collect();
+        match rng.below(3) {
+            0 => {
+                let (a, b) = (rng.from(1, l - 1), rng.from(1, l - 1));
+                links.swap(a, b);
+            }
+            _ => rng.shuffle(&mut links[1..]),
+        }
+        if rng.chance(70) {
+            rng.shuffle(&mut slots[1..]);
+        }
+        let turn = if rng.chance(50) { 0 } else { rng.below(65_535 - s) as u32 };
+        Renumbering { links, slots, turn }
+    }
+    fn link(&self, n: u32) -> u32 {
+        self.links.get(n as usize).copied().unwrap_or(n)
+    }
+    fn train(&self, n: u16) -> u16 {
+        let s = self.slots.len() as u32 - 1;
+        match self.slots.get(n as usize) {
+            Some(&m) => m,
+            None => (s + 1 + (n as u32 - s - 1 + self.turn) % (65_535 - s)) as u16,
+        }
+    }
+
+    fn table(&self, table: &[u8]) -> Vec<u8> {
+        let old = read_table(table).unwrap();
+        let mut new = vec![LinkRecord::default(); old.len()];
+        for (i, x) in old.iter().enumerate() {
+            new[self.link(i as u32) as usize] = LinkRecord {
+                flip: self.link(x.flip),
+                lockouts: x.lockouts.iter().map(|&y| self.link(y)).collect(),
+            };
+        }
+        table_of(&new)
+    }
+
+    fn occupancy(&self, occ: &[u16]) -> Vec<u16> {
+        let mut new = vec![0; occ.len()];
+        for (i, &t) in occ.iter().enumerate() {
+            new[self.link(i as u32) as usize] = self.train(t);
+        }
+        new
+    }
+
+    fn image(&self, image: &[u8], l: usize) -> Vec<u8> {
+        let mut t = read_image(image, l).expect("an accepted yard stays accepted");
+        t.train = self.train(t.train);
+        t.est.iter_mut().for_each(|x| x.link = self.link(x.link));
+        t.path.iter_mut().for_each(|x| x.link = self.link(x.link));
+        t.div.iter_mut().for_each(|d| d.train = self.train(d.train));
+        image_of(&t)
+    }
+
+    /// The images of the renumbered yard, by slot.
+    fn images(&self, yard: &[u8], l: usize) -> Vec<Vec<u8>> {
+        let parts = read_yard(yard).unwrap();
+        let mut images = vec![vec![]; parts.len()];
+        for (i, part) in parts.into_iter().enumerate() {
+            images[self.train(i as u16 + 1) as usize - 1] = self.image(&yard[part], l);
+        }
+        images
+    }
+
+    fn yard(&self, y: &Yard) -> Yard {
+        Yard {
+            table: self.table(&y.table),
+            occ: self.occupancy(&y.occ),
+            yard: yard_of(&self.images(&y.yard, y.occ.len())),
+        }
+    }
+}
+
+#[derive(Clone, Debug)]
+enum Call {
+    Mark { link: u32, train: u16 },
+    Check { blocking: Vec<u32>, moved: u16, begin: u32, local: bool, limit: u16, report: usize },
+}
+
+fn call_of(rng: &mut Rng, y: &Yard, premises: &Premises) -> Call {
+    let (l, s) = (y.occ.len(), y.slots());
+    if rng.chance(55) {
+        let link = if rng.chance(3) { rng.pick(&[0, l as u32, u32::MAX]) } else { rng.from(1, l - 1) as u32 };
+        let train = match rng.below(10) {
+            0..=3 => 0,
+            4..=8 => rng.from(1, s + 2) as u16,
+            _ => rng.from(1, 65_535) as u16,
+        };
+        return Call::Mark { link, train };
+    }
+    let mut blocking: Vec<u32> = match rng.below(10) {
+        0 => y.train(rng.from(1, s)).map_or(vec![], |t| odd_blocking(rng, &t, &y.occ)),
+        1 if !premises.strays => vec![],
+        _ => (1..l as u32).filter(|&i| y.occ[i as usize] != 0).collect(),
+    };
+    for _ in 0..rng.pick(&[0, 0, 1, 2]) {
+        blocking.push(rng.below(l) as u32);
+    }
+    if rng.chance(2) {
+        blocking.push(l as u32 + rng.below(3) as u32);
+    }
+    rng.shuffle(&mut blocking);
+    Call::Check {
+        blocking,
+        moved: if rng.chance(3) { rng.pick(&[0, s as u16 + 1, 60_000]) } else { rng.from(1, s) as u16 },
+        begin: if premises.begin && !rng.chance(2) { 1 } else { rng.from(0, s + 2) as u32 },
+        local: rng.chance(50),
+        limit: rng.pick(&[0, 1, 3, 20, 20, 20, 20, 20, 20, 20]),
+        report: if rng.chance(1) { 16 * s + 1 } else { 16 * s },
+    }
+}
+
+fn renumbered(rng: &mut Rng, r: &Renumbering, c: &Call) -> Call {
+    match c {
+        Call::Mark { link, train } => Call::Mark { link: r.link(*link), train: r.train(*train) },
+        Call::Check { blocking, moved, begin, local, limit, report } => {
+            let mut blocking: Vec<u32> = blocking.iter().map(|&b| r.link(b)).collect();
+            rng.shuffle(&mut blocking);
+            Call::Check {
+                blocking,
+                moved: r.train(*moved),
+                begin: *begin,
+                local: *local,
+                limit: *limit,
+                report: *report,
+            }
+        }
+    }
+}
+
+#[derive(Debug, PartialEq)]
+enum Answer {
+    Marked(Result<(), Refusal>),
+    Checked(Checked, Vec<u8>),
+}
+
+fn run(y: &mut Yard, c: &Call) -> Answer {
+    match c {
+        Call::Mark { link, train } => Answer::Marked(model::mark(&y.table, &mut y.occ, *link, *train)),
+        Call::Check { blocking, moved, begin, local, limit, report } => {
+            let mut report = vec![0; *report];
+            let args = CheckArgs {
+                occ: &y.occ,
+                blocking,
+                moved: *moved,
+                begin: *begin,
+                local: *local,
+                limit: *limit,
+            };
+            let checked = model::check(&mut y.yard, &args, &mut report);
+            Answer::Checked(checked, report)
+        }
+    }
+}
+
+/// Does the second answer match the first? The next begin is not compared.
+fn match_answers(r: &Renumbering, a: &Answer, b: &Answer) -> bool {
+    let (Answer::Checked(x, rows), Answer::Checked(y, other)) = (a, b) else { return a == b };
+    let same = match (x, y) {
+        (Checked::Done { deadlock: p, .. }, Checked::Done { deadlock: q, .. }) => p == q,
+        _ => x == y,
+    };
+    if !same || matches!(x, Checked::Refused(_)) {
+        return same;
+    }
+    (0..rows.len() / 16).all(|i| {
+        let mut row = model::row_at(rows, i);
+        row.holder = r.train(row.holder);
+        row == model::row_at(other, r.train(i as u16 + 1) as usize - 1)
+    })
+}
+
+fn match_states(r: &Renumbering, a: &Yard, b: &Yard) -> bool {
+    let parts = read_yard(&b.yard).unwrap();
+    let images = r.images(&a.yard, a.occ.len());
+    r.occupancy(&a.occ) == b.occ && parts.iter().zip(&images).all(|(p, i)| &b.yard[p.clone()] == &i[..])
+}
+
+/// Are the premises met at this check? `occ` is what the check found.
+fn premises_met(p: &Premises, c: &Call, a: &Answer, occ: &[u16]) -> bool {
+    let (Call::Check { begin, .. }, Answer::Checked(x, rows)) = (c, a) else { return true };
+    if matches!(x, Checked::Refused(_)) {
+        return true;
+    }
+    let strays = (0..rows.len() / 16).any(|i| model::row_at(rows, i).strays != 0);
+    (!p.begin || *begin == 1) && (!p.entry_zero || occ[0] == 0) && (!p.strays || !strays)
+}
+
+fn start(rng: &mut Rng) -> Yard {
+    if rng.chance(15) {
+        let (sections, slots) = (rng.from(2, 5), rng.from(2, 4));
+        let mut y = tidy_yard(rng, sections, slots);
+        for _ in 0..rng.from(1, 12) {
+            let slot = rng.from(1, slots);
+            y.advance(rng, slot);
+        }
+        return y;
+    }
+    loop {
+        let small = rng.chance(40);
+        let (slots, l) = (rng.from(1, if small { 2 } else { 4 }), rng.pick(&[4, 8, 24, 40, 60]));
+        let mut y = odd_yard(rng, slots, if small { 5 } else { 14 }, l);
+        if rng.chance(95) {
+            let mut links = read_table(&y.table).unwrap();
+            for x in &mut links {
+                x.flip = x.flip.max(1);
+                x.lockouts.iter_mut().for_each(|k| *k = (*k).max(1));
+            }
+            y.table = table_of(&links);
+        }
+        if (1..=slots).all(|s| y.train(s).is_some()) {
+            return y;
+        }
+    }
+}
+
+#[derive(Default)]
+pub struct Tally {
+    pub lists: u64,
+    pub calls: u64,
+    pub checks: u64,
+    pub counterexamples: u64,
+    pub smallest: Option<(usize, String)>,
+}
+
+/// One list of calls. It ends where a premise is not met, or at a counterexample.
+fn list(rng: &mut Rng, p: &Premises, tally: &mut Tally) {
+    let mut first = start(rng);
+    match p.entry_zero {
+        true if rng.chance(98) => first.occ[0] = 0,
+        false if rng.chance(50) => first.occ[0] = 5,
+        _ => {}
+    }
+    let r = Renumbering::new(rng, first.occ.len(), first.slots());
+    let mut second = r.yard(&first);
+    tally.lists += 1;
+    for _ in 0..rng.from(1, 6) {
+        let before = first.clone();
+        let call = call_of(rng, &first, p);
+        let other = renumbered(rng, &r, &call);
+        let (a, b) = (run(&mut first, &call), run(&mut second, &other));
+        if !premises_met(p, &call, &a, &before.occ) {
+            return;
+        }
+        tally.calls += 1;
+        if matches!(a, Answer::Checked(ref x, _) if !matches!(x, Checked::Refused(_))) {
+            tally.checks += 1;
+        }
+        if !match_answers(&r, &a, &b) || !match_states(&r, &first, &second) {
+            counterexample(tally, &before, &r, &call, &a, &b);
+            return;
+        }
+    }
+}
+
+fn counterexample(tally: &mut Tally, y: &Yard, r: &Renumbering, c: &Call, a: &Answer, b: &Answer) {
+    tally.counterexamples += 1;
+    let size = y.yard.len() + y.occ.len();
+    if tally.smallest.as_ref().is_some_and(|(s, _)| *s <= size) {
+        return;
+    }
+    let mut text = String::new();
+    for slot in 1..=y.slots() {
+        let t = y.train(slot).unwrap();
+        let path: Vec<String> = t
+            .path
+            .iter()
+            .map(|x| format!("{}{}", ["Arrive ", "Clear ", "Fake "][x.kind as usize], x.link))
+            .collect();
+        let _ = writeln!(text, "  slot {slot}: path {}; fixed {} free {}", path.join(", "), t.fixed, t.free);
+    }
+    let held: Vec<String> =
+        (0..y.occ.len()).filter(|&i| y.occ[i] != 0).map(|i| format!("{i}:{}", y.occ[i])).collect();
+    let _ = writeln!(text, "  L {}; held {}", y.occ.len(), held.join(" "));
+    let moved: Vec<String> = (0..r.links.len())
+        .filter(|&i| r.links[i] != i as u32)
+        .map(|i| format!("{i}>{}", r.links[i]))
+        .collect();
+    let _ = writeln!(text, "  links {}; slots {:?}; {c:?}", moved.join(" "), &r.slots[1..]);
+    let _ = writeln!(text, "  answers {a:?}\n      and {b:?}");
+    tally.smallest = Some((size, text));
+}
+
+pub fn fuzz(seed: u64, lists: u64, p: &Premises) -> Tally {
+    let mut rng = Rng::new(seed);
+    let mut tally = Tally::default();
+    while tally.lists < lists {
+        list(&mut rng, p, &mut tally);
+    }
+    tally
+}
+
+impl Tally {
+    pub fn print(&self, name: &str) {
+        println!(
+            "{name}: {} lists, {} calls and of them {} checks compared, {} counterexamples",
+            self.lists, self.calls, self.checks, self.counterexamples
+        );
+        if let Some((_, text)) = &self.smallest {
+            print!("the smallest:\n{text}");
+        }
+    }
+}

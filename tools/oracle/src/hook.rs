@@ -1,0 +1,159 @@
+//! What the hooked text calls: rounds, strays, room (11), the round limit (12),
+//! and the counters of branches. A refusal unwinds with `Refused`.
+
+use crate::shims::si;
+use crate::text::structs::{DispNode, EstType, TrainIdx};
+use std::cell::{Cell, RefCell};
+
+pub const POOL_ROOM: usize = 2_048;
+pub const OFFSET_ROOM: f64 = 1e12;
+
+/// The payload of a refusal.
+pub struct Refused(pub u8);
+
+/// What an update counts, and the limits that it is held to.
+#[derive(Default, Clone)]
+pub struct Run {
+    pub limit: u32,
+    pub diverge_room: usize,
+    /// For each link whether it is in the blocking list and on an Arrive node of the starting path.
+    pub known: Vec<bool>,
+    pub rounds: u32,
+    pub strays: u32,
+    /// Which limit refused, for the figures.
+    pub cause: &'static str,
+    /// The longest pool and diverge list met, for the figures.
+    pub pool_most: usize,
+    pub diverge_most: usize,
+    /// Entries into the search loop in this round, and the most in a round.
+    pub entries: usize,
+    pub entries_most: usize,
+}
+
+const BRANCH_ROOM: usize = 256;
+
+thread_local! {
+    static RUN: RefCell<Run> = RefCell::new(Run::default());
+    static TAKEN: [Cell<u64>; BRANCH_ROOM] = const { [const { Cell::new(0) }; BRANCH_ROOM] };
+    static PASSED: [Cell<u64>; BRANCH_ROOM] = const { [const { Cell::new(0) }; BRANCH_ROOM] };
+}
+
+pub fn begin(run: Run) {
+    RUN.with(|r| *r.borrow_mut() = run);
+}
+
+pub fn state() -> Run {
+    RUN.with(|r| r.borrow().clone())
+}
+
+pub fn rounds_and_strays() -> (u32, u32) {
+    RUN.with(|r| {
+        let r = r.borrow();
+        (r.rounds, r.strays)
+    })
+}
+
+fn refuse(number: u8, cause: &'static str) -> ! {
+    RUN.with(|r| r.borrow_mut().cause = cause);
+    std::panic::resume_unwind(Box::new(Refused(number)))
+}
+
+/// The top of the outer loop.
+pub fn round() {
+    let due = RUN.with(|r| {
+        let mut r = r.borrow_mut();
+        if r.rounds == r.limit {
+            return true;
+        }
+        r.rounds += 1;
+        r.entries = 0;
+        false
+    });
+    if due {
+        refuse(12, "limit");
+    }
+}
+
+/// The top of the search loop.
+pub fn entry() {
+    RUN.with(|r| {
+        let mut r = r.borrow_mut();
+        r.entries += 1;
+        r.entries_most = r.entries_most.max(r.entries);
+    });
+}
+
+/// Strays at the start of an update and after a round that did not end Blocked.
+pub fn count(path: &[DispNode], free: usize, links_blocked: &[TrainIdx]) {
+    RUN.with(|r| {
+        let mut r = r.borrow_mut();
+        let n = path[free..]
+            .iter()
+            .filter(|x| x.link_event.est_type == EstType::Arrive)
+            .map(|x| x.link_event.link_idx.idx())
+            .filter(|&l| links_blocked[l].is_some() && !r.known[l])
+            .count();
+        r.strays += n as u32;
+    });
+}
+
+pub fn pool(len: usize) {
+    RUN.with(|r| {
+        let mut r = r.borrow_mut();
+        r.pool_most = r.pool_most.max(len);
+    });
+    if len > POOL_ROOM {
+        refuse(11, "pool");
+    }
+}
+
+pub fn diverge(len: usize) {
+    diverge_room(len, "diverge list")
+}
+
+pub fn diverge_new(len: usize) {
+    diverge_room(len, "new diverge list")
+}
+
+fn diverge_room(len: usize, cause: &'static str) {
+    let full = RUN.with(|r| {
+        let mut r = r.borrow_mut();
+        r.diverge_most = r.diverge_most.max(len);
+        len > r.diverge_room
+    });
+    if full {
+        refuse(11, cause);
+    }
+}
+
+pub fn offset(x: si::Length) {
+    offset_room(x, "pushed offset")
+}
+
+pub fn offsets(path: &[DispNode]) {
+    path.iter().for_each(|x| offset_room(x.offset, "shifted offset"));
+}
+
+fn offset_room(x: si::Length, cause: &'static str) {
+    if x.0.abs() > OFFSET_ROOM {
+        refuse(11, cause);
+    }
+}
+
+pub fn hit(id: usize) {
+    TAKEN.with(|t| t[id].set(t[id].get() + 1));
+}
+
+pub fn cond(id: usize, value: bool) -> bool {
+    if value {
+        hit(id);
+    } else {
+        PASSED.with(|p| p[id].set(p[id].get() + 1));
+    }
+    value
+}
+
+/// How often a branch was taken, and a condition false.
+pub fn counts(id: usize) -> (u64, u64) {
+    (TAKEN.with(|t| t[id].get()), PASSED.with(|p| p[id].get()))
+}

@@ -1,0 +1,19 @@
+//! The Rust oracle of the free path core: the original text of ALTRIOS, and
+//! around it the layouts and refusals of document 01.
+//!
+//! `model` holds one function for each operation; other programs may link it.
+
+pub mod calls;
+pub mod cases;
+pub mod demand3;
+pub mod figures;
+pub mod gen;
+pub mod hook;
+pub mod layout;
+pub mod model;
+pub mod record;
+pub mod rng;
+pub mod selftest;
+pub mod shims;
+pub mod text;
+pub mod yards;

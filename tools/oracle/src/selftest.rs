@@ -1,0 +1,99 @@
+//! Document 01's examples, run on the original text.
+
+use crate::layout::*;
+use crate::model;
+use crate::shims::{utils, IntSet};
+use crate::text::plain::free_path::{concat_train_idx_views, LinkOptType};
+use crate::text::structs::*;
+use std::num::NonZeroU16;
+
+fn class(list: &[u32], path: &[u32]) -> String {
+    let list: Vec<LinkIdx> = list.iter().map(|&n| LinkIdx::new(n)).collect();
+    let path: IntSet<LinkIdx> = path.iter().map(|&n| LinkIdx::new(n)).collect();
+    match LinkOptType::new(&list, &path) {
+        LinkOptType::None => "None".into(),
+        LinkOptType::Single(l) => format!("Single {}", l.idx()),
+        LinkOptType::Range(min, span) => format!("Range {min} {span}"),
+        LinkOptType::Check => "Check".into(),
+    }
+}
+
+fn union(pool: &[u16], a: (u32, u32), b: (u32, u32)) -> String {
+    let mut pool: Vec<TrainIdx> = pool.iter().map(|&n| NonZeroU16::new(n)).collect();
+    let v = concat_train_idx_views(&mut pool, &TrainIdxsView::new(a.0, a.1), &TrainIdxsView::new(b.0, b.1));
+    let pool: Vec<String> = pool.iter().map(|t| t.idx().to_string()).collect();
+    format!("{} view {} {}", pool.join(","), v.idx_begin, v.idx_end)
+}
+
+/// P9 and P10: the lockouts of link 5; link 4 is released, and entry 5 read.
+pub fn release_table(of_five: &[u32]) -> Vec<u8> {
+    let mut links = vec![LinkRecord::default(); 8];
+    links[4] = LinkRecord { flip: 7, lockouts: vec![5] };
+    links[5] = LinkRecord { flip: 0, lockouts: of_five.to_vec() };
+    table_of(&links)
+}
+
+pub fn release_occupancy() -> Vec<u16> {
+    vec![0, 0, 0, 0, 0, 0, 9, 0]
+}
+
+fn release(of_five: &[u32]) -> String {
+    let mut occ = release_occupancy();
+    model::mark(&release_table(of_five), &mut occ, 4, 0).unwrap();
+    format!("entry 5 is {}", occ[5])
+}
+
+/// The example of the sheet.
+pub fn sheet_bundle() -> Vec<u8> {
+    let image = |train: u16| {
+        let link = train as u32;
+        let est =
+            |next, prev, link, kind| Est { dist_to_next: 0.0, next, alt: 0, prev, prev_alt: 0, link, kind };
+        let est = [est(1, 0, 0, FAKE), est(2, 0, link, ARRIVE), est(0, 1, link, CLEAR)];
+        let mut image = vec![0; image_size(3, 2)];
+        model::lay_out(&est_bytes(&est), train, 0.0, 0.0, 2, 3, &mut image).unwrap();
+        image
+    };
+    bundle_of(&Bundle {
+        occupancy: vec![0; 3],
+        blocking: vec![],
+        yard: &yard_of(&[image(1), image(2)]),
+        moved: 2,
+        begin: 1,
+        limit: 1,
+        local: false,
+    })
+}
+
+pub const SHEET: &str = "yard 2 deadlock no next 1\n1 success 1 0 0 0 0\n2 moved 0 0 0 0 0\n";
+
+/// Each example with its value and what document 01 says.
+fn examples() -> Vec<(&'static str, String, &'static str)> {
+    let near = |a: f64, b: f64| if utils::near(a, b) { "yes" } else { "no" }.to_string();
+    vec![
+        ("P1", class(&[], &[3, 5]), "None"),
+        ("P2", class(&[5], &[3, 5]), "Single 5"),
+        ("P3", class(&[5, 5], &[3, 5]), "Range 5 0"),
+        ("P4", class(&[3, 19], &[3, 19]), "Range 3 16"),
+        ("P5", class(&[3, 20], &[3, 20]), "Check"),
+        ("P6", class(&[7], &[3]), "None"),
+        ("P7", union(&[0, 4, 7], (1, 2), (2, 3)), "0,4,7,4 view 2 4"),
+        ("P8", union(&[0, 4, 4], (1, 2), (2, 3)), "0,4,4 view 2 3"),
+        ("P9", release(&[4, 6]), "entry 5 is 9"),
+        ("P10", release(&[6]), "entry 5 is 0"),
+        ("P11", near(1_000_000.0, 1_000_000.0078125), "yes"),
+        ("P12", near(0.0, 1e-8), "no"),
+        ("sheet", model::sheet(&sheet_bundle()), SHEET),
+    ]
+}
+
+/// Prints each example; true where all are as document 01 says.
+pub fn run() -> bool {
+    let mut ok = true;
+    for (name, is, should) in examples() {
+        let good = is == should;
+        ok &= good;
+        println!("{name:<6}{} {}", if good { "ok   " } else { "WRONG" }, is.trim_end().replace('\n', " / "));
+    }
+    ok
+}
