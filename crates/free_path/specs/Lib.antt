@@ -1,0 +1,5 @@
+pub mod Base
+pub mod LinkOptType
+pub mod TrainIdxsView
+pub mod Validate
+pub mod Columns
