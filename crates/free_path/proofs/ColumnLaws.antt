@@ -1,0 +1,130 @@
+-- Columns as lists, a turn at a time as a loop has them. Assumes nothing.
+use mathlib.Core.Path.{_≡_, refl, sym, ap, _∙_}
+use mathlib.Core.Logic.{_⊎_, inl, inr}
+use mathlib.Core.Bool.{Bool, true, false, cond}
+use mathlib.Core.List.{List, [], _∷_, _++_, map}
+use Prim.Native.Nat.{ℕ, zero, suc, _+_, _-_, _^_, _%_, _≤_, _<_}
+use native.Mathlib.Omega.{arith}
+use native.Mathlib.Nat.{eq-or-lt-of-le}
+use native.Mathlib.Numerals.{add-one}
+use lib.ListN.{length-map, List·getD-map, length, getD, drop, set, length-append, List·getD-append, drop-of-length-le}
+use lib.Seq.{drop-cons, getD-at}
+use borrow.Author.Tests.{lt-ltb, le-ltb}
+use Rattle.free_path.specs.Base.{ok, no, at, last, part, passes, walkFrom}
+use Rattle.free_path.specs.LinkOptType.{wrapping, classMore, classWalk}
+use Rattle.free_path.specs.declared.link_opt_type.LinkOptType.{LinkOptType}
+use Rattle.free_path.specs.Columns.{link, links, listed, entries, linkAt, flagLink, flagLinks, ended}
+use Rattle.free_path.proofs.WalkLaws.{at-in, at-out, walk-stop, walk-on, walk-off}
+use Rattle.link_rules.specs.declared.link_idx.LinkIdx.{LinkIdx}
+use Rattle.link_rules.specs.LinkIdx.{noLink}
+
+module _ {A : Type 0} where
+  pub listed-length : (n : ℕ) (f : ℕ → A) → length (listed n f) ≡ n
+  unfolding listed
+  listed-length zero f = refl
+  listed-length (suc n) f = length-append (listed n f) (f n ∷ []) ∙ omega (arith, listed-length n f)
+
+  pub listed-at : (n : ℕ) (f : ℕ → A) (i : ℕ) (d : A) → i < n → getD (listed n f) i d ≡ f i
+  unfolding listed
+  listed-at zero f i d h = absurd (omega arith)
+  listed-at (suc n) f i d h = go (eq-or-lt-of-le h) (listed-at n f i d)
+    where
+      go : (suc i ≡ suc n) ⊎ (suc i < suc n) → (i < n → getD (listed n f) i d ≡ f i) → getD (listed (suc n) f) i d ≡ f i
+      go (inl q) r = let e : i ≡ n = omega arith in rw e (getD-at (listed n f) (f n) [] d n (listed-length n f))
+      go (inr q) r = List·getD-append (listed n f) (f n ∷ []) d i (omega (arith, listed-length n f)) ∙ r (omega arith)
+
+  -- reads, as a definition has them
+  pub listed-read : (n : ℕ) (f : ℕ → A) (i : ℕ) → i < n → at (listed n f) i ≡ ok (f i)
+  listed-read n f i h = at-in (listed n f) i (f i) (omega (arith, listed-length n f)) ∙ ap ok (listed-at n f i (f i) h)
+
+  pub listed-out : (n : ℕ) (f : ℕ → A) (i : ℕ) → n ≤ i → at (listed n f) i ≡ no 13
+  listed-out n f i h = at-out (listed n f) i (omega (arith, listed-length n f))
+
+  pub listed-last : (n : ℕ) (f : ℕ → A) → last (listed (suc n) f) ≡ ok (f n)
+  listed-last n f = rw (listed-length (suc n) f) (listed-read (suc n) f n (omega arith))
+
+  -- a walk or a search from b on, a turn at a time
+  pub listed-from : (n : ℕ) (f : ℕ → A) (b : ℕ) → b < n → drop b (listed n f) ≡ f b ∷ drop (suc b) (listed n f)
+  listed-from n f b h = drop-cons (listed n f) b (f b) (omega (arith, listed-length n f)) ∙ ap (λ (x : A). x ∷ drop (suc b) (listed n f)) (listed-at n f b (f b) h)
+
+  pub listed-end : (n : ℕ) (f : ℕ → A) (b : ℕ) → n ≤ b → drop b (listed n f) ≡ []
+  listed-end n f b h = let k : length (listed n f) ≤ b = omega (arith, listed-length n f) in drop-of-length-le (listed n f) k
+
+pub listed-map : {A B : Type 0} (g : A → B) (n : ℕ) (f : ℕ → A) → map g (listed n f) ≡ listed n (λ i. g (f i))
+unfolding listed
+listed-map g zero f = refl
+listed-map g (suc n) f = append-map (listed n f) (f n ∷ []) ∙ ap (λ l. l ++ (g (f n) ∷ [])) (listed-map g n f)
+  where
+    append-map : (xs ys : List _) → map g (xs ++ ys) ≡ map g xs ++ map g ys
+    append-map [] ys = refl
+    append-map (x ∷ xs) ys = ap (λ l. g x ∷ l) (append-map xs ys)
+
+-- ---- a read past the end, and a write
+
+pub getD-past : (xs : List ℕ) (i : ℕ) → length xs ≤ i → getD xs i 0 ≡ 0
+getD-past [] i h = refl
+getD-past (x ∷ xs) zero h = absurd (omega (arith, h))
+getD-past (x ∷ xs) (suc i) h = getD-past xs i (omega (arith, h))
+
+pub set-past : (xs : List ℕ) (i x : ℕ) → length xs ≤ i → set xs i x ≡ xs
+set-past [] i x h = refl
+set-past (y ∷ ys) zero x h = absurd (omega (arith, h))
+set-past (y ∷ ys) (suc i) x h = ap (λ l. y ∷ l) (set-past ys i x (omega (arith, h)))
+
+-- ---- a set as flags, link by link
+
+module _ (col : List ℕ) (n i : ℕ) (flags : List ℕ) where
+  pub flags-turn : i < n → flagLinks (drop (i + 1) (listed n (linkAt col))) (flagLink (linkAt col i) flags) ≡ flagLinks (drop i (listed n (linkAt col))) flags
+  unfolding flagLinks
+  flags-turn h = rw (add-one, listed-from n (linkAt col) i h)
+
+  pub flags-end : n ≤ i → flagLinks (drop i (listed n (linkAt col))) flags ≡ flags
+  unfolding flagLinks
+  flags-end h = rw (listed-end n (linkAt col) i h)
+
+-- ---- a walk over a column
+
+module _ (p : ℕ → Bool) (col : List ℕ) (n i : ℕ) where
+  pub walk-hit : i < n → p (getD col i 0) ≡ true → ended n i ≡ walkFrom p (entries n col) i
+  walk-hit h q = rw (lt-ltb i n h) (sym (walk-stop p (entries n col) i 0 (omega (arith, listed-length n (λ k. getD col k 0))) (ap p (listed-at n (λ k. getD col k 0) i 0 h) ∙ q)))
+
+  pub walk-miss : i < n → p (getD col i 0) ≡ false → walkFrom p (entries n col) (i + 1) ≡ walkFrom p (entries n col) i
+  walk-miss h q = sym (walk-on p (entries n col) i 0 (omega (arith, listed-length n (λ k. getD col k 0))) (ap p (listed-at n (λ k. getD col k 0) i 0 h) ∙ q))
+
+  pub walk-none : n ≤ i → ended n i ≡ walkFrom p (entries n col) i
+  walk-none h = rw (le-ltb i n h) (sym (walk-off p (entries n col) i 0 (omega (arith, listed-length n (λ k. getD col k 0)))))
+
+-- ---- entries passed up to a sentinel
+
+module _ {A : Type 0} (p : A → Bool) (n : ℕ) (f : ℕ → A) (i e : ℕ) where
+  first : i < e → e ≤ n → part i e (listed n f) ≡ f i ∷ part (i + 1) e (listed n f)
+  first h m = let k : e - i ≡ suc (e - (i + 1)) = omega arith in rw (k, listed-from n f i (omega arith), add-one)
+
+  pub passes-hit : i < e → e ≤ n → p (f i) ≡ true → i ≡ i + passes p (part i e (listed n f))
+  unfolding passes
+  passes-hit h m q = rw (first h m, q) (omega arith)
+
+  pub passes-miss : i < e → e ≤ n → p (f i) ≡ false → i + 1 + passes p (part (i + 1) e (listed n f)) ≡ i + passes p (part i e (listed n f))
+  unfolding passes
+  passes-miss h m q = rw (first h m, q) (omega arith)
+
+  pub passes-end : e ≤ i → i ≡ i + passes p (part i e (listed n f))
+  unfolding passes
+  passes-end h = let k : e - i ≡ 0 = omega arith in rw k (omega arith)
+
+-- ---- the wrapping difference
+
+-- what std's wrapping difference ensures has this one answer
+pub wrapping-one : (x low r : ℕ) → x < 2 ^ 32 → low < 2 ^ 32 → r < 2 ^ 32 → (r + low) % 2 ^ 32 ≡ x → r ≡ wrapping x low
+wrapping-one x low r hx hl hr e = omega arith
+
+-- ---- the class, link by link
+
+module _ (bs : List ℕ) (on : LinkIdx → Bool) (i : ℕ) (c : LinkOptType) where
+  pub class-turn : i < length bs → classWalk (drop (i + 1) (links bs)) on (cond (on (linkAt bs i)) (classMore c (linkAt bs i)) c) ≡ classWalk (drop i (links bs)) on c
+  unfolding classWalk
+  class-turn h = rw (add-one, drop-cons (links bs) i noLink (omega (arith, length-map bs link)), List·getD-map link bs i 0)
+
+  pub class-done : length bs ≤ i → classWalk (drop i (links bs)) on c ≡ c
+  unfolding classWalk
+  class-done h = let k : length (links bs) ≤ i = omega (arith, length-map bs link) in rw (drop-of-length-le (links bs) k)

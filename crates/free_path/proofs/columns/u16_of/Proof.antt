@@ -1,0 +1,22 @@
+use Rattle.free_path.proofs.ColumnLaws.{getD-past}
+use denote.Ref.{now}
+use borrow.Author.Needs.{needs}
+use Rattle.free_path.proofs.columns.u16_of.Statement.{statement}
+use Rattle.free_path.proofs.columns.u16_of.Tie as tie
+
+returns : tie.Need-returns
+returns c =
+    let a = c .before .args in
+    rw (getD-past (now (a .col)) (a .i) (c .if1 .taken))
+
+mul-result : tie.Need-mul-result
+mul-result c = search needs
+
+shared-slice-read-result : tie.Need-shared-slice-read-result
+shared-slice-read-result c = search needs
+
+returns-2 : tie.Need-returns-2
+returns-2 c = search needs
+
+pub u16-of-spec : {M : Type 1} → statement M
+u16-of-spec = tie.close (tie.spec returns mul-result shared-slice-read-result returns-2)

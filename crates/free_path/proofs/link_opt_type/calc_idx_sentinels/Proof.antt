@@ -1,0 +1,101 @@
+use denote.Ref.{now}
+use native.Mathlib.Omega.{arith}
+use Rattle.free_path.proofs.SentinelLaws.{sentinel-past, sentinel-other, sentinel-none, sentinel-last, sentinel-off, sentinel-on}
+use borrow.Author.Needs.{needs}
+use Rattle.free_path.proofs.link_opt_type.calc_idx_sentinels.Statement.{statement}
+use Rattle.free_path.proofs.link_opt_type.calc_idx_sentinels.Tie as tie
+
+returns : tie.Need-returns
+returns c =
+    let a = c .before .before .before .args in
+    sentinel-past (a .i) (a .n) (a .moved) (now (a .trains)) (now (a .nodes)) (c .if1 .taken)
+
+sub-u16-of : tie.Need-sub-u16-of
+sub-u16-of c = search needs
+
+u16-of-requires : tie.Need-u16-of-requires
+u16-of-requires c κs = search needs
+
+returns-2 : tie.Need-returns-2
+returns-2 c =
+    let a = c .before .before .before .before .before .before .args in
+    let t = c .before .before .u16-of in
+    sentinel-other (a .i) (a .n) (a .moved) (now (a .trains)) (now (a .nodes)) (omega arith) (t .result) (t .ensures) (c .if2 .taken)
+
+walk-to-requires : tie.Need-walk-to-requires
+walk-to-requires c κs = search needs
+
+returns-3 : tie.Need-returns-3
+returns-3 c =
+    let a = c .before .before .before .before .before .before .before .before .args in
+    let t = c .before .before .before .before .u16-of in
+    let w = c .before .walk-to in
+    sentinel-none (a .i) (a .n) (a .moved) (now (a .trains)) (now (a .nodes)) (omega arith) (t .result) (t .ensures) (c .before .before .if2 .left) (w .result) (w .ensures) (c .if3 .taken)
+
+u16-of-requires-2 : tie.Need-u16-of-requires-2
+u16-of-requires-2 c κs = search needs
+
+add-if4 : tie.Need-add-if4
+add-if4 c = search needs
+
+cast-t12 : tie.Need-cast-t12
+cast-t12 c = search needs
+
+add-t13 : tie.Need-add-t13
+add-t13 c = search needs
+
+returns-4 : tie.Need-returns-4
+returns-4 c =
+    let a = c .before .before .before .before .before .before .before .before .before .before .args in
+    let t = c .before .before .before .before .before .before .u16-of in
+    let w = c .before .before .before .walk-to in
+    let x = c .before .u16-of2 in
+    sentinel-last (a .i) (a .n) (a .moved) (now (a .trains)) (now (a .nodes)) (omega arith) (t .result) (t .ensures) (c .before .before .before .before .if2 .left) (w .result) (w .ensures) (c .before .before .if3 .left) (x .result) (x .ensures) (c .if4 .taken)
+
+add-walk-past : tie.Need-add-walk-past
+add-walk-past c = search needs
+
+walk-past-requires : tie.Need-walk-past-requires
+walk-past-requires c κs = search needs
+
+returns-5 : tie.Need-returns-5
+returns-5 c =
+    let a = c .before .before .before .before .before .before .before .before .before .before .before .before .args in
+    let t = c .before .before .before .before .before .before .before .before .u16-of in
+    let w = c .before .before .before .before .before .walk-to in
+    let x = c .before .before .before .u16-of2 in
+    let k = c .before .walk-past in
+    sentinel-off (a .i) (a .n) (a .moved) (now (a .trains)) (now (a .nodes)) (omega arith) (t .result) (t .ensures) (c .before .before .before .before .before .before .if2 .left) (w .result) (w .ensures) (c .before .before .before .before .if3 .left) (x .result) (x .ensures) (c .before .before .if4 .left) (k .result) (k .ensures) (c .if5 .taken)
+
+cast-t11 : tie.Need-cast-t11
+cast-t11 c = search needs
+
+returns-6 : tie.Need-returns-6
+returns-6 c =
+    let a = c .before .before .before .before .before .before .before .before .before .before .before .before .args in
+    let t = c .before .before .before .before .before .before .before .before .u16-of in
+    let w = c .before .before .before .before .before .walk-to in
+    let x = c .before .before .before .u16-of2 in
+    let k = c .before .walk-past in
+    sentinel-on (a .i) (a .n) (a .moved) (now (a .trains)) (now (a .nodes)) (omega arith) (t .result) (t .ensures) (c .before .before .before .before .before .before .if2 .left) (w .result) (w .ensures) (c .before .before .before .before .if3 .left) (x .result) (x .ensures) (c .before .before .if4 .left) (k .result) (k .ensures) (c .if5 .left)
+
+pub calc-idx-sentinels-spec : {M : Type 1} → statement M
+calc-idx-sentinels-spec =
+    tie.close
+    (tie.spec
+    returns
+    sub-u16-of
+    u16-of-requires
+    returns-2
+    walk-to-requires
+    returns-3
+    u16-of-requires-2
+    add-if4
+    cast-t12
+    add-t13
+    returns-4
+    add-walk-past
+    walk-past-requires
+    returns-5
+    cast-t11
+    returns-6)

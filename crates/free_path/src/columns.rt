@@ -1,0 +1,68 @@
+// Readers over arrays of numbers that a caller lends. What stands past an array's end reads as 0.
+ghost use mathlib.Core.Path.{_≡_};
+ghost use lib.ListN.{getD};
+ghost use Rattle.link_rules.specs.LinkIdx.{occupied};
+ghost use Rattle.free_path.specs.Columns.{links, listed, linkAt, flagged, flagLink, flagLinks, kept};
+use link_rules::link_idx::LinkIdx;
+
+pub fn u16_of(col: &[u16], i: usize) -> u16
+    ensures { λ r. ⌜ r ≡ getD (now (col .entry)) i 0 ⌝ }
+{
+    if col.len() <= i {
+        return 0;
+    }
+    col[i]
+}
+
+pub fn link_of(col: &[u32], i: usize) -> LinkIdx
+    ensures { λ r. ⌜ r ≡ linkAt (now (col .entry)) i ⌝ }
+{
+    if col.len() <= i {
+        return LinkIdx(0);
+    }
+    LinkIdx(col[i])
+}
+
+// Is the link held by a train?
+pub fn is_occupied(occ: &[u16], l: LinkIdx) -> bool
+    ensures { λ r. ⌜ r ≡ occupied (now (occ .entry)) l ⌝ }
+{
+    u16_of(occ, l.0 as usize) != 0
+}
+
+// Is the link in the set?
+pub fn is_flagged(flags: &[u8], l: LinkIdx) -> bool
+    ensures { λ r. ⌜ r ≡ flagged (now (flags .entry)) l ⌝ }
+{
+    let i = l.0 as usize;
+    if flags.len() <= i {
+        return false;
+    }
+    flags[i] != 0
+}
+
+// The link goes into the set.
+pub fn flag_link(flags: &mut [u8], l: LinkIdx)
+    ensures { λ _. ⌜ now (flags .exit) ≡ flagLink l (now (flags .entry)) ⌝ }
+{
+    let i = l.0 as usize;
+    if i == 0 {
+        return;
+    }
+    if flags.len() <= i {
+        return;
+    }
+    flags[i] = 1;
+}
+
+// The n links of a column go into the set: links_on_path from link_idx_path.
+pub fn flag_links(flags: &mut [u8], col: &[u32], n: usize)
+    ensures { λ _. ⌜ now (flags .exit) ≡ flagLinks (listed n (linkAt (now (col .entry)))) (now (flags .entry)) ⌝ }
+{
+    let mut i = 0;
+    while i < n {
+        let l = link_of(col, i);
+        flag_link(flags, l);
+        i += 1;
+    }
+}
