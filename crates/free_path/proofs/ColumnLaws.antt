@@ -1,7 +1,7 @@
 -- Columns as lists, a turn at a time as a loop has them. Assumes nothing.
 use mathlib.Core.Path.{_≡_, refl, sym, ap, _∙_}
 use mathlib.Core.Logic.{_⊎_, inl, inr}
-use mathlib.Core.Bool.{Bool, true, false, cond}
+use mathlib.Core.Bool.{Bool, true, false, cond, _&&_}
 use mathlib.Core.List.{List, [], _∷_, _++_, map}
 use Prim.Native.Nat.{ℕ, zero, suc, _+_, _-_, _^_, _%_, _≤_, _<_}
 use native.Mathlib.Omega.{arith}
@@ -10,10 +10,10 @@ use native.Mathlib.Numerals.{add-one}
 use lib.ListN.{length-map, List·getD-map, length, getD, drop, set, length-append, List·getD-append, drop-of-length-le}
 use lib.Seq.{drop-cons, getD-at}
 use borrow.Author.Tests.{lt-ltb, le-ltb}
-use Rattle.free_path.specs.Base.{ok, no, at, last, part, passes, walkFrom}
+use Rattle.free_path.specs.Base.{ok, no, at, last, part, passes, count, walkFrom}
 use Rattle.free_path.specs.LinkOptType.{wrapping, classMore, classWalk}
 use Rattle.free_path.specs.declared.link_opt_type.LinkOptType.{LinkOptType}
-use Rattle.free_path.specs.Columns.{link, links, listed, entries, linkAt, flagLink, flagLinks, ended}
+use Rattle.free_path.specs.Columns.{link, links, listed, entries, linkAt, flagLink, flagLinks, kept, ended}
 use Rattle.free_path.proofs.WalkLaws.{at-in, at-out, walk-stop, walk-on, walk-off}
 use Rattle.link_rules.specs.declared.link_idx.LinkIdx.{LinkIdx}
 use Rattle.link_rules.specs.LinkIdx.{noLink}
@@ -128,3 +128,36 @@ module _ (bs : List ℕ) (on : LinkIdx → Bool) (i : ℕ) (c : LinkOptType) whe
   pub class-done : length bs ≤ i → classWalk (drop i (links bs)) on c ≡ c
   unfolding classWalk
   class-done h = let k : length (links bs) ≤ i = omega (arith, length-map bs link) in rw (drop-of-length-le (links bs) k)
+
+-- ---- entries counted
+
+module _ {A : Type 0} (p : A → Bool) (n : ℕ) (f : ℕ → A) (i k : ℕ) where
+  pub count-turn : i < n → k + cond (p (f i)) 1 0 + count p (drop (i + 1) (listed n f)) ≡ k + count p (drop i (listed n f))
+  unfolding count
+  count-turn h = rw (add-one, listed-from n f i h) (omega arith)
+
+  pub count-end : n ≤ i → k ≡ k + count p (drop i (listed n f))
+  unfolding count
+  count-end h = rw (listed-end n f i h) (omega arith)
+
+pub and-true : (t : Bool) → (t && true) ≡ t
+and-true true = refl
+and-true false = refl
+
+pub and-false : (t : Bool) → (t && false) ≡ false
+and-false true = refl
+and-false false = refl
+
+module _ (on : LinkIdx → Bool) (bs : List ℕ) (i : ℕ) (flags : List ℕ) where
+  pub known-turn : i < length bs
+      → flagLinks (kept on (drop (i + 1) (links bs))) (cond (on (linkAt bs i)) (flagLink (linkAt bs i) flags) flags) ≡ flagLinks (kept on (drop i (links bs))) flags
+  unfolding flagLinks kept
+  known-turn h = rw (add-one, drop-cons (links bs) i noLink (omega (arith, length-map bs link)), List·getD-map link bs i 0) (go (on (linkAt bs i)))
+    where
+      go : (t : Bool) → flagLinks (kept on (drop (suc i) (links bs))) (cond t (flagLink (linkAt bs i) flags) flags) ≡ flagLinks (cond t (linkAt bs i ∷ kept on (drop (suc i) (links bs))) (kept on (drop (suc i) (links bs)))) flags
+      go true = refl
+      go false = refl
+
+  pub known-end : length bs ≤ i → flagLinks (kept on (drop i (links bs))) flags ≡ flags
+  unfolding flagLinks kept
+  known-end h = let k : length (links bs) ≤ i = omega (arith, length-map bs link) in rw (drop-of-length-le (links bs) k)

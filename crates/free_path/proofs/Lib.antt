@@ -4,3 +4,7 @@ pub mod PoolLaws
 pub mod ColumnLaws
 pub mod MapLaws
 pub mod SentinelLaws
+pub mod SearchLimitLaws
+pub mod ValidateLaws
+pub mod FlagLaws
+pub mod ExampleLaws

@@ -46,7 +46,7 @@ closed base pool = do
   let r = cond (ltb (base .«idx_end») (length q)) (set q (base .«idx_end») t) q
   ok (record { pool = r; made = view (base .«idx_begin») (length r) })
 
--- add_blocking_trains (154-194)
+-- add_blocking_trains (153-194)
 unfoldable pub addBlockingTrains : List TrainIdx → TrainIdxsView → TrainIdxsView → Res Pooled
 addBlockingTrains pool base add = do
   need (leb (base .«idx_begin») (base .«idx_end»))

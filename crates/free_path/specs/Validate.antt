@@ -1,15 +1,16 @@
--- Strays (document 01), and the errors of validate_free_path (free_path.rs 749-821). Assumes nothing.
+-- Strays (document 01), and the errors of validate_free_path (free_path.rs 748-820). Assumes nothing.
 use Prim.Native.Nat.{ℕ, _+_}
 use mathlib.Core.Bool.{Bool, true, cond, not, _&&_, _||_}
 use mathlib.Core.List.{List, [], _∷_}
 use lib.Dec.{leb}
 use lib.ListN.{length, drop}
-use Rattle.link_rules.specs.LinkIdx.{occupied}
+use Rattle.link_rules.specs.LinkIdx.{sameLink, noLink, occupied}
 use Rattle.link_rules.specs.declared.link_idx.LinkIdx.{LinkIdx}
 use Rattle.disp_structs.specs.Values.{sameEst, isArrive, minus, near}
+use Rattle.disp_structs.specs.declared.EstIdx.{EstIdx}
 use Rattle.disp_structs.specs.declared.EstTime.{EstTime}
 use Rattle.disp_structs.specs.declared.DispNode.{DispNode}
-use Rattle.free_path.specs.Base.{Res, ok, _>>=_, _>>_, need, at, count}
+use Rattle.free_path.specs.Base.{Res, ok, _>>=_, _>>_, need, at, count, any}
 use Rattle.free_path.specs.LinkOptType.{contains}
 
 -- ---- strays (document 01)
@@ -26,16 +27,31 @@ isStray occ known n = isArrive (n .«link_event» .«est_type») && (occupied oc
 unfoldable pub strays : List ℕ → (LinkIdx → Bool) → ℕ → List DispNode → ℕ
 strays occ known free path = count (isStray occ known) (drop free path)
 
+-- a stray as an entry of link_idx_path shows it: StrayLaws.stray-link
+unfoldable pub strayLink : List ℕ → (LinkIdx → Bool) → LinkIdx → Bool
+strayLink occ known l = not (sameLink l noLink) && (occupied occ l && not (known l))
+
 -- ---- validate_free_path
 
--- an error of a step from a to b, whose est records are x and y (758-789)
+-- b follows a as its next (758-760)
+unfoldable pub stepsNext : DispNode → DispNode → EstTime → EstTime → Bool
+stepsNext a b x y = sameEst (x .«idx_next») (b .«est_idx») && (sameEst (y .«idx_prev») (a .«est_idx») || sameEst (y .«idx_prev_alt») (a .«est_idx»))
+
+-- b follows a as its alternate (776-777)
+unfoldable pub stepsAlt : DispNode → DispNode → EstTime → EstTime → Bool
+stepsAlt a b x y = sameEst (x .«idx_next_alt») (b .«est_idx») && sameEst (y .«idx_prev») (a .«est_idx»)
+
+-- an error of a step from a to b, whose est records are x and y (758-792)
 unfoldable pub badStep : DispNode → DispNode → EstTime → EstTime → Bool
 badStep a b x y =
-    cond (sameEst (x .«idx_next») (b .«est_idx») && (sameEst (y .«idx_prev») (a .«est_idx») || sameEst (y .«idx_prev_alt») (a .«est_idx»)))
-    (not (near (x .«dist_to_next») (minus (b .offset) (a .offset))))
-    (cond (sameEst (x .«idx_next_alt») (b .«est_idx») && sameEst (y .«idx_prev») (a .«est_idx»)) (not (near (a .offset) (b .offset))) true)
+    cond (stepsNext a b x y) (not (near (x .«dist_to_next») (minus (b .offset) (a .offset))))
+    (cond (stepsAlt a b x y) (not (near (a .offset) (b .offset))) true)
 
--- the errors of the steps from a on (753-799); the mark error (790-798) cannot occur: ValidateLaws.marked
+-- est_time_statuses[e].is_on_path: the marks are those of the path
+unfoldable pub onPath : List DispNode → EstIdx → Bool
+onPath path e = any (λ n. sameEst e (n .«est_idx»)) path
+
+-- the errors of the steps from a on (752-800); the mark error (793-799) cannot occur: ValidateLaws.marked
 unfoldable pub badSteps : List EstTime → DispNode → List DispNode → Res ℕ
 badSteps est a [] = ok 0
 badSteps est a (b ∷ ns) =
@@ -45,7 +61,7 @@ abbrev pub badPath : List EstTime → List DispNode → Res ℕ
 badPath est [] = ok 0
 badPath est (n ∷ ns) = badSteps est n ns
 
--- an occupancy conflict (803-817)
+-- an occupancy conflict (805-817)
 unfoldable pub inConflict : List ℕ → DispNode → Bool
 inConflict occ n = isArrive (n .«link_event» .«est_type») && occupied occ (n .«link_event» .«link_idx»)
 

@@ -1,5 +1,6 @@
 // Readers over arrays of numbers that a caller lends. What stands past an array's end reads as 0.
 ghost use mathlib.Core.Path.{_≡_};
+ghost use mathlib.Core.Bool.{cond};
 ghost use lib.ListN.{getD};
 ghost use Rattle.link_rules.specs.LinkIdx.{occupied};
 ghost use Rattle.free_path.specs.Columns.{links, listed, linkAt, flagged, flagLink, flagLinks, kept};
@@ -63,6 +64,28 @@ pub fn flag_links(flags: &mut [u8], col: &[u32], n: usize)
     while i < n {
         let l = link_of(col, i);
         flag_link(flags, l);
+        i += 1;
+    }
+}
+
+// The link goes into the set, if it is in the other one.
+fn flag_if(flags: &mut [u8], on: &[u8], l: LinkIdx)
+    ensures { λ _. ⌜ now (flags .exit) ≡ cond (flagged (now (on .entry)) l) (flagLink l (now (flags .entry))) (now (flags .entry)) ⌝ }
+{
+    if is_flagged(on, l) {
+        flag_link(flags, l);
+        return;
+    }
+}
+
+// The links of a list that are in the other set go into the set: the blocking links on the starting path.
+pub fn flag_known(flags: &mut [u8], blocking: &[u32], on: &[u8])
+    ensures { λ _. ⌜ now (flags .exit) ≡ flagLinks (kept (flagged (now (on .entry))) (links (now (blocking .entry)))) (now (flags .entry)) ⌝ }
+{
+    let mut i = 0;
+    while i < blocking.len() {
+        let l = link_of(blocking, i);
+        flag_if(flags, on, l);
         i += 1;
     }
 }

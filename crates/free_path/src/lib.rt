@@ -3,4 +3,6 @@
 // Every function here is proved, the crate assumes nothing of its own, and no public function has a `requires`.
 pub mod columns;
 pub mod link_opt_type;
+pub mod search_limit;
 pub mod train_idxs_view;
+pub mod validate;

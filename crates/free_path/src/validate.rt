@@ -1,0 +1,85 @@
+// The counts of a path: strays and occupancy conflicts over link_idx_path, and the error of one step.
+ghost use mathlib.Core.Path.{_≡_};
+ghost use Prim.Native.Nat.{_+_, _-_, _<_, _^_};
+ghost use mathlib.Core.Bool.{cond};
+ghost use lib.ListN.{drop};
+ghost use Rattle.free_path.specs.Base.{count};
+ghost use Rattle.free_path.specs.Validate.{strayLink, stepsNext, stepsAlt, badStep};
+ghost use Rattle.free_path.specs.Columns.{listed, linkAt, flagged};
+use crate::columns;
+use disp_structs::DispNode;
+use disp_structs::EstTime;
+use disp_structs::floats;
+use link_rules::link_idx::LinkIdx;
+
+// An entry of link_idx_path that is an occupied link and not known.
+fn is_stray(occ: &[u16], known: &[u8], l: LinkIdx) -> bool
+    ensures { λ r. ⌜ r ≡ strayLink (now (occ .entry)) (flagged (now (known .entry))) l ⌝ }
+{
+    if l.0 == 0 {
+        return false;
+    }
+    if columns::is_flagged(known, l) {
+        return false;
+    }
+    columns::is_occupied(occ, l)
+}
+
+// One more where it is a stray.
+fn stray_more(occ: &[u16], known: &[u8], l: LinkIdx, k: usize) -> usize
+    requires { ⌜ k < 2 ^ 64 - 1 ⌝ }
+    ensures { λ r. ⌜ r ≡ k + cond (strayLink (now (occ .entry)) (flagged (now (known .entry))) l) 1 0 ⌝ }
+{
+    if is_stray(occ, known, l) {
+        return k + 1;
+    }
+    k
+}
+
+// The strays at or after free of a path of n nodes. With no flags these are the occupancy conflicts.
+pub fn strays(col: &[u32], n: usize, free: usize, occ: &[u16], known: &[u8]) -> usize
+    ensures { λ r. ⌜ r ≡ count (strayLink (now (occ .entry)) (flagged (now (known .entry)))) (drop free (listed n (linkAt (now (col .entry))))) ⌝ }
+{
+    let mut k = 0;
+    let mut i = free;
+    while i < n {
+        let l = columns::link_of(col, i);
+        k = stray_more(occ, known, l, k);
+        i += 1;
+    }
+    k
+}
+
+fn steps_next(a: DispNode, b: DispNode, x: EstTime, y: EstTime) -> bool
+    ensures { λ r. ⌜ r ≡ stepsNext a b x y ⌝ }
+{
+    if x.idx_next.0 != b.est_idx.0 {
+        return false;
+    }
+    if y.idx_prev.0 == a.est_idx.0 {
+        return true;
+    }
+    y.idx_prev_alt.0 == a.est_idx.0
+}
+
+fn steps_alt(a: DispNode, b: DispNode, x: EstTime, y: EstTime) -> bool
+    ensures { λ r. ⌜ r ≡ stepsAlt a b x y ⌝ }
+{
+    if x.idx_next_alt.0 != b.est_idx.0 {
+        return false;
+    }
+    y.idx_prev.0 == a.est_idx.0
+}
+
+// Has the step from a to b an error? x and y are their est records.
+pub fn bad_step(a: DispNode, b: DispNode, x: EstTime, y: EstTime) -> bool
+    ensures { λ r. ⌜ r ≡ badStep a b x y ⌝ }
+{
+    if steps_next(a, b, x, y) {
+        return !floats::near(x.dist_to_next.0, b.offset.0 - a.offset.0);
+    }
+    if steps_alt(a, b, x, y) {
+        return !floats::near(a.offset.0, b.offset.0);
+    }
+    true
+}
