@@ -59,12 +59,7 @@ listed-map g (suc n) f = append-map (listed n f) (f n ∷ []) ∙ ap (λ l. l ++
     append-map [] ys = refl
     append-map (x ∷ xs) ys = ap (λ l. g x ∷ l) (append-map xs ys)
 
--- ---- a read past the end, and a write
-
-pub getD-past : (xs : List ℕ) (i : ℕ) → length xs ≤ i → getD xs i 0 ≡ 0
-getD-past [] i h = refl
-getD-past (x ∷ xs) zero h = absurd (omega (arith, h))
-getD-past (x ∷ xs) (suc i) h = getD-past xs i (omega (arith, h))
+-- ---- a write past the end
 
 pub set-past : (xs : List ℕ) (i x : ℕ) → length xs ≤ i → set xs i x ≡ xs
 set-past [] i x h = refl

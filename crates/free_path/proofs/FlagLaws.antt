@@ -5,7 +5,7 @@ use mathlib.Core.List.{List, [], _∷_}
 use Prim.Native.Nat.{ℕ, _≤_, _<_}
 use native.Mathlib.Omega.{arith}
 use lib.Dec.{ltb}
-use lib.ListN.{length, set, replicate, length-set, length-replicate, getD-replicate}
+use lib.ListN.{List·getD-eq-default, length, set, replicate, length-set, length-replicate, getD-replicate}
 use lib.Seq.{getD-set-same, getD-set-other}
 use borrow.Author.Tests.{eqb-true, eqb-false, ltb-true, ltb-false}
 use Rattle.link_rules.specs.LinkIdx.{sameLink, noLink}
@@ -16,7 +16,6 @@ use Rattle.free_path.specs.Base.{any}
 use Rattle.free_path.specs.LinkOptType.{linksOnPath, contains, linkIdxPath}
 use Rattle.free_path.specs.Validate.{known}
 use Rattle.free_path.specs.Columns.{link, flagged, flagLink, flagLinks, kept}
-use Rattle.free_path.proofs.ColumnLaws.{getD-past}
 
 or-false : (t : Bool) → (t || false) ≡ t
 or-false true = refl
@@ -69,7 +68,7 @@ flags-in (m ∷ ls) l fs h z =
     ∙ or-assoc (flagged fs l) (sameLink l m) (contains ls l)
 
 flags-out : (fs : List ℕ) (l : LinkIdx) → length fs ≤ l .0 → flagged fs l ≡ false
-flags-out fs l h = rw (getD-past fs (l .0) h)
+flags-out fs l h = rw (List·getD-eq-default fs 0 h)
 
 flag-none : (m : LinkIdx) (fs : List ℕ) → flagged (flagLink m fs) noLink ≡ flagged fs noLink
 unfolding flagLink

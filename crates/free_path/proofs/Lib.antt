@@ -8,3 +8,7 @@ pub mod SearchLimitLaws
 pub mod ValidateLaws
 pub mod FlagLaws
 pub mod ExampleLaws
+pub mod PlainLaws
+pub mod OrderLaws
+pub mod PoolRenumbering
+pub mod PathRenumbering

@@ -5,7 +5,7 @@ use mathlib.Core.List.{List, [], _∷_, _++_, map}
 use Prim.Native.Nat.{ℕ, zero, suc, _-_}
 use lib.Dec.{leb}
 use lib.ListN.{length, take, drop, set, length-map}
-use Rattle.free_path.specs.Base.{Res, ok, no, _>>=_, _>>_, need, room, at, before, last, popped, isEmpty, slice, stepsTo, walkFrom, walkBack, count, any}
+use Rattle.free_path.specs.Base.{Res, ok, no, _>>=_, _>>_, need, room, at, before, last, popped, isEmpty, part, slice, stepsTo, walkFrom, walkBack, passes, count, any}
 
 abbrev pub mapRes : {A B : Type 0} → (A → B) → Res A → Res B
 mapRes f (ok a) = ok (f a)
@@ -103,6 +103,9 @@ module _ {A B : Type 0} (f : A → B) where
       (ap (λ n. leb a b && leb b n) (length-map xs f))
       (ap ok (ap (take (b - a)) (drop-map a xs) ∙ take-map (b - a) (drop a xs)))
 
+  pub part-map : (b e : ℕ) (xs : List A) → part b e (map f xs) ≡ map f (part b e xs)
+  part-map b e xs = ap (take (e - b)) (drop-map b xs) ∙ take-map (e - b) (drop b xs)
+
   -- a walk by a test that sees through the map
   module _ (p : A → Bool) (p′ : B → Bool) (h : (x : A) → p′ (f x) ≡ p x) where
     pub stepsTo-map : (xs : List A) → stepsTo p′ (map f xs) ≡ stepsTo p xs
@@ -123,6 +126,11 @@ module _ {A B : Type 0} (f : A → B) where
     unfolding any
     any-map [] = refl
     any-map (x ∷ xs) = rw (h x, any-map xs)
+
+    pub passes-map : (xs : List A) → passes p′ (map f xs) ≡ passes p xs
+    unfolding passes
+    passes-map [] = refl
+    passes-map (x ∷ xs) = rw (h x, passes-map xs)
 
     pub walkBack-map : (xs : List A) (i : ℕ) → walkBack p′ (map f xs) i ≡ walkBack p xs i
     unfolding walkBack

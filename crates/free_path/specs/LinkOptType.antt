@@ -109,6 +109,17 @@ isNone Check = false
 abbrev pub intersect : ℕ → ℕ → LinkOptType → List LinkIdx → List ℕ → ℕ
 intersect split sentinel class links occ = split + passes (stops class occ) (part split sentinel links)
 
+-- a Range as a Check
+abbrev pub plainly : LinkOptType → LinkOptType
+plainly None = None
+plainly (Single l) = Single l
+plainly (Range a b) = Check
+plainly Check = Check
+
+-- the plain walk: the first occupied entry, else the sentinel; PlainLaws.same-index
+abbrev pub firstOccupied : ℕ → ℕ → List LinkIdx → List ℕ → ℕ
+firstOccupied split sentinel links occ = split + passes (occupied occ) (part split sentinel links)
+
 -- a class None is unreachable!() (147)
 unfoldable pub findTrainIntersect : ℕ → ℕ → LinkOptType → List LinkIdx → List ℕ → Res ℕ
 findTrainIntersect split sentinel class links occ =

@@ -1,4 +1,4 @@
-use Rattle.free_path.proofs.ColumnLaws.{getD-past}
+use lib.ListN.{List·getD-eq-default}
 use denote.Ref.{now}
 use borrow.Author.Needs.{needs}
 use Rattle.free_path.proofs.columns.is_flagged.Statement.{statement}
@@ -10,7 +10,7 @@ cast-i c = search needs
 returns : tie.Need-returns
 returns c =
     let a = c .before .before .args in
-    rw (getD-past (now (a .flags)) (a .l .0) (c .if1 .taken))
+    rw (List·getD-eq-default (now (a .flags)) 0 (c .if1 .taken))
 
 shared-slice-read-result : tie.Need-shared-slice-read-result
 shared-slice-read-result c = search needs

@@ -1,4 +1,4 @@
-use Rattle.free_path.proofs.ColumnLaws.{getD-past}
+use lib.ListN.{List·getD-eq-default}
 use denote.Ref.{now}
 use borrow.Author.Needs.{needs}
 use Rattle.free_path.proofs.columns.link_of.Statement.{statement}
@@ -7,7 +7,7 @@ use Rattle.free_path.proofs.columns.link_of.Tie as tie
 returns : tie.Need-returns
 returns c =
     let a = c .before .args in
-    rw (getD-past (now (a .col)) (a .i) (c .if1 .taken))
+    rw (List·getD-eq-default (now (a .col)) 0 (c .if1 .taken))
 
 mul-t3 : tie.Need-mul-t3
 mul-t3 c = search needs
