@@ -3,7 +3,7 @@ use mathlib.Core.Path.{_≡_, refl, sym, ap, _∙_}
 use mathlib.Core.Logic.{_⊎_, inl, inr}
 use mathlib.Core.Bool.{Bool, true, false, cond, _&&_}
 use mathlib.Core.List.{List, [], _∷_, _++_, map}
-use Prim.Native.Nat.{ℕ, zero, suc, _+_, _-_, _^_, _%_, _≤_, _<_}
+use Prim.Native.Nat.{ℕ, zero, suc, _+_, _-_, _≤_, _<_}
 use native.Mathlib.Omega.{arith}
 use native.Mathlib.Nat.{eq-or-lt-of-le}
 use native.Mathlib.Numerals.{add-one}
@@ -11,7 +11,7 @@ use lib.ListN.{length-map, List·getD-map, length, getD, drop, set, length-appen
 use lib.Seq.{drop-cons, getD-at}
 use borrow.Author.Tests.{lt-ltb, le-ltb}
 use Rattle.free_path.specs.Base.{ok, no, at, last, part, passes, count, walkFrom}
-use Rattle.free_path.specs.LinkOptType.{wrapping, classMore, classWalk}
+use Rattle.free_path.specs.LinkOptType.{classMore, classWalk}
 use Rattle.free_path.specs.declared.link_opt_type.LinkOptType.{LinkOptType}
 use Rattle.free_path.specs.Columns.{link, links, listed, entries, linkAt, flagLink, flagLinks, kept, ended}
 use Rattle.free_path.proofs.WalkLaws.{at-in, at-out, walk-stop, walk-on, walk-off}
@@ -106,12 +106,6 @@ module _ {A : Type 0} (p : A → Bool) (n : ℕ) (f : ℕ → A) (i e : ℕ) whe
   pub passes-end : e ≤ i → i ≡ i + passes p (part i e (listed n f))
   unfolding passes
   passes-end h = let k : e - i ≡ 0 = omega arith in rw k (omega arith)
-
--- ---- the wrapping difference
-
--- what std's wrapping difference ensures has this one answer
-pub wrapping-one : (x low r : ℕ) → x < 2 ^ 32 → low < 2 ^ 32 → r < 2 ^ 32 → (r + low) % 2 ^ 32 ≡ x → r ≡ wrapping x low
-wrapping-one x low r hx hl hr e = omega arith
 
 -- ---- the class, link by link
 

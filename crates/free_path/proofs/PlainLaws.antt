@@ -12,7 +12,7 @@ use Rattle.link_rules.specs.declared.link_idx.LinkIdx.{LinkIdx}
 use Rattle.disp_structs.specs.Values.{isArrive, arriving}
 use Rattle.disp_structs.specs.declared.DispNode.{DispNode}
 use Rattle.free_path.specs.Base.{part, passes, count, any}
-use Rattle.free_path.specs.LinkOptType.{contains, linkIdxPath, least, most, classMore, classWalk, classEnd, linkOptType, wrapping, inRange, stops, intersect, firstOccupied, plainly}
+use Rattle.free_path.specs.LinkOptType.{contains, linkIdxPath, least, most, classMore, classWalk, classEnd, linkOptType, wrapping, stops, intersect, firstOccupied, plainly}
 use Rattle.free_path.specs.Validate.{known, isStray, strays}
 use Rattle.free_path.specs.Columns.{link}
 use Rattle.free_path.specs.declared.link_opt_type.LinkOptType.{LinkOptType}
@@ -191,7 +191,6 @@ wrapping-is n a h w k = omega arith
 
 -- where an occupied link is covered, Range stops at it, and at no other
 pub range-plain : (a span : ℕ) (occ : List ℕ) (l : LinkIdx) → Narrow (Range a span) → (occupied occ l ≡ true → Covers (Range a span) (l .0)) → stops (Range a span) occ l ≡ occupied occ l
-unfolding inRange
 range-plain a span occ l w h = go (occupied occ l) refl
   where
     both : (t : Bool) → (t && false) ≡ false

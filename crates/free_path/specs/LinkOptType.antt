@@ -89,7 +89,7 @@ abbrev pub wrapping : ℕ → ℕ → ℕ
 wrapping a b = (a + (2 ^ 32 - b)) % 2 ^ 32
 
 -- the range test: the difference from the smallest link is taken wrapping and compared with the span (112-116)
-unfoldable pub inRange : ℕ → ℕ → LinkIdx → Bool
+abbrev pub inRange : ℕ → ℕ → LinkIdx → Bool
 inRange a span l = leb (wrapping (l .0) a) span
 
 -- does the walk stop at this link? Single: at the link, taken or not (95); Range: in the span and occupied (112-124); Check: occupied (139)

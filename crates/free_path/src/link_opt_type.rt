@@ -3,9 +3,9 @@ ghost use mathlib.Core.Path.{_≡_};
 ghost use Prim.Native.Nat.{_-_, _≤_};
 ghost use mathlib.Core.Bool.{cond, not, _&&_};
 ghost use lib.Dec.{leb, eqb};
-ghost use Rattle.link_rules.specs.LinkIdx.{occupied};
+ghost use Rattle.link_rules.specs.LinkIdx.{sameLink, occupied};
 ghost use Rattle.free_path.specs.Base.{walkFrom};
-ghost use Rattle.free_path.specs.LinkOptType.{least, most, classMore, classEnd, linkOptType, calcIdxSentinels, inRange, stops, isNone, intersect, findTrainIntersect};
+ghost use Rattle.free_path.specs.LinkOptType.{least, most, classMore, classEnd, linkOptType, calcIdxSentinels, wrapping, inRange, stops, isNone, intersect, findTrainIntersect};
 ghost use Rattle.free_path.specs.declared.link_opt_type.LinkOptType.the-variants.{Range, Check};
 ghost use Rattle.free_path.specs.Columns.{answer, links, listed, entries, linkAt, divAt, flagged, ended};
 use crate::columns;
@@ -191,11 +191,17 @@ pub fn calc_idx_sentinels(
     }
 }
 
+fn wrapping_sub(a: u32, b: u32) -> u32
+    ensures { λ r. ⌜ r ≡ wrapping a b ⌝ }
+{
+    std::num::wrapping_sub_u32(a, b)
+}
+
 // The difference from the smallest link, taken wrapping, is within the span: 0 falls outside every span above it.
 fn in_range(low: u32, span: u32, l: LinkIdx) -> bool
     ensures { λ r. ⌜ r ≡ inRange low span l ⌝ }
 {
-    std::num::wrapping_sub_u32(l.0, low) <= span
+    wrapping_sub(l.0, low) <= span
 }
 
 fn in_range_occupied(low: u32, span: u32, occ: &[u16], l: LinkIdx) -> bool
@@ -207,13 +213,19 @@ fn in_range_occupied(low: u32, span: u32, occ: &[u16], l: LinkIdx) -> bool
     false
 }
 
-// Does the walk stop at this link?
+fn is_link(l: LinkIdx, c: LinkIdx) -> bool
+    ensures { λ r. ⌜ r ≡ sameLink l c ⌝ }
+{
+    l.0 == c.0
+}
+
+// Does the walk stop at this link? At a Single it stops whether the link is taken or not.
 fn stops_at(class: LinkOptType, occ: &[u16], l: LinkIdx) -> bool
     ensures { λ r. ⌜ r ≡ stops class (now (occ .entry)) l ⌝ }
 {
     match class {
         LinkOptType::None => false,
-        LinkOptType::Single(c) => l.0 == c.0,
+        LinkOptType::Single(c) => is_link(l, c),
         LinkOptType::Range(low, span) => in_range_occupied(low, span, occ, l),
         LinkOptType::Check => columns::is_occupied(occ, l),
     }

@@ -3,8 +3,9 @@
 ghost use mathlib.Core.Path.{_≡_};
 ghost use Prim.Native.Nat.{_+_, _-_, _≤_, _<_};
 ghost use mathlib.Core.List.{_++_};
-ghost use lib.ListN.{length, take};
+ghost use lib.ListN.{length, getD, set, take};
 ghost use Rattle.link_rules.specs.LinkIdx.{sameTrain};
+ghost use Rattle.disp_structs.specs.Values.{isBlocked};
 ghost use Rattle.free_path.specs.Base.{any, part};
 ghost use Rattle.free_path.specs.TrainIdxsView.{addOne, addFrom, closed, addBlockingTrains, addAllBlockingTrains, concatTrainIdxViews, covers, size};
 ghost use Rattle.free_path.specs.Columns.{tr, trains, answer, Grows, Makes, concatIn};
@@ -21,6 +22,13 @@ pub struct Union {
     pub code: u32,
     pub view: TrainIdxsView,
     pub len: usize,
+}
+
+// EstTimeStatus::is_blocked: a view (1, 1) is empty and blocked.
+pub fn is_blocked(v: TrainIdxsView) -> bool
+    ensures { λ r. ⌜ r ≡ isBlocked v ⌝ }
+{
+    v.idx_end != 0
 }
 
 // Does t stand in the pool from b up to e?
@@ -81,6 +89,14 @@ fn add_from(pool: &mut [u16], len: usize, base: TrainIdxsView, begin: usize, end
     Grown { code: 0, len: n }
 }
 
+// The last train goes to the sentinel's place.
+fn put_last(pool: &mut [u16], e: usize, m: usize)
+    requires { ⌜ (e < m) × (m < length (now pool)) ⌝ }
+    ensures { λ _. ⌜ now (pool .exit) ≡ set (now (pool .entry)) e (getD (now (pool .entry)) m 0) ⌝ }
+{
+    pool[e] = pool[m];
+}
+
 // The last train goes to the sentinel's place, or was the sentinel.
 fn close(pool: &mut [u16], len: usize, base: TrainIdxsView) -> Union
     requires { ⌜ (length (now pool) ≡ 2048) × (len ≤ 2048) × (base .«idx_end» < len) ⌝ }
@@ -93,7 +109,7 @@ fn close(pool: &mut [u16], len: usize, base: TrainIdxsView) -> Union
         idx_end: m as u32,
     };
     if e < m {
-        pool[e] = pool[m];
+        put_last(pool, e, m);
         return Union {
             code: 0,
             view: v,

@@ -11,6 +11,9 @@ enum-told c = search needs
 enum-known-class : tie.Need-enum-known-class
 enum-known-class c = search needs
 
+is-link-requires : tie.Need-is-link-requires
+is-link-requires c κs = search needs
+
 enum-known-class-2 : tie.Need-enum-known-class-2
 enum-known-class-2 c = search needs
 
@@ -27,7 +30,7 @@ returns : tie.Need-returns
 returns c = search needs
 
 returns-2 : tie.Need-returns-2
-returns-2 c = sym (ap (λ k. stops k (now (c .before .before .before .before .before .before .args .occ)) (c .before .before .before .before .before .before .args .l)) (c .before .before .before .class .given .1))
+returns-2 c = c .is-link .ensures ∙ sym (ap (λ k. stops k (now (c .before .before .before .before .before .args .occ)) (c .before .before .before .before .before .args .l)) (c .before .before .class .given .1))
 
 returns-3 : tie.Need-returns-3
 returns-3 c = c .in-range-occupied .ensures ∙ sym (ap (λ k. stops k (now (c .before .before .before .before .before .args .occ)) (c .before .before .before .before .before .args .l)) (c .before .before .class2 .given .1))
@@ -41,6 +44,7 @@ stops-at-spec =
     (tie.spec
     enum-told
     enum-known-class
+    is-link-requires
     enum-known-class-2
     in-range-occupied-requires
     enum-told-2
