@@ -1,4 +1,5 @@
 pub mod Floats
 pub mod Values
+pub mod Train
 pub mod Renumbered
 pub mod Listed

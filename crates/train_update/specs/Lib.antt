@@ -1,0 +1,5 @@
+pub mod State
+pub mod Look
+pub mod Moves
+pub mod Join
+pub mod Update
