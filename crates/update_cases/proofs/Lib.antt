@@ -1,0 +1,2 @@
+pub mod Sidings
+pub mod PanicSites
