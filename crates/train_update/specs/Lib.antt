@@ -3,3 +3,4 @@ pub mod Look
 pub mod Moves
 pub mod Join
 pub mod Update
+pub mod Renumbered
