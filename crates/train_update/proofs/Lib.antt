@@ -6,3 +6,4 @@ pub mod RoundRenumbering
 pub mod PlainRound
 pub mod RoundsRenumbering
 pub mod UpdateRenumbering
+pub mod TallyLaws
