@@ -136,6 +136,16 @@ fn walk_past(col: &[u16], n: usize, i: usize, x: u16) -> usize
     j
 }
 
+fn no_sentinels() -> IdxSentinels
+    ensures { λ r. ⌜ r ≡ record { code = 13; node = 0; divs = 0 } ⌝ }
+{
+    IdxSentinels {
+        code: 13,
+        node: 0,
+        divs: 0,
+    }
+}
+
 // Over n diverge nodes in two columns.
 pub fn calc_idx_sentinels(
     i: usize,
@@ -147,26 +157,14 @@ pub fn calc_idx_sentinels(
     ensures { λ r. ⌜ answer (r .code) (record { node = r .node; divs = r .divs }) ≡ calcIdxSentinels i moved (listed n (divAt (now (trains .entry)) (now (nodes .entry)))) ⌝ }
 {
     if n <= i {
-        return IdxSentinels {
-            code: 13,
-            node: 0,
-            divs: 0,
-        };
+        return no_sentinels();
     }
     if columns::u16_of(trains, n - 1) != moved.0 {
-        return IdxSentinels {
-            code: 13,
-            node: 0,
-            divs: 0,
-        };
+        return no_sentinels();
     }
     let j = walk_to(trains, n, i, moved.0);
     if n <= j {
-        return IdxSentinels {
-            code: 13,
-            node: 0,
-            divs: 0,
-        };
+        return no_sentinels();
     }
     let node = columns::u16_of(nodes, j);
     if n <= j + 1 {
@@ -178,11 +176,7 @@ pub fn calc_idx_sentinels(
     }
     let k = walk_past(nodes, n, j + 1, node);
     if n <= k {
-        return IdxSentinels {
-            code: 13,
-            node: 0,
-            divs: 0,
-        };
+        return no_sentinels();
     }
     IdxSentinels {
         code: 0,

@@ -123,6 +123,16 @@ fn close(pool: &mut [u16], len: usize, base: TrainIdxsView) -> Union
     }
 }
 
+fn refused(code: u32, view: TrainIdxsView, len: usize) -> Union
+    ensures { λ r. ⌜ r ≡ record { code = code; view = view; len = len } ⌝ }
+{
+    Union {
+        code: code,
+        view: view,
+        len: len,
+    }
+}
+
 fn add_blocking_trains(
     pool: &mut [u16],
     len: usize,
@@ -133,32 +143,16 @@ fn add_blocking_trains(
     ensures { λ r. ⌜ Makes r (now (pool .exit)) (addBlockingTrains (take len (trains (now (pool .entry)))) base add) ⌝ }
 {
     if base.idx_end < base.idx_begin {
-        return Union {
-            code: 13,
-            view: base,
-            len: len,
-        };
+        return refused(13, base, len);
     }
     if len != base.idx_end as usize {
-        return Union {
-            code: 13,
-            view: base,
-            len: len,
-        };
+        return refused(13, base, len);
     }
     if add.idx_end < add.idx_begin {
-        return Union {
-            code: 13,
-            view: base,
-            len: len,
-        };
+        return refused(13, base, len);
     }
     if len == 2048 {
-        return Union {
-            code: 11,
-            view: base,
-            len: len,
-        };
+        return refused(11, base, len);
     }
     pool[len] = 0;
     let g = add_from(
@@ -169,11 +163,7 @@ fn add_blocking_trains(
         add.idx_end as usize,
     );
     if g.code != 0 {
-        return Union {
-            code: g.code,
-            view: base,
-            len: g.len,
-        };
+        return refused(g.code, base, g.len);
     }
     close(pool, g.len, base)
 }
@@ -200,35 +190,19 @@ fn add_all_blocking_trains(
     ensures { λ r. ⌜ Makes r (now (pool .exit)) (addAllBlockingTrains (take len (trains (now (pool .entry)))) large small) ⌝ }
 {
     if small.idx_end < small.idx_begin {
-        return Union {
-            code: 13,
-            view: large,
-            len: len,
-        };
+        return refused(13, large, len);
     }
     if large.idx_end < large.idx_begin {
-        return Union {
-            code: 13,
-            view: large,
-            len: len,
-        };
+        return refused(13, large, len);
     }
     let a = large.idx_begin as usize;
     let e = large.idx_end as usize;
     if len < e {
-        return Union {
-            code: 13,
-            view: large,
-            len: len,
-        };
+        return refused(13, large, len);
     }
     let k = e - a;
     if 2048 < len + k {
-        return Union {
-            code: 11,
-            view: large,
-            len: len,
-        };
+        return refused(11, large, len);
     }
     extend(pool, len, a, k);
     let v = TrainIdxsView {

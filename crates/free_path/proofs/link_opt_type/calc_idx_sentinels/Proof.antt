@@ -5,10 +5,13 @@ use borrow.Author.Needs.{needs}
 use Rattle.free_path.proofs.link_opt_type.calc_idx_sentinels.Statement.{statement}
 use Rattle.free_path.proofs.link_opt_type.calc_idx_sentinels.Tie as tie
 
+no-sentinels-requires : tie.Need-no-sentinels-requires
+no-sentinels-requires c κs = search needs
+
 returns : tie.Need-returns
 returns c =
-    let a = c .before .before .before .args in
-    sentinel-past (a .i) (a .n) (a .moved) (now (a .trains)) (now (a .nodes)) (c .if1 .taken)
+    let a = c .before .before .before .before .args in
+    rw (c .no-sentinels .ensures) (sentinel-past (a .i) (a .n) (a .moved) (now (a .trains)) (now (a .nodes)) (c .before .if1 .taken))
 
 sub-u16-of : tie.Need-sub-u16-of
 sub-u16-of c = search needs
@@ -16,21 +19,27 @@ sub-u16-of c = search needs
 u16-of-requires : tie.Need-u16-of-requires
 u16-of-requires c κs = search needs
 
+no-sentinels-requires-2 : tie.Need-no-sentinels-requires-2
+no-sentinels-requires-2 c κs = search needs
+
 returns-2 : tie.Need-returns-2
 returns-2 c =
-    let a = c .before .before .before .before .before .before .args in
-    let t = c .before .before .u16-of in
-    sentinel-other (a .i) (a .n) (a .moved) (now (a .trains)) (now (a .nodes)) (omega arith) (t .result) (t .ensures) (c .if2 .taken)
+    let a = c .before .before .before .before .before .before .before .args in
+    let t = c .before .before .before .u16-of in
+    rw (c .no-sentinels2 .ensures) (sentinel-other (a .i) (a .n) (a .moved) (now (a .trains)) (now (a .nodes)) (omega arith) (t .result) (t .ensures) (c .before .if2 .taken))
 
 walk-to-requires : tie.Need-walk-to-requires
 walk-to-requires c κs = search needs
 
+no-sentinels-requires-3 : tie.Need-no-sentinels-requires-3
+no-sentinels-requires-3 c κs = search needs
+
 returns-3 : tie.Need-returns-3
 returns-3 c =
-    let a = c .before .before .before .before .before .before .before .before .args in
-    let t = c .before .before .before .before .u16-of in
-    let w = c .before .walk-to in
-    sentinel-none (a .i) (a .n) (a .moved) (now (a .trains)) (now (a .nodes)) (omega arith) (t .result) (t .ensures) (c .before .before .if2 .left) (w .result) (w .ensures) (c .if3 .taken)
+    let a = c .before .before .before .before .before .before .before .before .before .args in
+    let t = c .before .before .before .before .before .u16-of in
+    let w = c .before .before .walk-to in
+    rw (c .no-sentinels3 .ensures) (sentinel-none (a .i) (a .n) (a .moved) (now (a .trains)) (now (a .nodes)) (omega arith) (t .result) (t .ensures) (c .before .before .before .if2 .left) (w .result) (w .ensures) (c .before .if3 .taken))
 
 u16-of-requires-2 : tie.Need-u16-of-requires-2
 u16-of-requires-2 c κs = search needs
@@ -58,14 +67,17 @@ add-walk-past c = search needs
 walk-past-requires : tie.Need-walk-past-requires
 walk-past-requires c κs = search needs
 
+no-sentinels-requires-4 : tie.Need-no-sentinels-requires-4
+no-sentinels-requires-4 c κs = search needs
+
 returns-5 : tie.Need-returns-5
 returns-5 c =
-    let a = c .before .before .before .before .before .before .before .before .before .before .before .before .args in
-    let t = c .before .before .before .before .before .before .before .before .u16-of in
-    let w = c .before .before .before .before .before .walk-to in
-    let x = c .before .before .before .u16-of2 in
-    let k = c .before .walk-past in
-    sentinel-off (a .i) (a .n) (a .moved) (now (a .trains)) (now (a .nodes)) (omega arith) (t .result) (t .ensures) (c .before .before .before .before .before .before .if2 .left) (w .result) (w .ensures) (c .before .before .before .before .if3 .left) (x .result) (x .ensures) (c .before .before .if4 .left) (k .result) (k .ensures) (c .if5 .taken)
+    let a = c .before .before .before .before .before .before .before .before .before .before .before .before .before .args in
+    let t = c .before .before .before .before .before .before .before .before .before .u16-of in
+    let w = c .before .before .before .before .before .before .walk-to in
+    let x = c .before .before .before .before .u16-of2 in
+    let k = c .before .before .walk-past in
+    rw (c .no-sentinels4 .ensures) (sentinel-off (a .i) (a .n) (a .moved) (now (a .trains)) (now (a .nodes)) (omega arith) (t .result) (t .ensures) (c .before .before .before .before .before .before .before .if2 .left) (w .result) (w .ensures) (c .before .before .before .before .before .if3 .left) (x .result) (x .ensures) (c .before .before .before .if4 .left) (k .result) (k .ensures) (c .before .if5 .taken))
 
 cast-t11 : tie.Need-cast-t11
 cast-t11 c = search needs
@@ -83,11 +95,14 @@ pub calc-idx-sentinels-spec : {M : Type 1} → statement M
 calc-idx-sentinels-spec =
     tie.close
     (tie.spec
+    no-sentinels-requires
     returns
     sub-u16-of
     u16-of-requires
+    no-sentinels-requires-2
     returns-2
     walk-to-requires
+    no-sentinels-requires-3
     returns-3
     u16-of-requires-2
     add-if4
@@ -96,6 +111,7 @@ calc-idx-sentinels-spec =
     returns-4
     add-walk-past
     walk-past-requires
+    no-sentinels-requires-4
     returns-5
     cast-t11
     returns-6)
