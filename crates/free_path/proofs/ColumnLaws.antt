@@ -7,7 +7,7 @@ use Prim.Native.Nat.{ℕ, zero, suc, _+_, _-_, _≤_, _<_}
 use native.Mathlib.Omega.{arith}
 use native.Mathlib.Nat.{eq-or-lt-of-le}
 use native.Mathlib.Numerals.{add-one}
-use lib.ListN.{length-map, List·getD-map, length, getD, drop, set, length-append, List·getD-append, drop-of-length-le}
+use lib.ListN.{length-map, List·getD-map, length, getD, drop, length-append, List·getD-append, drop-of-length-le}
 use lib.Seq.{drop-cons, getD-at}
 use borrow.Author.Tests.{lt-ltb, le-ltb}
 use Rattle.free_path.specs.Base.{ok, no, at, last, part, passes, count, walkFrom}
@@ -58,13 +58,6 @@ listed-map g (suc n) f = append-map (listed n f) (f n ∷ []) ∙ ap (λ l. l ++
     append-map : (xs ys : List _) → map g (xs ++ ys) ≡ map g xs ++ map g ys
     append-map [] ys = refl
     append-map (x ∷ xs) ys = ap (λ l. g x ∷ l) (append-map xs ys)
-
--- ---- a write past the end
-
-pub set-past : (xs : List ℕ) (i x : ℕ) → length xs ≤ i → set xs i x ≡ xs
-set-past [] i x h = refl
-set-past (y ∷ ys) zero x h = absurd (omega (arith, h))
-set-past (y ∷ ys) (suc i) x h = ap (λ l. y ∷ l) (set-past ys i x (omega (arith, h)))
 
 -- ---- a set as flags, link by link
 

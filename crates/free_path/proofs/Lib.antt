@@ -1,4 +1,5 @@
 pub mod WalkLaws
+pub mod ListLaws
 pub mod CountLaws
 pub mod PoolLaws
 pub mod ColumnLaws
@@ -12,3 +13,5 @@ pub mod PlainLaws
 pub mod OrderLaws
 pub mod PoolRenumbering
 pub mod PathRenumbering
+pub mod PoolBounds
+pub mod SentinelBounds

@@ -24,7 +24,8 @@ use Rattle.free_path.specs.Renumbered.{rClass}
 use Rattle.free_path.specs.declared.link_opt_type.LinkOptType.{LinkOptType}
 use Rattle.free_path.specs.declared.link_opt_type.LinkOptType.the-variants.{None, Single, Range, Check}
 use Rattle.free_path.proofs.MapLaws.{mapRes, map-id, bind-map, bind-same, need-map, cond-map, at-map, last-map, drop-map, part-map, walkFrom-map, passes-map, count-map, any-map}
-use Rattle.free_path.proofs.PlainLaws.{All, Link32, same-index}
+use Rattle.free_path.proofs.ListLaws.{All}
+use Rattle.free_path.proofs.PlainLaws.{Link32, same-index}
 use Rattle.free_path.proofs.OrderLaws.{class-perm, known-perm}
 
 -- ---- links

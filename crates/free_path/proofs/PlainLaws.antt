@@ -2,7 +2,7 @@
 use mathlib.Core.Path.{_≡_, refl, sym, ap, _∙_, subst}
 use mathlib.Core.Bool.{Bool, true, false, cond, not, _&&_, _||_, false≢true}
 use mathlib.Core.List.{List, [], _∷_, map}
-use Prim.Native.Nat.{ℕ, zero, suc, _+_, _-_, _^_, _≤_, _<_}
+use Prim.Native.Nat.{ℕ, _+_, _-_, _^_, _≤_, _<_}
 use native.Mathlib.Omega.{arith}
 use lib.Dec.{leb}
 use lib.ListN.{take, drop}
@@ -18,30 +18,9 @@ use Rattle.free_path.specs.Columns.{link}
 use Rattle.free_path.specs.declared.link_opt_type.LinkOptType.{LinkOptType}
 use Rattle.free_path.specs.declared.link_opt_type.LinkOptType.the-variants.{None, Single, Range, Check}
 use Rattle.free_path.proofs.MapLaws.{part-map}
+use Rattle.free_path.proofs.ListLaws.{All, all-take, all-later}
 
 -- ---- lists
-
-module _ {A : Type 0} (P : A → Type 0) where
-  abbrev pub All : List A → Type 0
-  All [] = Unit {0}
-  All (x ∷ xs) = P x × All xs
-
-  pub all-drop : (i : ℕ) (xs : List A) → All xs → All (drop i xs)
-  all-drop zero xs h = h
-  all-drop (suc i) [] h = tt
-  all-drop (suc i) (x ∷ xs) h = all-drop i xs (h .1)
-
-  pub all-take : (k : ℕ) (xs : List A) → All xs → All (take k xs)
-  all-take zero xs h = tt
-  all-take (suc k) [] h = tt
-  all-take (suc k) (x ∷ xs) h = (h .0, all-take k xs (h .1))
-
-  -- what holds from f on holds from i on
-  pub all-later : (f i : ℕ) (xs : List A) → f ≤ i → All (drop f xs) → All (drop i xs)
-  all-later zero i xs l h = all-drop i xs h
-  all-later (suc f) zero xs l h = absurd (omega arith)
-  all-later (suc f) (suc i) [] l h = tt
-  all-later (suc f) (suc i) (x ∷ xs) l h = all-later f i xs (omega arith) h
 
 -- a count of 0: none passes
 pub none-counted : {A : Type 0} (p : A → Bool) (xs : List A) → count p xs ≡ 0 → All (λ x. p x ≡ false) xs

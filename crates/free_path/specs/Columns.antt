@@ -1,19 +1,19 @@
 -- Arrays of numbers that a function is lent, as the lists of values that they hold. Assumes nothing.
+use mathlib.Core.Path.{_≡_}
 use Prim.Native.Nat.{ℕ, zero, suc, _≤_}
 use mathlib.Core.Bool.{Bool, cond, not, _&&_}
 use mathlib.Core.List.{List, [], _∷_, _++_, map}
 use lib.Dec.{ltb, leb, eqb}
 use lib.ListN.{length, getD, take, set}
+use Rattle.link_rules.specs.LinkIdx.{sameLink, noLink}
 use Rattle.link_rules.specs.declared.link_idx.LinkIdx.{LinkIdx}
 use Rattle.link_rules.specs.declared.link_idx.TrainIdx.{TrainIdx}
 use Rattle.disp_structs.specs.declared.DivergeNode.{DivergeNode}
 use Rattle.disp_structs.specs.declared.TrainIdxsView.{TrainIdxsView}
-use Rattle.link_rules.specs.LinkIdx.{sameLink, noLink}
 use Rattle.free_path.specs.Base.{Res, ok, no, _>>=_, _>>_, need}
 use Rattle.free_path.specs.TrainIdxsView.{poolRoom, Pooled, concatTrainIdxViews}
 use Rattle.free_path.specs.declared.train_idxs_view.Grown.{Grown}
 use Rattle.free_path.specs.declared.train_idxs_view.Union.{Union}
-use mathlib.Core.Path.{_≡_}
 
 -- a refusal's number, or 0 and the answer
 abbrev pub answer : {A : Type 0} → ℕ → A → Res A

@@ -27,7 +27,7 @@ isStray occ known n = isArrive (n .«link_event» .«est_type») && (occupied oc
 unfoldable pub strays : List ℕ → (LinkIdx → Bool) → ℕ → List DispNode → ℕ
 strays occ known free path = count (isStray occ known) (drop free path)
 
--- a stray as an entry of link_idx_path shows it: StrayLaws.stray-link
+-- a stray as an entry of link_idx_path shows it: ValidateLaws.stray-link
 unfoldable pub strayLink : List ℕ → (LinkIdx → Bool) → LinkIdx → Bool
 strayLink occ known l = not (sameLink l noLink) && (occupied occ l && not (known l))
 

@@ -1,9 +1,9 @@
 // The class of the blocking list (LinkOptType), the sentinels, and the search for the first intersection.
 ghost use mathlib.Core.Path.{_≡_};
 ghost use Prim.Native.Nat.{_-_, _≤_};
-ghost use mathlib.Core.Bool.{cond, not, _&&_};
+ghost use mathlib.Core.Bool.{cond, not};
 ghost use lib.Dec.{leb, eqb};
-ghost use Rattle.link_rules.specs.LinkIdx.{sameLink, occupied};
+ghost use Rattle.link_rules.specs.LinkIdx.{occupied};
 ghost use Rattle.free_path.specs.Base.{walkFrom};
 ghost use Rattle.free_path.specs.LinkOptType.{least, most, classMore, classEnd, linkOptType, calcIdxSentinels, wrapping, inRange, stops, isNone, intersect, findTrainIntersect};
 ghost use Rattle.free_path.specs.declared.link_opt_type.LinkOptType.the-variants.{Range, Check};
@@ -198,30 +198,16 @@ fn in_range(low: u32, span: u32, l: LinkIdx) -> bool
     wrapping_sub(l.0, low) <= span
 }
 
-fn in_range_occupied(low: u32, span: u32, occ: &[u16], l: LinkIdx) -> bool
-    ensures { λ r. ⌜ r ≡ (inRange low span l && occupied (now (occ .entry)) l) ⌝ }
-{
-    if in_range(low, span, l) {
-        return columns::is_occupied(occ, l);
-    }
-    false
-}
-
-fn is_link(l: LinkIdx, c: LinkIdx) -> bool
-    ensures { λ r. ⌜ r ≡ sameLink l c ⌝ }
-{
-    l.0 == c.0
-}
-
 // Does the walk stop at this link? At a Single it stops whether the link is taken or not.
 fn stops_at(class: LinkOptType, occ: &[u16], l: LinkIdx) -> bool
     ensures { λ r. ⌜ r ≡ stops class (now (occ .entry)) l ⌝ }
 {
+    let taken = columns::is_occupied(occ, l);
     match class {
         LinkOptType::None => false,
-        LinkOptType::Single(c) => is_link(l, c),
-        LinkOptType::Range(low, span) => in_range_occupied(low, span, occ, l),
-        LinkOptType::Check => columns::is_occupied(occ, l),
+        LinkOptType::Single(c) => l.0 == c.0,
+        LinkOptType::Range(low, span) => in_range(low, span, l) & taken,
+        LinkOptType::Check => taken,
     }
 }
 
@@ -265,7 +251,7 @@ pub struct Intersection {
     pub idx: usize,
 }
 
-// link_idx_path as n links of a column.
+// link_idx_path, without its ending sentinel, as n links of a column.
 pub fn find_train_intersect(
     split: usize,
     sentinel: usize,

@@ -15,7 +15,8 @@ use Rattle.disp_structs.specs.declared.Metres.{Metres}
 use Rattle.free_path.specs.LinkOptType.{linksOnPath, contains, linkIdxPath, least, linkOptType, isNone, findTrainIntersect, calcIdxSentinels, plainly}
 use Rattle.free_path.specs.declared.link_opt_type.LinkOptType.{LinkOptType}
 use Rattle.free_path.specs.declared.link_opt_type.LinkOptType.the-variants.{None, Single, Range, Check}
-use Rattle.free_path.proofs.PlainLaws.{All, Link32, same-index}
+use Rattle.free_path.proofs.ListLaws.{All}
+use Rattle.free_path.proofs.PlainLaws.{Link32, same-index}
 use Rattle.free_path.proofs.MapLaws.{map-id, id-map, bind-same}
 use Rattle.train_update.specs.Update.{Given, apart, searchBegin, meeting, splitPoint, searchRound, roundOf, straysOf}
 use Rattle.train_update.proofs.RoundRenumbering.{given}

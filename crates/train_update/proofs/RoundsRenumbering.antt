@@ -19,7 +19,8 @@ use Rattle.free_path.specs.LinkOptType.{contains, linkOptType, plainly}
 use Rattle.free_path.specs.Validate.{known}
 use Rattle.free_path.specs.Renumbered.{rClass}
 use Rattle.free_path.proofs.PathRenumbering.{strays-r, validateFreePath-r}
-use Rattle.free_path.proofs.PlainLaws.{All, Link32}
+use Rattle.free_path.proofs.ListLaws.{All}
+use Rattle.free_path.proofs.PlainLaws.{Link32}
 use Rattle.free_path.proofs.MapLaws.{mapRes, cond-map}
 use Rattle.train_update.specs.State.{Ended, atEnd, blockedAt, again}
 use Rattle.train_update.specs.Update.{Given, Updated, Between, roundOf, straysOf, faultsOf, finish, afterRound, due, roundsFrom}

@@ -22,7 +22,8 @@ use Rattle.free_path.specs.Validate.{known, strays}
 use Rattle.free_path.specs.Order.{Perm, done, keep, swap, chain}
 use Rattle.free_path.specs.Renumbered.{rClass}
 use Rattle.free_path.proofs.PathRenumbering.{noLink-r, class-r, known-r}
-use Rattle.free_path.proofs.PlainLaws.{All, Link32}
+use Rattle.free_path.proofs.ListLaws.{All}
+use Rattle.free_path.proofs.PlainLaws.{Link32}
 use Rattle.free_path.proofs.MapLaws.{mapRes, at-map}
 use Rattle.train_update.specs.State.{withDivNodes}
 use Rattle.train_update.specs.Update.{Given, Between, roundsFrom, adjustSentinel, givenOf, startOf, updateFrom, updateFreePath}

@@ -1,5 +1,5 @@
 use Rattle.free_path.specs.Columns.{flagLink}
-use Rattle.free_path.proofs.ColumnLaws.{set-past}
+use lib.Seq.{set-out}
 use borrow.Author.Tests.{eq-eqb, ne-eqb}
 use denote.Ref.{now}
 use borrow.Author.Needs.{needs}
@@ -17,7 +17,7 @@ returns-2 : tie.Need-returns-2
 unfolding flagLink
 returns-2 c =
     let a = c .before .before .before .args in
-    rw (ne-eqb (a .l .0) 0 (c .before .if1 .left), set-past (now (a .flags)) (a .l .0) 1 (c .if2 .taken))
+    rw (ne-eqb (a .l .0) 0 (c .before .if1 .left), set-out (now (a .flags)) (a .l .0) 1 (c .if2 .taken))
 
 slice-write-flags : tie.Need-slice-write-flags
 slice-write-flags c = search needs
