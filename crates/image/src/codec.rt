@@ -16,7 +16,7 @@ ghost use mathlib.Core.Path.{_≡_};
 ghost use Prim.Native.Nat.{_+_, _*_, _-_, _^_, _<_};
 ghost use Rattle.link_rules.specs.Octets.{leAt, putLe};
 ghost use Rattle.disp_structs.specs.Floats.{realOf};
-ghost use Rattle.image.specs.Image.{sizeOf, estCount, pathCount, divergeCount, divergeRoom, trainIdx, pathHeader, distDispPathSearch, distFixedMax, estPlace, nodePlace, divergePlace, typeOf, typeNumber, estAt, nodeAt, divergeAt, putEst, putNode, putDiverge, zeroWords, clearNodes, clearDiverges, putPathHeader};
+ghost use Rattle.image.specs.Image.{sizeOf, estCount, pathCount, divergeCount, divergeRoom, trainIdx, pathHeader, distDispPathSearch, distFixedMax, estPlace, nodePlace, divergePlace, typeOf, typeNumber, estFrom, estAt, nodeAt, divergeAt, putEst, putNode, putDiverge, zeroWords, clearNodes, clearDiverges, putPathHeader};
 
 // The header's numbers that an update changes.
 pub struct PathHeader {
@@ -156,16 +156,29 @@ fn type_number(t: EstType) -> u16
 pub fn est_at(img: &[u8], i: u32) -> EstTime
     ensures { λ r. ⌜ r ≡ estAt (now (img .entry)) i ⌝ }
 {
-    let at = est_place(i);
+    est_from(img, est_place(i))
+}
+
+// The est record of index i among est records alone, as a layout gets them.
+pub fn est_in(est: &[u8], i: u32) -> EstTime
+    ensures { λ r. ⌜ r ≡ estFrom (now (est .entry)) (32 * i) ⌝ }
+{
+    est_from(est, 32 * (i as usize))
+}
+
+fn est_from(s: &[u8], at: usize) -> EstTime
+    requires { ⌜ at < 2 ^ 48 ⌝ }
+    ensures { λ r. ⌜ r ≡ estFrom (now (s .entry)) at ⌝ }
+{
     EstTime {
-        dist_to_next: Metres(floats::real_of(octets::u64_at(img, at))),
-        idx_next: EstIdx(octets::u32_at(img, at + 8)),
-        idx_next_alt: EstIdx(octets::u32_at(img, at + 12)),
-        idx_prev: EstIdx(octets::u32_at(img, at + 16)),
-        idx_prev_alt: EstIdx(octets::u32_at(img, at + 20)),
+        dist_to_next: Metres(floats::real_of(octets::u64_at(s, at))),
+        idx_next: EstIdx(octets::u32_at(s, at + 8)),
+        idx_next_alt: EstIdx(octets::u32_at(s, at + 12)),
+        idx_prev: EstIdx(octets::u32_at(s, at + 16)),
+        idx_prev_alt: EstIdx(octets::u32_at(s, at + 20)),
         link_event: LinkEvent {
-            link_idx: LinkIdx(octets::u32_at(img, at + 24)),
-            est_type: type_of(octet_at(img, at + 28)),
+            link_idx: LinkIdx(octets::u32_at(s, at + 24)),
+            est_type: type_of(octet_at(s, at + 28)),
         },
     }
 }

@@ -1,0 +1,136 @@
+-- Laying out a new train: TrainDisp::new (train_disp/mod.rs 91-218), with refusals 5 to 9 and 11. Assumes nothing.
+use Prim.Native.Nat.{ℕ, zero, suc, _+_, _*_, _/_, _%_, _≤_}
+use mathlib.Core.Bool.{Bool, true, false, cond, not, _&&_}
+use mathlib.Core.List.{List, [], _∷_}
+use lib.Dec.{leb, eqb}
+use lib.Ieee.{Float, ne}
+use lib.ListN.{length, replicate}
+use lib.Seq.{paste}
+use Rattle.link_rules.specs.Octets.{putLe}
+use Rattle.link_rules.specs.declared.advance_rewind.Refusal.{Refusal}
+use Rattle.disp_structs.specs.Floats.{bitsOf}
+use Rattle.disp_structs.specs.Values.{noEst, sameEst, plus, zeroMetres, within, never}
+use Rattle.disp_structs.specs.declared.Metres.{Metres}
+use Rattle.disp_structs.specs.declared.EstTime.{EstTime}
+use Rattle.disp_structs.specs.declared.DispNode.{DispNode}
+use Rattle.image.specs.Image.{nodePlace, divergePlace, imageSize, estFrom, putNode}
+use Rattle.image_fault.specs.ImageFault.{imageFault}
+use Rattle.image_fault.specs.declared.Fault.{Fault}
+use Rattle.train_disp.specs.declared.Order.{Order}
+use Rattle.train_disp.specs.declared.LayOutAnswer.{LayOutAnswer}
+use Rattle.train_disp.specs.declared.LayOutAnswer.the-variants.{Done, Refused}
+
+-- ---- the path: along next from est 0 (119-137)
+
+-- a node of a new train: est record x, number e, at offset o (126-131)
+abbrev pub newNode : EstTime → ℕ → Metres → DispNode
+newNode x e o =
+    record {
+      offset = o;
+      «time_pass» = never;
+      «link_event» = x .«link_event»;
+      «est_idx» = record { 0 = e };
+      «disp_auth_idx_entry» = 0;
+    }
+
+-- the offset behind a node (132): the distance is added after the node. Without sums every offset is 0
+unfoldable pub offsetBehind : Bool → Metres → EstTime → Metres
+offsetBehind sums o x = cond sums (plus o (x .«dist_to_next»)) o
+
+-- at most k nodes, from record e at offset o on
+unfoldable pub walkNext : Bool → List ℕ → ℕ → ℕ → Metres → List DispNode
+walkNext sums est zero e o = []
+walkNext sums est (suc k) e o =
+    let x = estFrom est (32 * e) in
+    let rest = walkNext sums est k (x .«idx_next» .0) (offsetBehind sums o x) in
+    newNode x e o ∷ cond (sameEst (x .«idx_next») noEst) [] rest
+
+-- E, the number of est records
+abbrev pub estLength : List ℕ → ℕ
+estLength est = length est / 32
+
+abbrev pub newPath : Bool → List ℕ → List DispNode
+newPath sums est = walkNext sums est (estLength est) 0 zeroMetres
+
+-- ---- the image over zero bytes
+
+-- a distance setting's pattern; of a NaN a NaN's, which 7 refuses
+unfoldable pub settingBits : Float → ℕ
+settingBits x = cond (ne x x) 0x7ff8_0000_0000_0000 (bitsOf x)
+
+-- the header but N; M is 2, and fixed, free, front and back are 0
+unfoldable pub withHeader : ℕ → Order → List ℕ → List ℕ
+withHeader e o bs =
+    putLe 4 e 4
+    (putLe 8 (settingBits (o .«dist_fixed_max» .0)) 56
+    (putLe 8 (settingBits (o .«dist_disp_path_search» .0)) 48
+    (putLe 2 (o .«train_idx» .0) 32
+    (putLe 4 (64 + 64 * e) 28
+    (putLe 4 (64 + 32 * e) 24
+    (putLe 4 64 20
+    (putLe 4 (o .«diverge_room») 16
+    (putLe 4 2 12
+    (putLe 4 (imageSize e (o .«diverge_room»)) 0 bs)))))))))
+
+-- the est records as they are
+unfoldable pub withEst : List ℕ → List ℕ → List ℕ
+withEst est bs = paste bs 64 est (length est)
+
+-- path nodes in records from at on
+unfoldable pub putNodes : List DispNode → ℕ → List ℕ → List ℕ
+putNodes [] at bs = bs
+putNodes (x ∷ xs) at bs = putNodes xs (at + 32) (putNode x at bs)
+
+-- N, and the ending diverge node (0, N) behind the starting one (0, 0) (165-171)
+unfoldable pub withEnds : ℕ → ℕ → List ℕ → List ℕ
+withEnds e n bs = putLe 2 n (divergePlace e 1 + 2) (putLe 4 n 8 bs)
+
+-- size bytes
+unfoldable pub laidImage : Bool → List ℕ → Order → ℕ → List ℕ
+laidImage sums est o size =
+    let e = estLength est in
+    let path = newPath sums est in
+    withEnds e (length path) (putNodes path (nodePlace e 0) (withEst est (withHeader e o (replicate size 0))))
+
+-- ---- refusals
+
+-- E, Q, L and the size of the buffer (6)
+unfoldable pub sizesFit : ℕ → Order → ℕ → Bool
+sizesFit n o size =
+    eqb (n % 32) 0 && (leb 1 (n / 32) && (leb (n / 32) 512
+    && (leb 2 (o .«diverge_room») && (leb (o .«diverge_room») 1024
+    && (leb 2 (o .links) && (leb (o .links) 4000 && eqb size (imageSize (n / 32) (o .«diverge_room»))))))))
+
+-- what of it the buffers rest on
+pub record Sized (n : ℕ) (o : Order) (size : ℕ) : Type 0 where
+  pub few-est : n ≤ 16384
+  pub few-room : o .«diverge_room» ≤ 1024
+  pub room : 64 + n ≤ size
+  pub small : size ≤ 36928
+
+-- no stored offset is beyond 1e12 (11)
+unfoldable pub allWithin : List DispNode → Bool
+allWithin [] = true
+allWithin (x ∷ xs) = let rest = allWithin xs in cond (within (x .offset)) rest false
+
+-- the answer, and the image that is left
+pub record Laid : Type 0 where
+  pub answer : LayOutAnswer
+  pub image : List ℕ
+
+abbrev pub laid : LayOutAnswer → List ℕ → Laid
+laid r bs = record { answer = r; image = bs }
+
+abbrev pub refusedBy : ℕ → ℕ → List ℕ → Laid
+refusedBy n place bs = laid (Refused (record { number = n; place = place })) bs
+
+-- lay out (document 01): 5; 6; then 6 to 9 as the image with all offsets 0 has them, in the same order; then 11
+abbrev pub judged : Fault → Bool → List ℕ → List ℕ → Laid
+judged f fits was new = cond (eqb (f .number) 0) (cond fits (laid Done new) (refusedBy 11 0 was)) (refusedBy (f .number) (f .place) was)
+
+unfoldable pub laidOut : List ℕ → Order → List ℕ → Laid
+laidOut est o img =
+    let f = imageFault (laidImage false est o (length img)) (o .links) in
+    let r = judged f (allWithin (newPath true est)) img (laidImage true est o (length img)) in
+    cond (eqb (o .«train_idx» .0) 0) (refusedBy 5 0 img)
+    (cond (sizesFit (length est) o (length img)) r (refusedBy 6 0 img))

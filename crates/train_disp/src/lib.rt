@@ -1,0 +1,260 @@
+// Laying out a new train: TrainDisp::new (train_disp/mod.rs 91-218).
+// Every function here is proved, the crate assumes nothing of its own, and no public function has a `requires`.
+ghost use mathlib.Core.Path.{_≡_};
+ghost use mathlib.Core.Bool.{true, false};
+ghost use Prim.Native.Nat.{_+_, _≤_};
+ghost use lib.ListN.{length, replicate};
+ghost use Rattle.disp_structs.specs.Values;
+ghost use Rattle.disp_structs.specs.Values.{zeroMetres};
+ghost use Rattle.image.specs.Image.{estCount, nodePlace};
+ghost use Rattle.image_fault.specs.ImageFault.{imageFault};
+ghost use Rattle.train_disp.specs.TrainDisp.{newNode, offsetBehind, walkNext, estLength, newPath, settingBits, withHeader, withEst, putNodes, withEnds, laidImage, sizesFit, Sized, allWithin, laid, laidOut};
+use disp_structs::DispNode;
+use disp_structs::EstIdx;
+use disp_structs::EstTime;
+use disp_structs::Metres;
+use disp_structs::Seconds;
+use disp_structs::floats;
+use image::codec;
+use image_fault::Fault;
+use link_rules::advance_rewind::Refusal;
+use link_rules::link_idx::TrainIdx;
+use link_rules::octets;
+
+// What a layout is told besides the est records: the train, the two distance settings, and document 01's Q and L.
+pub struct Order {
+    pub train_idx: TrainIdx,
+    pub dist_disp_path_search: Metres,
+    pub dist_fixed_max: Metres,
+    pub diverge_room: u32,
+    pub links: u32,
+}
+
+pub enum LayOutAnswer {
+    Done,
+    Refused(Refusal),
+}
+
+// Writes the image of a new train, its path along next from est 0. Refused by 5 to 9 and 11: then nothing is changed.
+pub fn lay_out(est: &[u8], order: Order, image: &mut [u8]) -> LayOutAnswer
+    ensures { λ r. ⌜ laid r (now (image .exit)) ≡ laidOut (now (est .entry)) order (now (image .entry)) ⌝ }
+{
+    if order.train_idx.0 == 0 {
+        return refused(5, 0);
+    }
+    if !sizes_fit(est.len(), order, image.len()) {
+        return refused(6, 0);
+    }
+    let f = judge(est, order, image.len());
+    if f.number != 0 {
+        return refused(f.number, f.place);
+    }
+    if !offsets_fit(est) {
+        return refused(11, 0);
+    }
+    build(image, est, order, true);
+    LayOutAnswer::Done
+}
+
+fn refused(number: u16, place: u16) -> LayOutAnswer
+    ensures { λ r. ⌜ r ≡ LayOutAnswer.Refused (record { number = number; place = place }) ⌝ }
+{
+    LayOutAnswer::Refused(Refusal {
+        number: number,
+        place: place,
+    })
+}
+
+fn sizes_fit(n: usize, order: Order, size: usize) -> bool
+    ensures { λ r. ⌜ r ≡ sizesFit n order size ⌝ }
+{
+    let q = order.diverge_room as usize;
+    if n % 32 != 0 {
+        return false;
+    }
+    let e = n / 32;
+    if e < 1 {
+        return false;
+    }
+    if 512 < e {
+        return false;
+    }
+    if q < 2 {
+        return false;
+    }
+    if 1024 < q {
+        return false;
+    }
+    if order.links < 2 {
+        return false;
+    }
+    if 4000 < order.links {
+        return false;
+    }
+    size == 64 + 64 * e + 4 * q
+}
+
+// 6 to 9 of the image with all offsets 0.
+fn judge(est: &[u8], order: Order, size: usize) -> Fault
+    requires { ⌜ Sized (length (now est)) order size ⌝ }
+    ensures { λ r. ⌜ r ≡ imageFault (laidImage false (now (est .entry)) order size) (order .links) ⌝ }
+{
+    let mut room = scratch();
+    judge_in(est, order, &mut room[..size])
+}
+
+// Room for the largest image.
+fn scratch() -> [u8; 36928]
+    ensures { λ r. ⌜ 36928 ≡ length r ⌝ }
+{
+    [0u8; 36928]
+}
+
+fn judge_in(est: &[u8], order: Order, img: &mut [u8]) -> Fault
+    requires { ⌜ Sized (length (now est)) order (length (now img)) ⌝ }
+    ensures { λ r. ⌜ r ≡ imageFault (laidImage false (now (est .entry)) order (length (now (img .entry)))) (order .links) ⌝ }
+{
+    build(img, est, order, false);
+    image_fault::image_fault(img, order.links)
+}
+
+fn build(img: &mut [u8], est: &[u8], order: Order, sums: bool)
+    requires { ⌜ Sized (length (now est)) order (length (now img)) ⌝ }
+    ensures { λ _. ⌜ now (img .exit) ≡ laidImage sums (now (est .entry)) order (length (now (img .entry))) ⌝ }
+{
+    let e = (est.len() / 32) as u32;
+    clear(img);
+    put_header(img, e, order);
+    put_est(img, est);
+    let n = put_path(img, est, e, sums);
+    put_ends(img, e, n);
+}
+
+fn clear(img: &mut [u8])
+    ensures { λ _. ⌜ now (img .exit) ≡ replicate (length (now (img .entry))) 0 ⌝ }
+{
+    let mut i = 0;
+    while i < img.len() {
+        img[i] = 0;
+        i += 1;
+    }
+}
+
+fn setting_bits(x: f64) -> u64
+    ensures { λ r. ⌜ r ≡ settingBits x ⌝ }
+{
+    if x != x {
+        return 0x7ff8_0000_0000_0000;
+    }
+    floats::bits_of(x)
+}
+
+fn put_header(img: &mut [u8], e: u32, order: Order)
+    requires { ⌜ (e ≤ 512) × (order .«diverge_room» ≤ 1024) ⌝ }
+    ensures { λ _. ⌜ now (img .exit) ≡ withHeader e order (now (img .entry)) ⌝ }
+{
+    let q = order.diverge_room;
+    octets::put_u32(img, 0, 64 + 64 * e + 4 * q);
+    octets::put_u32(img, 12, 2);
+    octets::put_u32(img, 16, q);
+    octets::put_u32(img, 20, 64);
+    octets::put_u32(img, 24, 64 + 32 * e);
+    octets::put_u32(img, 28, 64 + 64 * e);
+    octets::put_u16(img, 32, order.train_idx.0);
+    octets::put_u64(img, 48, setting_bits(order.dist_disp_path_search.0));
+    octets::put_u64(img, 56, setting_bits(order.dist_fixed_max.0));
+    octets::put_u32(img, 4, e);
+}
+
+fn put_est(img: &mut [u8], est: &[u8])
+    requires { ⌜ 64 + length (now est) ≤ length (now img) ⌝ }
+    ensures { λ _. ⌜ now (img .exit) ≡ withEst (now (est .entry)) (now (img .entry)) ⌝ }
+{
+    let mut i = 0;
+    while i < est.len() {
+        img[64 + i] = est[i];
+        i += 1;
+    }
+}
+
+fn never() -> Seconds
+    ensures { λ r. ⌜ r ≡ Values.never ⌝ }
+{
+    Seconds(floats::real_of(0x7ff0_0000_0000_0000))
+}
+
+fn new_node(x: EstTime, e: u32, o: Metres) -> DispNode
+    ensures { λ r. ⌜ r ≡ newNode x e o ⌝ }
+{
+    let event = x.link_event;
+    DispNode {
+        offset: o,
+        time_pass: never(),
+        link_event: event,
+        est_idx: EstIdx(e),
+        disp_auth_idx_entry: 0,
+    }
+}
+
+fn offset_behind(sums: bool, o: Metres, x: EstTime) -> Metres
+    ensures { λ r. ⌜ r ≡ offsetBehind sums o x ⌝ }
+{
+    if sums {
+        return Metres(o.0 + x.dist_to_next.0);
+    }
+    o
+}
+
+// Writes the path along next, and tells how many nodes it has.
+fn put_path(img: &mut [u8], est: &[u8], e: u32, sums: bool) -> u32
+    requires { ⌜ (e ≤ 512) × (estCount (now img) ≡ e) ⌝ }
+    ensures { λ r. ⌜ (r ≡ length (walkNext sums (now (est .entry)) e 0 zeroMetres))
+        × (now (img .exit) ≡ putNodes (walkNext sums (now (est .entry)) e 0 zeroMetres) (nodePlace e 0) (now (img .entry))) ⌝ }
+{
+    let mut i: u32 = 0;
+    let mut at: u32 = 0;
+    let mut o = Metres(0.0);
+    while i < e {
+        let x = codec::est_in(est, at);
+        codec::put_node(img, i, new_node(x, at, o));
+        i += 1;
+        if x.idx_next.0 == 0 {
+            return i;
+        }
+        at = x.idx_next.0;
+        o = offset_behind(sums, o, x);
+    }
+    i
+}
+
+fn put_ends(img: &mut [u8], e: u32, n: u32)
+    requires { ⌜ (e ≤ 512) × (n ≤ 512) ⌝ }
+    ensures { λ _. ⌜ now (img .exit) ≡ withEnds e n (now (img .entry)) ⌝ }
+{
+    octets::put_u32(img, 8, n);
+    octets::put_u16(img, codec::diverge_place(e, 1) + 2, n as u16);
+}
+
+// No stored offset is beyond 1e12 in magnitude.
+fn offsets_fit(est: &[u8]) -> bool
+    requires { ⌜ length (now est) ≤ 16384 ⌝ }
+    ensures { λ r. ⌜ r ≡ allWithin (newPath true (now (est .entry))) ⌝ }
+{
+    let e = (est.len() / 32) as u32;
+    let mut i: u32 = 0;
+    let mut at: u32 = 0;
+    let mut o = Metres(0.0);
+    while i < e {
+        if !floats::in_reach(o.0) {
+            return false;
+        }
+        let x = codec::est_in(est, at);
+        if x.idx_next.0 == 0 {
+            return true;
+        }
+        at = x.idx_next.0;
+        o = offset_behind(true, o, x);
+        i += 1;
+    }
+    true
+}
