@@ -308,8 +308,27 @@ class Branches:
                 self.wrap(s, e)
 
     def wrap(self, s, e):
-        self.put(s, "crate::hook::cond(%d, " % self.new_id(s, "cond"))
-        self.put(e, ")")
+        order = self.order(s, e)
+        if order is None:
+            self.put(s, "crate::hook::cond(%d, " % self.new_id(s, "cond"))
+            self.put(e, ")")
+            return
+        at = self.new_id(s, "order")
+        one_line = lambda t: " ".join(t.split())
+        same = one_line(self.text[s:order[0]]) + " == " + one_line(self.text[order[1]:e])
+        self.put(s, "crate::hook::cond(%d, { crate::hook::equal(%d, %s); " % (at, at, same))
+        self.put(e, " })")
+
+    def order(self, s, e):
+        """Where <, <=, > or >= stands between two sides of the span, or None."""
+        depth = 0
+        for i in range(s, e):
+            c = self.text[i]
+            m = re.compile(r"\s(<=|>=|<|>)\s").match(self.text, i, e)
+            if depth == 0 and m:
+                return (m.start(1), m.end(1))
+            depth += (c in "([{") - (c in ")]}")
+        return None
 
 
 def line_starts(text):

@@ -7,7 +7,7 @@ use lib.ListN.{length}
 use lib.Ieee.{binary64, ofBits}
 use Rattle.link_rules.specs.LinkIdx.{noTrain}
 use Rattle.link_rules.specs.AdvanceRewind.{marked, markOf}
-use Rattle.link_rules.specs.declared.advance_rewind.MarkAnswer.the-variants.{Done}
+use Rattle.link_rules.specs.declared.refusal.Answer.the-variants.{Done}
 use Rattle.disp_structs.specs.Floats.{nearFloat}
 use Rattle.disp_structs.specs.Values.{view}
 use Rattle.disp_structs.specs.declared.TrainIdxsView.{TrainIdxsView}

@@ -12,8 +12,8 @@ use Rattle.link_rules.specs.Network.{lockouts, lockoutAt, linkAt}
 use Rattle.link_rules.specs.AdvanceRewind.{holdAll, refilled, resetLinkTrainIdx, resetAll, updateLinksBlocked, markRefusal, marked, markedBy, markOf}
 use Rattle.link_rules.specs.declared.link_idx.LinkIdx.{LinkIdx}
 use Rattle.link_rules.specs.declared.link_idx.TrainIdx.{TrainIdx}
-use Rattle.link_rules.specs.declared.advance_rewind.MarkAnswer.the-variants.{Refused}
-use Rattle.link_rules.specs.declared.advance_rewind.Refusal.{Refusal}
+use Rattle.link_rules.specs.declared.refusal.Answer.the-variants.{Refused}
+use Rattle.link_rules.specs.declared.refusal.Refusal.{Refusal}
 use Rattle.link_rules.proofs.TableLaws.{lockouts-turn, lockouts-end}
 
 -- ---- a walk over n lockouts from index j on, of which i are done

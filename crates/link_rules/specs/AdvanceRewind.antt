@@ -8,8 +8,8 @@ use Rattle.link_rules.specs.LinkIdx.{noTrain, sameTrain, holder, occupie
 use Rattle.link_rules.specs.Network.{linkCount, linkAt, tableFits}
 use Rattle.link_rules.specs.declared.link_idx.LinkIdx.{LinkIdx}
 use Rattle.link_rules.specs.declared.link_idx.TrainIdx.{TrainIdx}
-use Rattle.link_rules.specs.declared.advance_rewind.MarkAnswer.{MarkAnswer}
-use Rattle.link_rules.specs.declared.advance_rewind.MarkAnswer.the-variants.{Done, Refused}
+use Rattle.link_rules.specs.declared.refusal.Answer.{Answer}
+use Rattle.link_rules.specs.declared.refusal.Answer.the-variants.{Done, Refused}
 
 -- each of some links is given the train (559-561)
 unfoldable pub holdAll : List ℕ → List LinkIdx → TrainIdx → List ℕ
@@ -50,10 +50,10 @@ markRefusal tbl n l =
 
 -- the answer, and the occupancy that is left
 pub record Marked : Type 0 where
-  pub answer : MarkAnswer
+  pub answer : Answer
   pub occupancy : List ℕ
 
-abbrev pub marked : MarkAnswer → List ℕ → Marked
+abbrev pub marked : Answer → List ℕ → Marked
 marked r occ = record { answer = r; occupancy = occ }
 
 -- a refusal has place 0 and leaves the occupancy

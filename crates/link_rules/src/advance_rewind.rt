@@ -7,17 +7,8 @@ ghost use Rattle.link_rules.specs.AdvanceRewind.{holdAll, refilled, rese
 use crate::link_idx::LinkIdx;
 use crate::link_idx::TrainIdx;
 use crate::network;
-
-// Document 01's number of a refusal, and its place.
-pub struct Refusal {
-    pub number: u16,
-    pub place: u16,
-}
-
-pub enum MarkAnswer {
-    Done,
-    Refused(Refusal),
-}
+use crate::refusal::Answer;
+use crate::refusal::Refusal;
 
 // Marks a link for a train; train 0 releases it. Refused by 1 (table), 2 (length of the occupancy), 3 (link): then nothing is changed.
 pub fn update_links_blocked(
@@ -25,18 +16,18 @@ pub fn update_links_blocked(
     occupancy: &mut [u16],
     link: LinkIdx,
     train: TrainIdx,
-) -> MarkAnswer
+) -> Answer
     ensures { λ r. ⌜ marked r (now (occupancy .exit)) ≡ markOf (now (table .entry)) (now (occupancy .entry)) link train ⌝ }
 {
     let number = mark_refusal(table, occupancy.len(), link);
     if number != 0 {
-        return MarkAnswer::Refused(Refusal {
+        return Answer::Refused(Refusal {
             number: number,
             place: 0,
         });
     }
     mark(table, occupancy, link, train);
-    MarkAnswer::Done
+    Answer::Done
 }
 
 fn mark_refusal(table: &[u8], n: usize, link: LinkIdx) -> u16

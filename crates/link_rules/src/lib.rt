@@ -4,3 +4,4 @@ pub mod advance_rewind;
 pub mod link_idx;
 pub mod network;
 pub mod octets;
+pub mod refusal;

@@ -7,7 +7,7 @@ use lib.Ieee.{Float, ne}
 use lib.ListN.{length, replicate}
 use lib.Seq.{paste}
 use Rattle.link_rules.specs.Octets.{putLe}
-use Rattle.link_rules.specs.declared.advance_rewind.Refusal.{Refusal}
+use Rattle.link_rules.specs.declared.refusal.Refusal.{Refusal}
 use Rattle.disp_structs.specs.Floats.{bitsOf}
 use Rattle.disp_structs.specs.Values.{noEst, sameEst, plus, zeroMetres, within, never}
 use Rattle.disp_structs.specs.declared.Metres.{Metres}
@@ -17,8 +17,8 @@ use Rattle.image.specs.Image.{nodePlace, divergePlace, imageSize, estFrom, putN
 use Rattle.image_fault.specs.ImageFault.{imageFault}
 use Rattle.image_fault.specs.declared.Fault.{Fault}
 use Rattle.train_disp.specs.declared.Order.{Order}
-use Rattle.train_disp.specs.declared.LayOutAnswer.{LayOutAnswer}
-use Rattle.train_disp.specs.declared.LayOutAnswer.the-variants.{Done, Refused}
+use Rattle.link_rules.specs.declared.refusal.Answer.{Answer}
+use Rattle.link_rules.specs.declared.refusal.Answer.the-variants.{Done, Refused}
 
 -- ---- the path: along next from est 0 (119-137)
 
@@ -115,10 +115,10 @@ allWithin (x ∷ xs) = let rest = allWithin xs in cond (within (x .offset)) rest
 
 -- the answer, and the image that is left
 pub record Laid : Type 0 where
-  pub answer : LayOutAnswer
+  pub answer : Answer
   pub image : List ℕ
 
-abbrev pub laid : LayOutAnswer → List ℕ → Laid
+abbrev pub laid : Answer → List ℕ → Laid
 laid r bs = record { answer = r; image = bs }
 
 abbrev pub refusedBy : ℕ → ℕ → List ℕ → Laid

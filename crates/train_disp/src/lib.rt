@@ -17,9 +17,10 @@ use disp_structs::Seconds;
 use disp_structs::floats;
 use image::codec;
 use image_fault::Fault;
-use link_rules::advance_rewind::Refusal;
 use link_rules::link_idx::TrainIdx;
 use link_rules::octets;
+use link_rules::refusal::Answer;
+use link_rules::refusal::Refusal;
 
 // What a layout is told besides the est records: the train, the two distance settings, and document 01's Q and L.
 pub struct Order {
@@ -30,13 +31,8 @@ pub struct Order {
     pub links: u32,
 }
 
-pub enum LayOutAnswer {
-    Done,
-    Refused(Refusal),
-}
-
 // Writes the image of a new train, its path along next from est 0. Refused by 5 to 9 and 11: then nothing is changed.
-pub fn lay_out(est: &[u8], order: Order, image: &mut [u8]) -> LayOutAnswer
+pub fn lay_out(est: &[u8], order: Order, image: &mut [u8]) -> Answer
     ensures { λ r. ⌜ laid r (now (image .exit)) ≡ laidOut (now (est .entry)) order (now (image .entry)) ⌝ }
 {
     if order.train_idx.0 == 0 {
@@ -53,13 +49,13 @@ pub fn lay_out(est: &[u8], order: Order, image: &mut [u8]) -> LayOutAnswer
         return refused(11, 0);
     }
     build(image, est, order, true);
-    LayOutAnswer::Done
+    Answer::Done
 }
 
-fn refused(number: u16, place: u16) -> LayOutAnswer
-    ensures { λ r. ⌜ r ≡ LayOutAnswer.Refused (record { number = number; place = place }) ⌝ }
+fn refused(number: u16, place: u16) -> Answer
+    ensures { λ r. ⌜ r ≡ Answer.Refused (record { number = number; place = place }) ⌝ }
 {
-    LayOutAnswer::Refused(Refusal {
+    Answer::Refused(Refusal {
         number: number,
         place: place,
     })

@@ -3,10 +3,10 @@ ghost use mathlib.Core.Path.{_≡_};
 ghost use lib.ListN.{length};
 use crate::case;
 use link_rules::advance_rewind;
-use link_rules::advance_rewind::MarkAnswer;
 use link_rules::link_idx::LinkIdx;
 use link_rules::link_idx::TrainIdx;
 use link_rules::octets;
+use link_rules::refusal::Answer;
 
 // Room for an occupancy.
 fn room() -> [u16; 8192]
@@ -42,10 +42,10 @@ fn agrees_in(head: &[u8], body: &[u8], occupancy: &mut [u16]) -> bool {
     holds(occupancy, case::first_output(head, body, was))
 }
 
-fn same_answer(answer: MarkAnswer, number: u32, place: u32) -> bool {
+fn same_answer(answer: Answer, number: u32, place: u32) -> bool {
     match answer {
-        MarkAnswer::Done => number == 0,
-        MarkAnswer::Refused(r) => {
+        Answer::Done => number == 0,
+        Answer::Refused(r) => {
             if (r.number as u32) != number {
                 return false;
             }

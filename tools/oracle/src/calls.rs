@@ -84,7 +84,8 @@ pub fn lay_out(rng: &mut Rng) -> Case {
 
 pub fn update(rng: &mut Rng) -> Case {
     let mut c = match rng.below(10) {
-        0..=5 => odd_update(rng),
+        0..=4 => odd_update(rng),
+        5 => views_update(rng),
         6..=7 => twin_update(rng),
         8 => dense(rng),
         _ => {

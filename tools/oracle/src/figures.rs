@@ -235,24 +235,23 @@ fn listed(xs: &[String]) -> String {
     }
 }
 
-/// Prints the counters of the hooked text: each operand of a condition true and
-/// false, each arm and body. Gives those that were never met.
+/// Prints the counters of the hooked text: each operand of a condition true, false and,
+/// where it compares by order, with equal sides; each arm and body. Gives those never met.
 fn print_branches() -> Vec<String> {
-    println!("branches of free_path.rs (line.part, kind, taken, false):");
+    println!("branches of free_path.rs (line.part, kind, taken, false, equal sides):");
     let mut never = vec![];
     for (id, (line, kind)) in BRANCHES.iter().enumerate() {
-        let (taken, passed) = hook::counts(id);
         let part = BRANCHES[..id].iter().filter(|(l, _)| l == line).count() + 1;
         let name = format!("{line}.{part}");
-        let is_cond = *kind == "cond";
-        let last = if is_cond { passed.to_string() } else { String::new() };
-        println!("  {name:<8}{kind:<8}{taken:>12}{last:>12}");
-        if taken == 0 {
-            never.push(format!("{name} {kind} taken"));
+        print!("  {name:<8}{kind:<8}");
+        let counts = hook::counts(id);
+        for (n, what) in counts.iter().zip(["taken", "false", "equal"]).take(hook::counted(kind)) {
+            print!("{n:>12}");
+            if *n == 0 {
+                never.push(format!("{name} {what}"));
+            }
         }
-        if is_cond && passed == 0 {
-            never.push(format!("{name} {kind} false"));
-        }
+        println!();
     }
     never
 }
@@ -299,6 +298,10 @@ fn step(f: &mut Figures, rng: &mut Rng) {
         }
         261..=300 => {
             let c = calls::dense(rng);
+            f.update(&c);
+        }
+        361..=400 => {
+            let c = views_update(rng);
             f.update(&c);
         }
         301..=310 => {

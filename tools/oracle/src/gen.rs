@@ -413,6 +413,83 @@ pub fn dense_update(rng: &mut Rng, e: usize, l: usize) -> UpdateCase {
     UpdateCase { image: image_of(&t), blocking, occ, moved: rng.from(1, 5) as u16, local: false, limit: 20 }
 }
 
+// ---- unions of views: a net without a way through, all of whose trains are deposited before it
+
+/// A net of Fake nodes that all end at held links. A node may lead to nodes that an earlier
+/// one led to: these are blocked already when the search meets them again.
+struct Blind {
+    est: Vec<Est>,
+    closed: Vec<u32>,
+    links: u32,
+}
+
+/// The end of all ways.
+const END: u32 = 6;
+
+impl Blind {
+    fn dead_end(&mut self) -> u32 {
+        let fake = self.est.len() as u32;
+        self.est.push(Est { next: fake + 1, ..no_est() });
+        self.est.push(Est { next: END, link: self.links, kind: ARRIVE, ..no_est() });
+        self.links += 1;
+        fake
+    }
+
+    fn split(&mut self, rng: &mut Rng, depth: usize) -> u32 {
+        let next = self.way(rng, depth);
+        let alt = self.way(rng, depth);
+        self.est.push(Est { next, alt, ..no_est() });
+        self.est.len() as u32 - 1
+    }
+
+    /// A node that leads nowhere: an old one, a dead end or a split.
+    fn way(&mut self, rng: &mut Rng, depth: usize) -> u32 {
+        let at = match rng.below(10) {
+            0..=2 if !self.closed.is_empty() => return rng.pick(&self.closed.clone()),
+            0..=4 => self.dead_end(),
+            _ if depth == 0 => self.dead_end(),
+            _ => self.split(rng, depth - 1),
+        };
+        self.closed.push(at);
+        at
+    }
+}
+
+/// 0, 1, 2 lead to 3, which is held; from 2 an alternate leads into a blind net, from 1 another
+/// by 4 and 5 to the end.
+pub fn views_update(rng: &mut Rng) -> UpdateCase {
+    let est =
+        |next, alt, prev, link, kind| Est { dist_to_next: 1.0, next, alt, prev, prev_alt: 0, link, kind };
+    let mut blind = Blind {
+        est: vec![
+            est(1, 0, 0, 0, FAKE),
+            est(2, 4, 0, 0, FAKE),
+            est(3, 0, 1, 0, FAKE),
+            est(END, 0, 2, 1, ARRIVE),
+            est(5, 0, 1, 0, FAKE),
+            est(END, 0, 4, 2, ARRIVE),
+            est(0, 0, 3, 0, CLEAR),
+        ],
+        closed: vec![],
+        links: 3,
+    };
+    let depth = rng.from(1, 4);
+    let root = blind.split(rng, depth);
+    blind.est[2].alt = root;
+    let most = rng.pick(&[3, 60_000]);
+    let mut occ: Vec<u16> = (0..blind.links).map(|_| rng.from(1, most) as u16).collect();
+    (occ[0], occ[2]) = (0, 0);
+    let q = blind.links as usize + rng.from(2, 5);
+    UpdateCase {
+        image: image_of(&leaving(blind.est, &[0, 1, 2, 3, END], 1.0, vec![], q.min(1_024))),
+        occ,
+        blocking: vec![1, 1],
+        moved: rng.from(1, 4) as u16,
+        local: rng.chance(30),
+        limit: 3,
+    }
+}
+
 // ---- changes of an accepted train
 
 /// One small change. The result may be refused; the caller reads it again.

@@ -36,6 +36,7 @@ thread_local! {
     static RUN: RefCell<Run> = RefCell::new(Run::default());
     static TAKEN: [Cell<u64>; BRANCH_ROOM] = const { [const { Cell::new(0) }; BRANCH_ROOM] };
     static PASSED: [Cell<u64>; BRANCH_ROOM] = const { [const { Cell::new(0) }; BRANCH_ROOM] };
+    static EQUAL: [Cell<u64>; BRANCH_ROOM] = const { [const { Cell::new(0) }; BRANCH_ROOM] };
 }
 
 pub fn begin(run: Run) {
@@ -153,7 +154,23 @@ pub fn cond(id: usize, value: bool) -> bool {
     value
 }
 
-/// How often a branch was taken, and a condition false.
-pub fn counts(id: usize) -> (u64, u64) {
-    (TAKEN.with(|t| t[id].get()), PASSED.with(|p| p[id].get()))
+/// The two sides of a comparison by order.
+pub fn equal(id: usize, value: bool) {
+    if value {
+        EQUAL.with(|e| e[id].set(e[id].get() + 1));
+    }
+}
+
+/// How often a branch was taken, a condition false, and the sides of a comparison equal.
+pub fn counts(id: usize) -> [u64; 3] {
+    [TAKEN.with(|t| t[id].get()), PASSED.with(|p| p[id].get()), EQUAL.with(|e| e[id].get())]
+}
+
+/// Which of the three counts a branch of this kind has.
+pub fn counted(kind: &str) -> usize {
+    match kind {
+        "order" => 3,
+        "cond" => 2,
+        _ => 1,
+    }
 }

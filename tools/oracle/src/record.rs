@@ -112,15 +112,55 @@ fn single_for_ever(limit: u16) -> Case {
     Case::update(&image, &[0, 0], &[1], 2, false, limit)
 }
 
+/// A straight path of these Arrive links, 0 being a Fake node.
+fn of_links(links: &[u32], l: usize) -> Vec<u8> {
+    let last = links.len() - 1;
+    let est: Vec<Est> = (0..=last)
+        .map(|i| Est {
+            next: if i < last { i as u32 + 1 } else { 0 },
+            prev: i.saturating_sub(1) as u32,
+            link: links[i],
+            kind: if links[i] == 0 { FAKE } else { ARRIVE },
+            ..no_est()
+        })
+        .collect();
+    let mut image = vec![0; image_size(est.len(), 4)];
+    model::lay_out(&est_bytes(&est), 1, 0.0, 0.0, 4, l as u32, &mut image).unwrap();
+    image
+}
+
+/// Range and Check told apart: Check stops at a Fake node where entry 0 is held; Range
+/// stops at a held link within its span, and at no other, be it above or below.
+fn classes() -> Vec<Case> {
+    let mut cases = vec![];
+    for span in [0, 1, 15, 16, 17, 40] {
+        let mut occ = vec![0; 60];
+        occ[0] = 5;
+        let path = if span == 0 { vec![3, 0] } else { vec![3, 0, 3 + span] };
+        cases.push(Case::update(&of_links(&path, 60), &occ, &[3, 3 + span], 2, false, 3));
+        for held in [1, 2, 3, 4, 3 + span as usize, 4 + span as usize, 30] {
+            let mut occ = vec![0; 60];
+            occ[held] = 5;
+            let mut path = vec![0, 3, 3 + span, held as u32];
+            let mut seen = BTreeSet::new();
+            path.retain(|x| seen.insert(*x));
+            cases.push(Case::update(&of_links(&path, 60), &occ, &[3 + span, 3], 2, false, 3));
+        }
+    }
+    cases
+}
+
 fn named() -> Vec<Case> {
     let occ = selftest::release_occupancy();
-    vec![
+    let mut cases = vec![
         Case::mark(&selftest::release_table(&[4, 6]), &occ, 4, 0).tagged(P9),
         Case::mark(&selftest::release_table(&[6]), &occ, 4, 0).tagged(P10),
         Case::sheet(&selftest::sheet_bundle()).tagged(SHEET_EXAMPLE),
         single_for_ever(1).tagged(NAMED),
         single_for_ever(65_535).tagged(NAMED),
-    ]
+    ];
+    cases.extend(classes().into_iter().map(|c| c.tagged(NAMED)));
+    cases
 }
 
 // ---- one field damaged, and some together
@@ -487,14 +527,37 @@ fn full_bundles() -> Vec<Case> {
 
 // ---- chosen by what they show
 
-fn counters() -> Vec<(u64, u64)> {
+fn counters() -> Vec<[u64; 3]> {
     (0..BRANCHES.len()).map(hook::counts).collect()
+}
+
+/// Offers an update for each branch that it met, once for all and once among those that
+/// changed the path or the diverge nodes.
+fn offer_branches(by_branch: &mut Chooser, before: &[[u64; 3]], case: &Case) {
+    let changed = case.answer[0] < 3 && shape(&case.ins[0]) != shape(&case.outs[0]);
+    for (id, (old, new)) in before.iter().zip(counters()).enumerate() {
+        for what in (0..3).filter(|&i| old[i] != new[i]) {
+            by_branch.offer(format!("{id} {what}"), case);
+            if changed {
+                by_branch.offer(format!("{id} {what} changed"), case);
+            }
+        }
+    }
+}
+
+/// The part of an image behind its est records, without the ending sentinel's train.
+fn shape(image: &[u8]) -> Vec<u8> {
+    let (e, m) = (u32_at(image, 4) as usize, u32_at(image, 12) as usize);
+    let mut b = image[path_offset(e)..].to_vec();
+    let at = diverge_offset(e) - path_offset(e) + 4 * (m - 1);
+    put_u16(&mut b, at, 0);
+    b
 }
 
 /// Updates from all generators: the smallest for each answer and for each branch.
 fn chosen_updates(rng: &mut Rng, tries: usize) -> Vec<Case> {
     let mut by_key = Chooser::new(1);
-    let mut by_branch = Chooser::new(1);
+    let mut by_branch = Chooser::new(2);
     let mut by_rounds = Chooser::new(5);
     for i in 0..tries {
         let case = if i % 500 == 0 { of_update(&large_update(rng)) } else { update(rng) };
@@ -505,17 +568,35 @@ fn chosen_updates(rng: &mut Rng, tries: usize) -> Vec<Case> {
             let kept = case.outs[0] == case.ins[0];
             by_rounds.offer(format!("{} {} {kept}", case.answer[0], case.answer[4].min(5)), &case);
         }
-        for (id, (old, new)) in before.iter().zip(counters()).enumerate() {
-            if old.0 != new.0 {
-                by_branch.offer(format!("{id} taken"), &case);
-            }
-            if old.1 != new.1 {
-                by_branch.offer(format!("{id} false"), &case);
-            }
-        }
+        offer_branches(&mut by_branch, &before, &case);
     }
     let answers = by_key.cases(CHOSEN).chain(by_rounds.cases(CHOSEN));
     answers.chain(by_branch.cases(BRANCH)).collect()
+}
+
+/// Updates that deposit the union of several views: for each branch of the functions on
+/// views (153 to 240) the smallest that leave diverge nodes, and some as they come.
+fn chosen_views(rng: &mut Rng) -> Vec<Case> {
+    let views: Vec<usize> = (0..BRANCHES.len()).filter(|&i| (153..=240).contains(&BRANCHES[i].0)).collect();
+    let mut by_view = Chooser::new(3);
+    let mut some = vec![];
+    for i in 0..20_000 {
+        let before = counters();
+        let case = of_update(&views_update(rng)).answered();
+        if case.answer[0] == 3 || u32_at(&case.outs[0], 12) < 5 {
+            continue;
+        }
+        let after = counters();
+        for &id in &views {
+            for what in (0..3).filter(|&w| before[id][w] != after[id][w]) {
+                by_view.offer(format!("{id} {what}"), &case);
+            }
+        }
+        if i % 800 == 0 {
+            some.push(case.tagged(SAMPLED));
+        }
+    }
+    by_view.cases(BRANCH).chain(some).collect()
 }
 
 /// Searches that go back over hundreds of nodes, with and without a way round.
@@ -601,6 +682,7 @@ pub fn recorded(seed: u64) -> Vec<Case> {
     list.extend(full_lists(rng));
     list.extend(long_searches(rng));
     list.extend(chosen_updates(rng, 400_000));
+    list.extend(chosen_views(rng));
     list.extend(sampled(rng, 80, update));
     list.extend(tag(boundary_yards(), BOUNDARY));
     list.extend(chosen(rng, 30_000, 2, check));

@@ -3,8 +3,8 @@ use denote.Ref.{now}
 use lib.ListN.{length}
 use borrow.Author.Tests.{eq-eqb, ne-eqb, not-true, not-false}
 use Rattle.train_disp.specs.TrainDisp.{laid, laidOut}
-use Rattle.train_disp.specs.declared.LayOutAnswer.{LayOutAnswer}
-use Rattle.train_disp.specs.declared.LayOutAnswer.the-variants.{Done}
+use Rattle.link_rules.specs.declared.refusal.Answer.{Answer}
+use Rattle.link_rules.specs.declared.refusal.Answer.the-variants.{Done}
 use Rattle.train_disp.proofs.LayOutLaws.{sizes-give}
 use borrow.Author.Needs.{needs}
 use Rattle.train_disp.proofs.lay_out.Statement.{statement}
@@ -17,7 +17,7 @@ returns : tie.Need-returns
 unfolding laidOut
 returns c =
     let a = c .before .before .before .before .before .args in
-    rw (eq-eqb (a .order .«train_idx» .0) 0 (c .before .if1 .taken)) (ap (λ (r : LayOutAnswer). laid r (now (a .image))) (c .refused .ensures))
+    rw (eq-eqb (a .order .«train_idx» .0) 0 (c .before .if1 .taken)) (ap (λ (r : Answer). laid r (now (a .image))) (c .refused .ensures))
 
 sizes-fit-requires : tie.Need-sizes-fit-requires
 sizes-fit-requires c κs = search needs
@@ -29,7 +29,7 @@ returns-2 : tie.Need-returns-2
 unfolding laidOut
 returns-2 c =
     let a = c .before .before .before .before .before .before .before .args in
-    rw (ne-eqb (a .order .«train_idx» .0) 0 (c .before .before .before .if1 .left), sym (c .before .before .sizes-fit .ensures) ∙ not-true _ (c .before .if2 .taken)) (ap (λ (r : LayOutAnswer). laid r (now (a .image))) (c .refused2 .ensures))
+    rw (ne-eqb (a .order .«train_idx» .0) 0 (c .before .before .before .if1 .left), sym (c .before .before .sizes-fit .ensures) ∙ not-true _ (c .before .if2 .taken)) (ap (λ (r : Answer). laid r (now (a .image))) (c .refused2 .ensures))
 
 judge-requires : tie.Need-judge-requires
 judge-requires c κs = let a = c .before .before .before .before .before .before .args in sizes-give (length (now (a .est))) (a .order) (length (now (a .image))) (sym (c .before .sizes-fit .ensures) ∙ not-false _ (c .if2 .left))
@@ -42,7 +42,7 @@ unfolding laidOut
 returns-3 c =
     let a = c .before .before .before .before .before .before .before .before .before .before .args in
     rw (ne-eqb (a .order .«train_idx» .0) 0 (c .before .before .before .before .before .before .if1 .left), sym (c .before .before .before .before .before .sizes-fit .ensures) ∙ not-false _ (c .before .before .before .before .if2 .left), ← c .before .before .before .judge .ensures, ne-eqb (c .before .before .before .judge .result .number) 0 (c .before .if3 .taken))
-    (ap (λ (r : LayOutAnswer). laid r (now (a .image))) (c .refused3 .ensures))
+    (ap (λ (r : Answer). laid r (now (a .image))) (c .refused3 .ensures))
 
 offsets-fit-requires : tie.Need-offsets-fit-requires
 offsets-fit-requires c κs =
@@ -58,7 +58,7 @@ unfolding laidOut
 returns-4 c =
     let a = c .before .before .before .before .before .before .before .before .before .before .before .before .args in
     rw (ne-eqb (a .order .«train_idx» .0) 0 (c .before .before .before .before .before .before .before .before .if1 .left), sym (c .before .before .before .before .before .before .before .sizes-fit .ensures) ∙ not-false _ (c .before .before .before .before .before .before .if2 .left), ← c .before .before .before .before .before .judge .ensures, eq-eqb (c .before .before .before .before .before .judge .result .number) 0 (c .before .before .before .if3 .left), sym (c .before .before .offsets-fit .ensures) ∙ not-true _ (c .before .if4 .taken))
-    (ap (λ (r : LayOutAnswer). laid r (now (a .image))) (c .refused4 .ensures))
+    (ap (λ (r : Answer). laid r (now (a .image))) (c .refused4 .ensures))
 
 build-requires : tie.Need-build-requires
 build-requires c κs = let a = c .before .before .before .before .before .before .before .before .before .before .before .before .args in sizes-give (length (now (a .est))) (a .order) (length (now (a .image))) (sym (c .before .before .before .before .before .before .before .sizes-fit .ensures) ∙ not-false _ (c .before .before .before .before .before .before .if2 .left))

@@ -2,7 +2,7 @@ use denote.Ref.{now}
 use mathlib.Core.Path.{_∙_, sym, ap}
 use Prim.Native.Nat.{ℕ}
 use Rattle.link_rules.specs.AdvanceRewind.{marked, markedBy, markOf, updateLinksBlocked}
-use Rattle.link_rules.specs.declared.advance_rewind.MarkAnswer.the-variants.{Done}
+use Rattle.link_rules.specs.declared.refusal.Answer.the-variants.{Done}
 use Rattle.link_rules.proofs.MarkLaws.{refused-by}
 use borrow.Author.Needs.{needs}
 use Rattle.link_rules.proofs.advance_rewind.update_links_blocked.Statement.{statement}
