@@ -195,7 +195,8 @@ fn wrapping_sub(a: u32, b: u32) -> u32
 fn in_range(low: u32, span: u32, l: LinkIdx) -> bool
     ensures { λ r. ⌜ r ≡ inRange low span l ⌝ }
 {
-    wrapping_sub(l.0, low) <= span
+    let x = l.0;
+    wrapping_sub(x, low) <= span
 }
 
 // Does the walk stop at this link? At a Single it stops whether the link is taken or not.
