@@ -3,7 +3,6 @@ ghost use mathlib.Core.Path.{_≡_};
 ghost use Prim.Native.Nat.{_-_, _≤_};
 ghost use mathlib.Core.Bool.{cond, not};
 ghost use lib.Dec.{leb, eqb};
-ghost use Rattle.link_rules.specs.LinkIdx.{occupied};
 ghost use Rattle.free_path.specs.Base.{walkFrom};
 ghost use Rattle.free_path.specs.LinkOptType.{least, most, classMore, classEnd, linkOptType, calcIdxSentinels, wrapping, inRange, stops, isNone, intersect, findTrainIntersect};
 ghost use Rattle.free_path.specs.declared.link_opt_type.LinkOptType.the-variants.{Range, Check};
