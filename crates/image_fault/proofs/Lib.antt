@@ -2,3 +2,4 @@ pub mod ScanLaws
 pub mod ArrivalLaws
 pub mod AcceptLaws
 pub mod CycleArrays
+pub mod MatchLaws

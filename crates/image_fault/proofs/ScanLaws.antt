@@ -16,11 +16,11 @@ both false b h = let z : _≡_ {A = ℕ} 0 1 = cc in absurd (omega arith)
 
 -- ---- the first index that does not fit
 
-step-fit : (m : ℕ) (fits : ℕ → Bool) (k i : ℕ) → fits i ≡ true → firstUnfit m fits (suc k) i ≡ firstUnfit m fits k (i + 1)
+pub step-fit : (m : ℕ) (fits : ℕ → Bool) (k i : ℕ) → fits i ≡ true → firstUnfit m fits (suc k) i ≡ firstUnfit m fits k (i + 1)
 unfolding firstUnfit
 step-fit m fits k i h = rw (firstUnfit, h)
 
-step-unfit : (m : ℕ) (fits : ℕ → Bool) (k i : ℕ) → fits i ≡ false → firstUnfit m fits (suc k) i ≡ refused m i
+pub step-unfit : (m : ℕ) (fits : ℕ → Bool) (k i : ℕ) → fits i ≡ false → firstUnfit m fits (suc k) i ≡ refused m i
 unfolding firstUnfit
 step-unfit m fits k i h = rw (firstUnfit, h)
 

@@ -1,0 +1,25 @@
+-- Matching of two images (document 01): p renumbers links, q trains. Assumes nothing.
+use mathlib.Core.Path.{_≡_}
+use mathlib.Core.List.{List}
+use Prim.Native.Nat.{ℕ, _+_, _≤_, _<_}
+use lib.ListN.{length, getD}
+use Rattle.link_rules.specs.Octets.{leAt}
+use Rattle.image.specs.Image.{estCount, divergeRoom, estPlace, nodePlace, divergePlace}
+
+-- the same bytes from a up to e
+abbrev pub SameBytes : List ℕ → List ℕ → ℕ → ℕ → Type 0
+SameBytes bs bs′ a e = (i : ℕ) → a ≤ i → i < e → getD bs′ i 0 ≡ getD bs i 0
+
+-- the w bytes from at are the same, except the number in the v bytes from at + k, which is renumbered
+pub record Renumbered (p : ℕ → ℕ) (bs bs′ : List ℕ) (at w k v : ℕ) : Type 0 where
+  pub before : SameBytes bs bs′ at (at + k)
+  pub number : leAt v bs′ (at + k) ≡ p (leAt v bs (at + k))
+  pub after : SameBytes bs bs′ (at + k + v) (at + w)
+
+-- the header's train, the links in est and path records and the trains in diverge records are renumbered
+pub record ImagesMatch (p q : ℕ → ℕ) (bs bs′ : List ℕ) : Type 0 where
+  pub long : length bs′ ≡ length bs
+  pub header : Renumbered q bs bs′ 0 64 32 2
+  pub est : (i : ℕ) → i < estCount bs → Renumbered p bs bs′ (estPlace i) 32 24 4
+  pub node : (i : ℕ) → i < estCount bs → Renumbered p bs bs′ (nodePlace (estCount bs) i) 32 16 4
+  pub diverge : (i : ℕ) → i < divergeRoom bs → Renumbered q bs bs′ (divergePlace (estCount bs) i) 4 0 2
