@@ -3,3 +3,4 @@ pub mod ArrivalLaws
 pub mod AcceptLaws
 pub mod CycleArrays
 pub mod MatchLaws
+pub mod RouteLaws

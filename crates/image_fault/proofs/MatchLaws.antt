@@ -2,29 +2,33 @@
 use mathlib.Core.Path.{_≡_, refl, sym, ap, ap₂, _∙_}
 use mathlib.Core.Logic.{_⊎_, inl, inr}
 use mathlib.Core.Bool.{Bool, true, false, cond, _&&_}
-use mathlib.Core.List.{List}
+use mathlib.Core.List.{List, map}
 use Prim.Native.Nat.{ℕ, zero, suc, _+_, _*_, _-_, _/_, _%_, _^_, _≤_, _<_}
 use native.Mathlib.Omega.{arith}
 use lib.Dec.{eqb, leb}
 use borrow.Author.Tests.{eqb-true, eqb-false, eq-eqb, ne-eqb}
 use Rattle.link_rules.specs.Octets.{leAt}
 use Rattle.link_rules.specs.Network.{allBelow}
-use Rattle.link_rules.specs.Renumbering.{Renumbering, rLink}
+use Rattle.link_rules.specs.Renumbering.{Renumbering, rLink, rTrain}
 use Rattle.link_rules.specs.declared.link_idx.LinkIdx.{LinkIdx}
-use Rattle.link_rules.proofs.OctetLaws.{le-add}
+use Rattle.link_rules.proofs.OctetLaws.{Bytes, le-add}
 use Rattle.link_rules.proofs.RenumberingLaws.{eqb-renumbered-0, ltb-renumbered, sameLink-r}
-use Rattle.disp_structs.specs.Renumbered.{rEvent, rEst, rNode, rDiv}
+use Rattle.disp_structs.specs.Train.{Train}
+use Rattle.disp_structs.specs.Renumbered.{rEvent, rEst, rNode, rDiv, rTrainDisp}
 use Rattle.disp_structs.specs.declared.LinkEvent.{LinkEvent}
 use Rattle.disp_structs.specs.declared.EstTime.{EstTime}
 use Rattle.disp_structs.specs.declared.DivergeNode.{DivergeNode}
 use Rattle.disp_structs.proofs.ListedLaws.{listed-same}
 use Rattle.image.specs.Image.{estCount, pathCount, divergeCount, divergeRoom, estPlace, nodePlace, divergePlace, estAt, nodeAt, divergeAt}
+use Rattle.image.specs.Codec.{decoded, storedInto}
+use Rattle.image.proofs.CodecLaws.{Keeps, Held}
+use Rattle.image.proofs.MatchEncoded.{encoded-match, renumbered-held}
 use Rattle.image.specs.ImageMatch.{ImagesMatch}
-use Rattle.image.proofs.MatchLaws.{le-before, le-after, header-low, header-high, est-count, path-count, diverge-count, diverge-room, path-header, est-match, node-match, diverge-match}
+use Rattle.image.proofs.MatchLaws.{le-before, le-after, header-low, header-high, est-count, path-count, diverge-count, diverge-room, path-header, est-match, node-match, diverge-match, decoded-match}
 use Rattle.image_fault.specs.ImageFault.{refused, orElse, firstUnfit, CountsFit, countsFit, partsFit, trainFits, estTypeFits, nodeTypeFits, zeroWord, unusedZero, recordsFit, imageFits, estLinksFit, eventFits, estFits, nodeFits, headerFits, valueFault, nexts, alts, cycleFault, comesFrom, endsAt, arrivesOn, arrived, firstArrival, onRoute, innerFits, divergeFits, routeFault, imageFault}
 use Rattle.image_fault.specs.declared.Fault.{Fault}
 use Rattle.image_fault.proofs.ScanLaws.{step-fit, step-unfit}
-use Rattle.image_fault.proofs.AcceptLaws.{counts-fit, fits-counts, clean-node, node-fits}
+use Rattle.image_fault.proofs.AcceptLaws.{counts-fit, fits-counts, clean-node, node-fits, accepted, stored-accepted}
 
 -- ---- scans over tests that agree
 
@@ -297,3 +301,38 @@ module _ (p q : ℕ → ℕ) (l top : ℕ) (rp : Renumbering (l - 1) p) (rq : Re
             rw (value-fault-match c, cycle-fault-match)
             (or-else-same (valueFault bs l) (orElse (cycleFault bs) (routeFault bs′)) (orElse (cycleFault bs) (routeFault bs))
             (λ h. ap (orElse (cycleFault bs)) (route-fault-match c h)))
+
+-- ---- accepted images that match: their states, and a store into both
+
+module _ (p q : ℕ → ℕ) (l top : ℕ) (rp : Renumbering (l - 1) p) (rq : Renumbering top q) (few : top < 2 ^ 16) (bs bs′ : List ℕ) (m : ImagesMatch p q bs bs′)
+    (b : Bytes bs) (b′ : Bytes bs′) (ok : imageFault bs l .number ≡ 0) where
+  counts : CountsFit bs
+  counts = fits-counts bs (accepted bs l ok .fits)
+
+  pub state-match : decoded bs′ ≡ rTrainDisp p q (decoded bs)
+  state-match = decoded-match p q bs bs′ m (counts .few-path) (counts .few-diverge)
+
+  pub accepted-match : imageFault bs′ l .number ≡ 0
+  accepted-match = ap (λ (f : Fault). f .number) (image-fault-match p q l top rp rq bs bs′ m) ∙ ok
+
+  module _ (t : Train) (k : Keeps t (decoded bs)) (h : Held t) where
+    keeps′ : Keeps (rTrainDisp p q t) (rTrainDisp p q (decoded bs))
+    keeps′ =
+        record {
+          ests = ap (map (rEst p)) (k .ests);
+          room = k .room;
+          train = ap (rTrain q) (k .train);
+          search = k .search;
+          fixed-max = k .fixed-max;
+        }
+
+    -- the renumbered state, stored into the second, matches the state stored into the first
+    pub stored-match : ImagesMatch p q (storedInto t bs) (storedInto (rTrainDisp p q t) bs′)
+    stored-match =
+        let n = accepted bs l ok .links .1 in
+        let h′ = renumbered-held (l - 1) top p q rp rq (omega arith) few t h in
+        rw (
+          stored-accepted bs l b ok t k (h .room),
+          stored-accepted bs′ l b′ accepted-match (rTrainDisp p q t) (rw state-match keeps′) (h′ .room),
+        )
+        (encoded-match p q (rp .zero-stays) (rq .zero-stays) t h h′)

@@ -438,7 +438,7 @@ fn ends_at(img: &[u8], i: u32) -> bool
     next.0 == 0
 }
 
-// With seen, whether an Arrive before node i has the link of event e.
+// t is the type of node i, and seen the flag of its link: not 0 where an Arrive before it has the link.
 fn on_route(img: &[u8], i: u32, t: EstType, seen: u8) -> bool
     ensures { λ r. ⌜ r ≡ (comesFrom (now (img .entry)) i && (endsAt (now (img .entry)) i && not (isArrive t && not (eqb seen 0)))) ⌝ }
 {
