@@ -1,7 +1,10 @@
 // The parts of a recorded case, and the counts of a replay.
 use link_rules::octets;
+use link_rules::refusal::Answer;
 
 pub(crate) const MARK: u32 = 1;
+
+pub(crate) const LAY_OUT: u32 = 2;
 
 pub(crate) const UPDATE: u32 = 3;
 
@@ -32,6 +35,7 @@ impl Count {
 
 pub(crate) struct Counts {
     pub(crate) marks: Count,
+    pub(crate) layouts: Count,
     pub(crate) images: Count,
     pub(crate) skipped: u64,
     pub(crate) broken: bool,
@@ -40,6 +44,10 @@ pub(crate) struct Counts {
 pub(crate) fn none() -> Counts {
     Counts {
         marks: Count {
+            cases: 0,
+            differ: 0,
+        },
+        layouts: Count {
             cases: 0,
             differ: 0,
         },
@@ -74,6 +82,14 @@ pub(crate) fn with_mark(counts: Counts, agrees: bool) -> Counts {
     out
 }
 
+pub(crate) fn with_layout(counts: Counts, agrees: bool) -> Counts {
+    let mut out = counts;
+    let layouts = counts.layouts;
+    let next = layouts.with(agrees);
+    out.layouts = next;
+    out
+}
+
 pub(crate) fn with_image(counts: Counts, agrees: bool) -> Counts {
     let mut out = counts;
     let images = counts.images;
@@ -98,7 +114,7 @@ pub(crate) fn argument(head: &[u8], i: u32) -> u32 {
     octets::u32_at(head, 16 + 4 * (i as usize))
 }
 
-pub(crate) fn answer(head: &[u8], i: u32) -> u32 {
+pub(crate) fn answer_at(head: &[u8], i: u32) -> u32 {
     octets::u32_at(head, 64 + 4 * (i as usize))
 }
 
@@ -115,7 +131,47 @@ pub(crate) fn body_size(head: &[u8]) -> usize {
     size - 104
 }
 
+// Whether a call that is done or refused answered as recorded.
+pub(crate) fn is_answer(answer: Answer, head: &[u8]) -> bool {
+    let number = answer_at(head, 0);
+    match answer {
+        Answer::Done => number == 0,
+        Answer::Refused(r) => {
+            if (r.number as u32) != number {
+                return false;
+            }
+            (r.place as u32) == answer_at(head, 1)
+        }
+    }
+}
+
 // ---- the buffers
+
+// Copies a buffer into one of the same length.
+pub(crate) fn copy(to: &mut [u8], from: &[u8]) {
+    if to.len() != from.len() {
+        return;
+    }
+    let mut i = 0;
+    while i < to.len() {
+        to[i] = from[i];
+        i += 1;
+    }
+}
+
+pub(crate) fn same(a: &[u8], b: &[u8]) -> bool {
+    if a.len() != b.len() {
+        return false;
+    }
+    let mut i = 0;
+    while i < a.len() {
+        if a[i] != b[i] {
+            return false;
+        }
+        i += 1;
+    }
+    true
+}
 
 // n bytes from a on; none where they do not lie within the slice.
 pub(crate) fn part(s: &[u8], a: usize, n: usize) -> &[u8] {

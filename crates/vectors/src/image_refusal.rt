@@ -6,7 +6,7 @@ pub(crate) fn is_told(head: &[u8]) -> bool {
     if case::operation(head) != case::UPDATE {
         return false;
     }
-    let number = case::answer(head, 1);
+    let number = case::answer_at(head, 1);
     if number == 0 {
         return true;
     }
@@ -19,12 +19,12 @@ pub(crate) fn agrees(head: &[u8], body: &[u8]) -> bool {
         return false;
     }
     let f = image_fault::image_fault(case::first_input(head, body), links as u32);
-    let number = case::answer(head, 1);
+    let number = case::answer_at(head, 1);
     if 9 < number {
         return f.number == 0;
     }
     if f.number as u32 != number {
         return false;
     }
-    f.place as u32 == case::answer(head, 2)
+    f.place as u32 == case::answer_at(head, 2)
 }

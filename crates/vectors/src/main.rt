@@ -5,6 +5,7 @@ ghost use lib.ListN.{length};
 
 mod case;
 mod image_refusal;
+mod lay_out;
 mod mark;
 
 use case::Count;
@@ -21,6 +22,7 @@ fn main() {
     let counts = replay_all(fd);
     libc::close(fd);
     print_line(b"mark or release: ", counts.marks);
+    print_line(b"lay out: ", counts.layouts);
     print_line(b"refusals 6 to 9 of an image: ", counts.images);
     print_skipped(counts.skipped);
     if counts.broken {
@@ -93,6 +95,9 @@ fn replay_body(fd: i32, head: &[u8], body: &mut [u8], counts: Counts) -> Replaye
 fn replay(head: &[u8], body: &[u8], counts: Counts) -> Counts {
     if case::operation(head) == case::MARK {
         return case::with_mark(counts, mark::agrees(head, body));
+    }
+    if case::operation(head) == case::LAY_OUT {
+        return case::with_layout(counts, lay_out::agrees(head, body));
     }
     if image_refusal::is_told(head) {
         return case::with_image(counts, image_refusal::agrees(head, body));

@@ -6,7 +6,6 @@ use link_rules::advance_rewind;
 use link_rules::link_idx::LinkIdx;
 use link_rules::link_idx::TrainIdx;
 use link_rules::octets;
-use link_rules::refusal::Answer;
 
 // Room for an occupancy.
 fn room() -> [u16; 8192]
@@ -36,22 +35,10 @@ fn agrees_in(head: &[u8], body: &[u8], occupancy: &mut [u16]) -> bool {
         link,
         train,
     );
-    if !same_answer(answer, case::answer(head, 0), case::answer(head, 1)) {
+    if !case::is_answer(answer, head) {
         return false;
     }
     holds(occupancy, case::first_output(head, body, was))
-}
-
-fn same_answer(answer: Answer, number: u32, place: u32) -> bool {
-    match answer {
-        Answer::Done => number == 0,
-        Answer::Refused(r) => {
-            if (r.number as u32) != number {
-                return false;
-            }
-            (r.place as u32) == place
-        }
-    }
 }
 
 fn fill(occupancy: &mut [u16], bytes: &[u8]) {

@@ -1,19 +1,30 @@
 //! The exported functions of the proved library, each over a case.
 
-use oracle::cases::{Case, MARK, UPDATE};
+use oracle::cases::{Case, LAY_OUT, MARK};
 use oracle::layout::{u16_bytes, u16s};
 
-pub const KINDS: [&str; 2] = ["mark", "image"];
+pub const KINDS: [&str; 3] = ["mark", "image", "layout"];
 
 extern "C" {
     fn lavtoeu_image_fault(image: *const u8, n: usize, links: u32) -> u32;
+    fn lavtoeu_lay_out(
+        est: *const u8,
+        n: usize,
+        train: u16,
+        search: f64,
+        fixed: f64,
+        room: u32,
+        links: u32,
+        image: *mut u8,
+        k: usize,
+    ) -> u32;
     fn lavtoeu_mark(table: *const u8, n: usize, occupancy: *mut u16, k: usize, link: u32, train: u16) -> u32;
 }
 
 /// Where the answer of an operation has the refusal's number.
 pub fn number_at(op: u32) -> usize {
     match op {
-        MARK => 0,
+        MARK | LAY_OUT => 0,
         _ => 1,
     }
 }
@@ -24,6 +35,7 @@ pub fn answered(asked: &Case) -> Case {
     case.answer = [0; 8];
     match case.op {
         MARK => mark(&mut case),
+        LAY_OUT => lay_out(&mut case),
         op => panic!("no operation {op}"),
     }
     case
@@ -35,9 +47,28 @@ fn mark(case: &mut Case) {
     let (link, train) = (case.args[0], case.args[1] as u16);
     // SAFETY: each pointer goes with its own length, and the function keeps to them.
     let word = unsafe { lavtoeu_mark(table.as_ptr(), table.len(), occ.as_mut_ptr(), occ.len(), link, train) };
+    put_word(case, word);
+    case.outs = [u16_bytes(&occ), vec![]];
+}
+
+fn lay_out(case: &mut Case) {
+    let mut image = case.ins[1].clone();
+    let est = &case.ins[0];
+    let a = case.args;
+    let float = |low: u32, high: u32| f64::from_bits(low as u64 | (high as u64) << 32);
+    let (search, fixed) = (float(a[3], a[4]), float(a[5], a[6]));
+    // SAFETY: each pointer goes with its own length, and the function keeps to them.
+    let word = unsafe {
+        lavtoeu_lay_out(est.as_ptr(), est.len(), a[0] as u16, search, fixed, a[1], a[2], image.as_mut_ptr(), image.len())
+    };
+    put_word(case, word);
+    case.outs = [image, vec![]];
+}
+
+/// An answer's number, and its place in the upper 16 bits.
+fn put_word(case: &mut Case, word: u32) {
     case.answer[0] = word & 0xffff;
     case.answer[1] = word >> 16;
-    case.outs = [u16_bytes(&occ), vec![]];
 }
 
 /// The refusal of an image by 6 to 9, as a number and a place.

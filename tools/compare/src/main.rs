@@ -10,7 +10,7 @@ use std::io::Write;
 use std::process::exit;
 
 const USAGE: &str = "usage: compare KIND SEED COUNT
-KIND: mark, image. The first case that differs is written to the file `different.case`.";
+KIND: mark, layout, image. The first case that differs is written to the file `different.case`.";
 
 fn usage() -> ! {
     eprintln!("{USAGE}");
