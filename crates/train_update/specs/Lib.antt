@@ -4,3 +4,5 @@ pub mod Moves
 pub mod Join
 pub mod Update
 pub mod Renumbered
+pub mod Accepted
+pub mod Fits

@@ -1,2 +1,3 @@
 pub mod Sidings
 pub mod PanicSites
+pub mod FreeAbove

@@ -1,0 +1,229 @@
+-- An accepted train stays accepted: whatever an update leaves is the train itself where it is refused, and else accepted and of the same trip. Assumes nothing.
+use mathlib.Core.Logic.{⊎-elim}
+use mathlib.Core.Path.{_≡_, refl, sym, ap, _∙_, subst}
+use mathlib.Core.Bool.{Bool, true, false, cond}
+use mathlib.Core.List.{List, [], _∷_}
+use Prim.Native.Nat.{ℕ, zero, suc, _+_, _-_, _<_, _≤_}
+use native.Mathlib.Omega.{arith}
+use lib.ListN.{length}
+use Rattle.link_rules.specs.LinkIdx.{noTrain, holder}
+use Rattle.link_rules.specs.declared.link_idx.LinkIdx.{LinkIdx}
+use Rattle.link_rules.specs.declared.link_idx.TrainIdx.{TrainIdx}
+use Rattle.disp_structs.specs.Train.{Train}
+use Rattle.disp_structs.specs.declared.DispNode.{DispNode}
+use Rattle.disp_structs.specs.declared.DivergeNode.{DivergeNode}
+use Rattle.free_path.specs.Base.{Res, ok, no, at}
+use Rattle.train_update.specs.State.{Ended, atEnd, blockedAt, again, withDivNodes}
+use Rattle.train_update.specs.Update.{Given, Updated, Between, refused, straysOf, faultsOf, finish, afterRound, due, roundsFrom, roundOf, adjustSentinel, givenOf, startOf, updateFrom, updateFreePath, turnLimit}
+use Rattle.train_update.specs.Accepted.{Each, Accepted, DivsAccepted}
+use Rattle.train_update.specs.Fits.{NodeFits, Fits}
+use Rattle.update_laws.specs.Ended.{SameTrip, StaysAccepted, EndsGood, Leaves}
+use Rattle.update_laws.specs.FitsGood.{TrainFits, DivFits, EndsFit}
+use Rattle.update_laws.proofs.Answers.{no-ok, ok-same}
+use Rattle.update_laws.proofs.Lists.{each-one, at-some, at-last, last-at}
+use Rattle.update_laws.proofs.Rounds.{Begun, round-begun, round-good}
+use Rattle.update_laws.proofs.Fitting.{search-fits}
+
+-- ---- the sentinel
+
+adjust-long : (moved : TrainIdx) (divs : List DivergeNode) → length (adjustSentinel moved divs) ≡ length divs
+unfolding adjustSentinel
+adjust-long moved [] = refl
+adjust-long moved (d ∷ []) = refl
+adjust-long moved (d ∷ (e ∷ es)) = ap suc (adjust-long moved (e ∷ es))
+
+-- each keeps its node, and each but the last its train
+adjust-at : (moved : TrainIdx) (divs : List DivergeNode) (i : ℕ) (d : DivergeNode) → at (adjustSentinel moved divs) i ≡ ok d → (x : DivergeNode) × (at divs i ≡ ok x) × (d .«disp_node_idx» ≡ x .«disp_node_idx») × (suc i < length divs → x ≡ d)
+unfolding adjustSentinel at
+adjust-at moved [] i d h = no-ok h
+adjust-at moved (x ∷ []) zero d h = (x, refl, sym (ap (λ (y : DivergeNode). y .«disp_node_idx») (ok-same h)), λ l. absurd (omega arith))
+adjust-at moved (x ∷ []) (suc i) d h = no-ok h
+adjust-at moved (x ∷ (e ∷ es)) zero d h = (x, refl, sym (ap (λ (y : DivergeNode). y .«disp_node_idx») (ok-same h)), λ l. ok-same h)
+adjust-at moved (x ∷ (e ∷ es)) (suc i) d h = let w = adjust-at moved (e ∷ es) i d h in (w .0, w .1, w .2, λ l. w .3 (omega arith))
+
+pub adjusted : (n room : ℕ) (moved : TrainIdx) (divs : List DivergeNode) → DivsAccepted n room divs → DivsAccepted n room (adjustSentinel moved divs)
+adjusted n room moved divs g =
+    let long = adjust-long moved divs in
+    let z = at-some (adjustSentinel moved divs) 0 (omega (arith, g .some)) in
+    let f = adjust-at moved divs 0 (z .0) (z .1) in
+    record {
+      some = omega (arith, g .some);
+      few = omega (arith, g .few);
+      first = z .1 ∙ ap ok (sym (f .3 (g .some))) ∙ sym (f .1) ∙ g .first;
+      end = λ d h.
+          let p = at-last (adjustSentinel moved divs) h in
+          let w = adjust-at moved divs (length (adjustSentinel moved divs) - 1) d p in
+          omega (arith, w .2, g .end (w .0) (last-at divs (length (adjustSentinel moved divs) - 1) (omega (arith, g .some)) (w .1)));
+      sorted = λ i a b p q.
+          let u = adjust-at moved divs i a p in
+          let v = adjust-at moved divs (suc i) b q in
+          omega (arith, u .2, v .2, g .sorted i (u .0) (v .0) (u .1) (v .1));
+      inner = λ i d l m p.
+          let u = adjust-at moved divs i d p in
+          let o : suc i < length divs = omega arith in
+          g .inner i d l o (u .1 ∙ ap ok (u .3 o));
+    }
+
+-- ---- the loop over rounds
+
+same-trans : (t u v : Train) → SameTrip t u → SameTrip u v → SameTrip t v
+same-trans t u v a b = record { ests = b .ests ∙ a .ests; train = b .train ∙ a .train; search = b .search ∙ a .search; fixedMax = b .fixedMax ∙ a .fixedMax; room = b .room ∙ a .room }
+
+stays-trans : (links : ℕ) (t u v : Train) → StaysAccepted links t u → StaysAccepted links u v → StaysAccepted links t v
+stays-trans links t u v a b = record { accepted = b .accepted; same = same-trans t u v (a .same) (b .same) }
+
+-- K holds at the top of a round of the train, idx_split and div_idx_split, and L of the train that is left
+module _ (g : Given) (was : Train) (L : Train → Type 0) (K : Train → ℕ → ℕ → Type 0) where
+  -- what a round hands on
+  abbrev Hands : Ended → Type 0
+  Hands atEnd = Unit {0}
+  Hands (blockedAt t) = L t
+  Hands (again t split k) = K t split k
+
+  abbrev Between-holds : Between → Type 0
+  Between-holds w = K (w .train) (w .«idx_split») (w .«div_idx_split»)
+
+  finish-leaves : (x : Res ℕ) (rounds strays : ℕ) (t : Train) → L t → Leaves L was (finish x rounds strays was t .status) (finish x rounds strays was t .train)
+  unfolding finish
+  finish-leaves (ok zero) rounds strays t s = s
+  finish-leaves (ok (suc n)) rounds strays t s = s
+  finish-leaves (no n) rounds strays t s = refl
+
+  after-leaves : (x : Res Ended) (next : Between → Updated) (w : Between) → L (w .train) → ((e : Ended) → x ≡ ok e → Hands e) → ((y : Between) → Between-holds y → Leaves L was (next y .status) (next y .train))
+      → Leaves L was (afterRound x next g was w .status) (afterRound x next g was w .train)
+  unfolding afterRound
+  after-leaves (no n) next w l f h = refl
+  after-leaves (ok atEnd) next w l f h = finish-leaves (faultsOf g (w .train)) (w .rounds + 1) (w .strays + straysOf g (w .train)) (w .train) l
+  after-leaves (ok (blockedAt t)) next w l f h = f (blockedAt t) refl
+  after-leaves (ok (again t split divSplit)) next w l f h =
+      h (record { train = t; «idx_split» = split; «div_idx_split» = divSplit; rounds = w .rounds + 1; strays = w .strays + straysOf g t }) (f (again t split divSplit) refl)
+
+  module _ (top : (t : Train) (split k : ℕ) → K t split k → L t) (round : (t : Train) (split k : ℕ) (e : Ended) → K t split k → roundOf g t split k ≡ ok e → Hands e) where
+    pub rounds-leave : (n : ℕ) (w : Between) → Between-holds w → Leaves L was (roundsFrom n g was w .status) (roundsFrom n g was w .train)
+    unfolding roundsFrom
+    rounds-leave zero w k = go (due w)
+      where
+        go : (t : Bool) → Leaves L was (cond t (refused 12 (w .rounds) (w .strays) was) (finish (faultsOf g (w .train)) (w .rounds) (w .strays) was (w .train)) .status) (cond t (refused 12 (w .rounds) (w .strays) was) (finish (faultsOf g (w .train)) (w .rounds) (w .strays) was (w .train)) .train)
+        go true = refl
+        go false = finish-leaves (faultsOf g (w .train)) (w .rounds) (w .strays) (w .train) (top (w .train) (w .«idx_split») (w .«div_idx_split») k)
+    rounds-leave (suc n) w k =
+        go (due w) (afterRound (roundOf g (w .train) (w .«idx_split») (w .«div_idx_split»)) (λ x. roundsFrom n g was x) g was w)
+        (after-leaves (roundOf g (w .train) (w .«idx_split») (w .«div_idx_split»)) (λ x. roundsFrom n g was x) w (top (w .train) (w .«idx_split») (w .«div_idx_split») k) (λ e q. round (w .train) (w .«idx_split») (w .«div_idx_split») e k q) (λ y j. rounds-leave n y j))
+      where
+        go : (t : Bool) (more : Updated) → Leaves L was (more .status) (more .train)
+            → Leaves L was (cond t more (finish (faultsOf g (w .train)) (w .rounds) (w .strays) was (w .train)) .status) (cond t more (finish (faultsOf g (w .train)) (w .rounds) (w .strays) was (w .train)) .train)
+        go true more h = h
+        go false more h = finish-leaves (faultsOf g (w .train)) (w .rounds) (w .strays) (w .train) (top (w .train) (w .«idx_split») (w .«div_idx_split») k)
+
+-- ---- an accepted train stays accepted
+
+-- at the top of a round of an update of was
+pub record TopGood (links : ℕ) (was t : Train) (split k : ℕ) : Type 0 where
+  pub stays : StaysAccepted links was t
+  pub split-low : 1 ≤ split
+  pub div-low : 1 ≤ k
+
+top-hands : (links : ℕ) (g : Given) (was t : Train) (split k : ℕ) (e : Ended) → TopGood links was t split k → roundOf g t split k ≡ ok e → Hands g was (StaysAccepted links was) (TopGood links was) e
+top-hands links g was t split k e w q = go e (round-good links g t (w .stays .accepted) split k (w .split-low) (w .div-low) q)
+  where
+    go : (e : Ended) → EndsGood links t e → Hands g was (StaysAccepted links was) (TopGood links was) e
+    go atEnd h = tt
+    go (blockedAt u) h = stays-trans links was t u (w .stays) h
+    go (again u i d) h = record { stays = stays-trans links was t u (w .stays) (h .0); split-low = h .1 .low; div-low = h .1 .point .low }
+
+-- the train of an update as its first round finds it
+pub top-start : (links : ℕ) (moved : TrainIdx) (t : Train) → Accepted links t → TopGood links t (withDivNodes t (adjustSentinel moved (t .«div_nodes»))) 1 1
+top-start links moved t g = record {
+  stays = record {
+    accepted = record {
+      ests = g .ests;
+      path = g .path;
+      divs = adjusted (length (t .«disp_path»)) (t .divergeRoom) moved (t .«div_nodes») (g .divs);
+      room = g .room;
+      fixed = g .fixed;
+      free = g .free;
+      front = g .front;
+      back = g .back;
+      search = g .search;
+      fixedMax = g .fixedMax;
+      train = g .train;
+    };
+    same = record { ests = refl; train = refl; search = refl; fixedMax = refl; room = refl };
+  };
+  split-low = omega arith;
+  div-low = omega arith;
+}
+
+pub update-leaves : (links : ℕ) (occ : List ℕ) (blocking : List LinkIdx) (moved : TrainIdx) (local : Bool) (limit : ℕ) (t : Train) → Accepted links t
+    → Leaves (StaysAccepted links t) t (updateFreePath occ blocking moved local limit t .status) (updateFreePath occ blocking moved local limit t .train)
+unfolding updateFreePath
+update-leaves links occ blocking moved local limit t g = go (at (t .«disp_path») (t .«disp_node_idx_free»))
+  where
+    go : (x : Res DispNode) → Leaves (StaysAccepted links t) t (updateFrom x occ blocking moved local limit t .status) (updateFrom x occ blocking moved local limit t .train)
+    go (no n) = refl
+    go (ok n) =
+        let v = givenOf occ blocking moved local t n in
+        rounds-leave v t (StaysAccepted links t) (TopGood links t) (λ u i d k. k .stays) (λ u i d e k q. top-hands links v t u i d e k q) limit (startOf v t) (top-start links moved t g)
+
+-- ---- and an image can hold it
+
+-- at the top of a round, with the widths
+record TopFits (links trains : ℕ) (was t : Train) (split k : ℕ) : Type 0 where
+  good : TopGood links was t split k
+  fit : Fits trains t
+
+-- the train that is left: accepted, of the same trip, and within its fields
+pub record StaysFit (links trains : ℕ) (t u : Train) : Type 0 where
+  pub stays : StaysAccepted links t u
+  pub fit : Fits trains u
+
+begun-fits : (links trains : ℕ) (occ : List ℕ) (t : Train) (g : Accepted links t) (f : Fits trains t) → ((l : LinkIdx) → TrainFits trains (holder occ l)) → {e : Ended} → Begun links occ t (ok e) → EndsFit trains e
+unfolding at
+begun-fits links trains occ t g f held {e} w =
+    let r = w .round in
+    let s = w .search in
+    search-fits trains r
+    (record { train = subst (λ (y : Train). Fits trains y) (sym (w .train-is)) f; held = λ l. subst (λ (y : List ℕ). TrainFits trains (holder y l)) (sym (w .occ-is)) (held l) })
+    links (subst (λ (y : Train). Accepted links y) (sym (w .train-is)) g) (turnLimit t) s e (w .good)
+    (record {
+      pool = subst (λ (y : List TrainIdx). Each (TrainFits trains) y) (sym (w .pool-is)) (each-one (TrainFits trains) noTrain (omega (arith, f .train)));
+      nodes = subst (λ (y : List DispNode). Each NodeFits y) (sym (w .new-is)) (λ i x p. no-ok p);
+      divs = subst (λ (y : List DivergeNode). Each (DivFits trains) y) (sym (w .divs-is)) (each-one (DivFits trains) (record { «train_idx» = noTrain; «disp_node_idx» = 0 }) (omega (arith, f .train)));
+    })
+    (w .searched)
+
+fit-hands : (links trains : ℕ) (g : Given) (was t : Train) (split k : ℕ) (e : Ended) → ((l : LinkIdx) → TrainFits trains (holder (g .«links_blocked») l)) → TopFits links trains was t split k → roundOf g t split k ≡ ok e
+    → Hands g was (StaysFit links trains was) (TopFits links trains was) e
+fit-hands links trains g was t split k e held w q = go e (top-hands links g was t split k e (w .good) q) ended
+  where
+    ended : EndsFit trains e
+    ended = ⊎-elim (λ z. subst (λ (y : Ended). EndsFit trains y) (sym z) tt) (λ b. begun-fits links trains (g .«links_blocked») t (w .good .stays .accepted) (w .fit) held b) (round-begun links g t (w .good .stays .accepted) split k (w .good .split-low) (w .good .div-low) q)
+
+    go : (e : Ended) → Hands g was (StaysAccepted links was) (TopGood links was) e → EndsFit trains e → Hands g was (StaysFit links trains was) (TopFits links trains was) e
+    go atEnd h f = tt
+    go (blockedAt u) h f = record { stays = h; fit = f }
+    go (again u i d) h f = record { good = h; fit = f }
+
+-- the sentinel takes the moved train
+adjusted-fits : (trains : ℕ) (moved : TrainIdx) (divs : List DivergeNode) → TrainFits trains moved → Each (DivFits trains) divs → Each (DivFits trains) (adjustSentinel moved divs)
+unfolding adjustSentinel at
+adjusted-fits trains moved [] m f i d h = no-ok h
+adjusted-fits trains moved (x ∷ []) m f zero d h = subst (λ (y : DivergeNode). DivFits trains y) (ok-same h) m
+adjusted-fits trains moved (x ∷ []) m f (suc i) d h = no-ok h
+adjusted-fits trains moved (x ∷ (e ∷ es)) m f zero d h = f 0 d h
+adjusted-fits trains moved (x ∷ (e ∷ es)) m f (suc i) d h = adjusted-fits trains moved (e ∷ es) m (λ j y p. f (suc j) y p) i d h
+
+pub update-fits : (links trains : ℕ) (occ : List ℕ) (blocking : List LinkIdx) (moved : TrainIdx) (local : Bool) (limit : ℕ) (t : Train) → Accepted links t → Fits trains t → TrainFits trains moved → ((l : LinkIdx) → TrainFits trains (holder occ l))
+    → Leaves (StaysFit links trains t) t (updateFreePath occ blocking moved local limit t .status) (updateFreePath occ blocking moved local limit t .train)
+unfolding updateFreePath
+update-fits links trains occ blocking moved local limit t g f m held = go (at (t .«disp_path») (t .«disp_node_idx_free»))
+  where
+    go : (x : Res DispNode) → Leaves (StaysFit links trains t) t (updateFrom x occ blocking moved local limit t .status) (updateFrom x occ blocking moved local limit t .train)
+    go (no n) = refl
+    go (ok n) =
+        let v = givenOf occ blocking moved local t n in
+        rounds-leave v t (StaysFit links trains t) (TopFits links trains t) (λ u i d k. record { stays = k .good .stays; fit = k .fit }) (λ u i d e k q. fit-hands links trains v t u i d e held k q) limit (startOf v t)
+        (record {
+          good = top-start links moved t g;
+          fit = record { ests = f .ests; nodes = f .nodes; divs = adjusted-fits trains moved (t .«div_nodes») m (f .divs); train = f .train; search = f .search; fixedMax = f .fixedMax };
+        })

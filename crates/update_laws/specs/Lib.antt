@@ -1,0 +1,8 @@
+pub mod Turns
+pub mod Good
+pub mod Ended
+pub mod Runs
+pub mod FitsGood
+pub mod Bounds
+pub mod Asserts
+pub mod Tops
