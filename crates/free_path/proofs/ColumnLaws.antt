@@ -13,26 +13,14 @@ use borrow.Author.Tests.{lt-ltb, le-ltb}
 use Rattle.free_path.specs.Base.{ok, no, at, last, part, passes, count, walkFrom}
 use Rattle.free_path.specs.LinkOptType.{classMore, classWalk}
 use Rattle.free_path.specs.declared.link_opt_type.LinkOptType.{LinkOptType}
-use Rattle.free_path.specs.Columns.{link, links, listed, entries, linkAt, flagLink, flagLinks, kept, ended}
+use Rattle.free_path.specs.Columns.{link, links, entries, linkAt, flagLink, flagLinks, kept, ended}
+use Rattle.disp_structs.specs.Listed.{listed}
+use Rattle.disp_structs.proofs.ListedLaws.{listed-length, listed-at, listed-map}
 use Rattle.free_path.proofs.WalkLaws.{at-in, at-out, walk-stop, walk-on, walk-off}
 use Rattle.link_rules.specs.declared.link_idx.LinkIdx.{LinkIdx}
 use Rattle.link_rules.specs.LinkIdx.{noLink}
 
 module _ {A : Type 0} where
-  pub listed-length : (n : ℕ) (f : ℕ → A) → length (listed n f) ≡ n
-  unfolding listed
-  listed-length zero f = refl
-  listed-length (suc n) f = length-append (listed n f) (f n ∷ []) ∙ omega (arith, listed-length n f)
-
-  pub listed-at : (n : ℕ) (f : ℕ → A) (i : ℕ) (d : A) → i < n → getD (listed n f) i d ≡ f i
-  unfolding listed
-  listed-at zero f i d h = absurd (omega arith)
-  listed-at (suc n) f i d h = go (eq-or-lt-of-le h) (listed-at n f i d)
-    where
-      go : (suc i ≡ suc n) ⊎ (suc i < suc n) → (i < n → getD (listed n f) i d ≡ f i) → getD (listed (suc n) f) i d ≡ f i
-      go (inl q) r = let e : i ≡ n = omega arith in rw e (getD-at (listed n f) (f n) [] d n (listed-length n f))
-      go (inr q) r = List·getD-append (listed n f) (f n ∷ []) d i (omega (arith, listed-length n f)) ∙ r (omega arith)
-
   -- reads, as a definition has them
   pub listed-read : (n : ℕ) (f : ℕ → A) (i : ℕ) → i < n → at (listed n f) i ≡ ok (f i)
   listed-read n f i h = at-in (listed n f) i (f i) (omega (arith, listed-length n f)) ∙ ap ok (listed-at n f i (f i) h)
@@ -49,15 +37,6 @@ module _ {A : Type 0} where
 
   pub listed-end : (n : ℕ) (f : ℕ → A) (b : ℕ) → n ≤ b → drop b (listed n f) ≡ []
   listed-end n f b h = let k : length (listed n f) ≤ b = omega (arith, listed-length n f) in drop-of-length-le (listed n f) k
-
-pub listed-map : {A B : Type 0} (g : A → B) (n : ℕ) (f : ℕ → A) → map g (listed n f) ≡ listed n (λ i. g (f i))
-unfolding listed
-listed-map g zero f = refl
-listed-map g (suc n) f = append-map (listed n f) (f n ∷ []) ∙ ap (λ l. l ++ (g (f n) ∷ [])) (listed-map g n f)
-  where
-    append-map : (xs ys : List _) → map g (xs ++ ys) ≡ map g xs ++ map g ys
-    append-map [] ys = refl
-    append-map (x ∷ xs) ys = ap (λ l. g x ∷ l) (append-map xs ys)
 
 -- ---- a set as flags, link by link
 

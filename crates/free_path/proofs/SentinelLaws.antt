@@ -13,9 +13,11 @@ use Rattle.disp_structs.specs.declared.DivergeNode.{DivergeNode}
 use Rattle.free_path.specs.Base.{ok, no, _>>=_, at, last, walkFrom}
 use Rattle.free_path.specs.LinkOptType.{afterSentinel, calcIdxSentinels, isNone, intersect, findTrainIntersect}
 use Rattle.free_path.specs.declared.link_opt_type.LinkOptType.{LinkOptType}
-use Rattle.free_path.specs.Columns.{listed, entries, linkAt, divAt, ended}
+use Rattle.free_path.specs.Columns.{entries, linkAt, divAt, ended}
+use Rattle.disp_structs.specs.Listed.{listed}
 use Rattle.free_path.proofs.MapLaws.{walkFrom-map}
-use Rattle.free_path.proofs.ColumnLaws.{listed-length, listed-read, listed-last, listed-map}
+use Rattle.free_path.proofs.ColumnLaws.{listed-read, listed-last}
+use Rattle.disp_structs.proofs.ListedLaws.{listed-length, listed-map}
 
 module _ (i n : ℕ) (moved : TrainIdx) (ts ns : List ℕ) where
   abbrev divs : List DivergeNode

@@ -8,6 +8,7 @@ use lib.ListN.{length, getD, take, set}
 use Rattle.link_rules.specs.LinkIdx.{sameLink, noLink}
 use Rattle.link_rules.specs.declared.link_idx.LinkIdx.{LinkIdx}
 use Rattle.link_rules.specs.declared.link_idx.TrainIdx.{TrainIdx}
+use Rattle.disp_structs.specs.Listed.{listed}
 use Rattle.disp_structs.specs.declared.DivergeNode.{DivergeNode}
 use Rattle.disp_structs.specs.declared.TrainIdxsView.{TrainIdxsView}
 use Rattle.free_path.specs.Base.{Res, ok, no, _>>=_, _>>_, need}
@@ -47,11 +48,6 @@ Grows r len arr d = (answer (r .code) (take (r .len) (trains arr)) ≡ d) × (le
 -- a pool in an array and the view of a union, as r says, are d
 abbrev pub Makes : Union → List ℕ → Res Pooled → Type 0
 Makes r arr d = (answer (r .code) (record { pool = take (r .len) (trains arr); made = r .view }) ≡ d) × (r .len ≤ 2048) × (length arr ≡ 2048)
-
--- the values of number 0 to n - 1
-unfoldable pub listed : {A : Type 0} → ℕ → (ℕ → A) → List A
-listed zero f = []
-listed (suc n) f = listed n f ++ (f n ∷ [])
 
 -- a column of numbers, read past its end as 0
 abbrev pub entries : ℕ → List ℕ → List ℕ

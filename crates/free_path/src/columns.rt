@@ -3,7 +3,8 @@ ghost use mathlib.Core.Path.{_≡_};
 ghost use mathlib.Core.Bool.{cond};
 ghost use lib.ListN.{getD};
 ghost use Rattle.link_rules.specs.LinkIdx.{occupied};
-ghost use Rattle.free_path.specs.Columns.{links, listed, linkAt, flagged, flagLink, flagLinks, kept};
+ghost use Rattle.free_path.specs.Columns.{links, linkAt, flagged, flagLink, flagLinks, kept};
+ghost use Rattle.disp_structs.specs.Listed.{listed};
 use link_rules::link_idx::LinkIdx;
 
 pub fn u16_of(col: &[u16], i: usize) -> u16

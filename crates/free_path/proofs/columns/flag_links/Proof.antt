@@ -5,7 +5,8 @@ use Prim.Native.Nat.{_+_, _-_}
 use native.Mathlib.Omega.{arith}
 use lib.ListN.{drop}
 use denote.Ref.{now}
-use Rattle.free_path.specs.Columns.{listed, linkAt, flagLink, flagLinks}
+use Rattle.free_path.specs.Columns.{linkAt, flagLink, flagLinks}
+use Rattle.disp_structs.specs.Listed.{listed}
 use Rattle.free_path.proofs.ColumnLaws.{flags-turn, flags-end}
 use Rattle.free_path.proofs.columns.flag_links.Statement.{statement}
 use Rattle.free_path.proofs.columns.flag_links.Tie as tie

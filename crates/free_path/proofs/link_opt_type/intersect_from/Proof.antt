@@ -4,7 +4,8 @@ use Prim.Native.Nat.{_-_, _≤_}
 use native.Mathlib.Omega.{arith}
 use denote.Ref.{now}
 use Rattle.free_path.specs.LinkOptType.{stops, intersect}
-use Rattle.free_path.specs.Columns.{listed, linkAt}
+use Rattle.free_path.specs.Columns.{linkAt}
+use Rattle.disp_structs.specs.Listed.{listed}
 use Rattle.free_path.proofs.ColumnLaws.{passes-hit, passes-miss, passes-end}
 use Rattle.free_path.proofs.link_opt_type.intersect_from.Statement.{statement}
 use Rattle.free_path.proofs.link_opt_type.intersect_from.Tie as tie

@@ -9,7 +9,8 @@ use mathlib.Core.Bool.{cond}
 use Rattle.link_rules.specs.declared.link_idx.LinkIdx.{LinkIdx}
 use Rattle.free_path.specs.Base.{count}
 use Rattle.free_path.specs.Validate.{strayLink}
-use Rattle.free_path.specs.Columns.{listed, linkAt, flagged}
+use Rattle.free_path.specs.Columns.{linkAt, flagged}
+use Rattle.disp_structs.specs.Listed.{listed}
 use Rattle.free_path.proofs.ColumnLaws.{count-turn, count-end}
 use Rattle.free_path.proofs.validate.strays.Statement.{statement}
 use Rattle.free_path.proofs.validate.strays.Tie as tie
