@@ -2,6 +2,7 @@
 //! of each buffer compared.
 
 mod library;
+mod time;
 
 use oracle::cases::Case;
 use oracle::layout::read_image;
@@ -9,7 +10,7 @@ use oracle::{calls, gen, model, rng::Rng};
 use std::io::Write;
 use std::process::exit;
 
-const USAGE: &str = "usage: compare KIND SEED COUNT
+const USAGE: &str = "usage: compare KIND SEED COUNT, or compare time SEED
 KIND: mark, layout, image. The first case that differs is written to the file `different.case`.";
 
 fn usage() -> ! {
@@ -74,8 +75,13 @@ fn keep(bytes: &[u8]) {
 fn main() {
     model::quiet_panics();
     let args: Vec<String> = std::env::args().skip(1).collect();
-    let [kind, seed, count] = &args[..] else { usage() };
     let number = |s: &String| s.parse::<u64>().unwrap_or_else(|_| usage());
+    if let [word, seed] = &args[..] {
+        if word == "time" {
+            return time::run(number(seed));
+        }
+    }
+    let [kind, seed, count] = &args[..] else { usage() };
     if !library::KINDS.contains(&kind.as_str()) {
         usage();
     }
