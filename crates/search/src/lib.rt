@@ -1,0 +1,37 @@
+// One turn of the search of update_free_path (free_path.rs 345-575), proved equal to the definitions of train_update.
+// est_times and disp_path are read from the image; diverge nodes, views, the pool of blocking trains and is_on_path are
+// columns of numbers that the caller lends. What stands past a column's end reads as 0. The crate assumes nothing of its own.
+pub mod look;
+pub mod views;
+
+use disp_structs::Metres;
+use link_rules::link_idx::TrainIdx;
+
+// What the search of a round does not change, with the counts of the train's lists and document 01's Q.
+pub struct Round {
+    pub est_count: usize,
+    pub path_count: usize,
+    pub diverge_count: usize,
+    pub diverge_room: usize,
+    pub disp_node_idx_fixed: usize,
+    pub train_idx_moved: TrainIdx,
+    pub offset_cancel: Metres,
+    pub idx_split_save: usize,
+}
+
+// What it changes, with the counts of disp_path_new, div_nodes_new and train_idxs_blocking.
+pub struct Place {
+    pub idx_split: usize,
+    pub div_idx_split: usize,
+    pub idx_save: usize,
+    pub disp_node_idx_free: usize,
+    pub new_count: usize,
+    pub div_count: usize,
+    pub pool_count: usize,
+}
+
+// A refusal's number, or 0; and an index.
+pub struct Index {
+    pub code: u32,
+    pub index: usize,
+}

@@ -1,0 +1,123 @@
+// The views of est_time_statuses in two columns, is_on_path as flags, and events compared.
+use disp_structs::EstIdx;
+use disp_structs::EstType;
+use disp_structs::LinkEvent;
+use disp_structs::TrainIdxsView;
+ghost use mathlib.Core.Path.{_≡_};
+ghost use mathlib.Core.List.{List};
+ghost use Prim.Native.Nat.{ℕ, _≤_};
+ghost use lib.ListN.{length, getD, set};
+ghost use Rattle.disp_structs.specs.Values.{isArrive, isFake, sameType, sameEvent};
+ghost use Rattle.disp_structs.specs.declared.EstType.the-variants.{Clear};
+ghost use Rattle.train_update.specs.State.{viewOf, blocked};
+ghost use Rattle.search.specs.Read.{viewsOf, onFlag};
+
+pub fn u32_of(col: &[u32], i: usize) -> u32
+    ensures { λ r. ⌜ r ≡ getD (now (col .entry)) i 0 ⌝ }
+{
+    if col.len() <= i {
+        return 0;
+    }
+    col[i]
+}
+
+// The view of an est, of n.
+pub fn view_at(begins: &[u32], ends: &[u32], n: usize, e: EstIdx) -> TrainIdxsView
+    ensures { λ r. ⌜ r ≡ viewOf (viewsOf n (now (begins .entry)) (now (ends .entry))) e ⌝ }
+{
+    let i = e.0 as usize;
+    if n <= i {
+        return TrainIdxsView {
+            idx_begin: 0,
+            idx_end: 0,
+        };
+    }
+    TrainIdxsView {
+        idx_begin: u32_of(begins, i),
+        idx_end: u32_of(ends, i),
+    }
+}
+
+// EstTimeStatus::is_blocked, by the column of ends alone.
+pub fn is_blocked(ends: &[u32], n: usize, e: EstIdx) -> bool
+    ensures { λ r. ⌜ ((b : List ℕ) → r ≡ blocked (viewsOf n b (now (ends .entry))) e) ⌝ }
+{
+    let i = e.0 as usize;
+    if n <= i {
+        return false;
+    }
+    u32_of(ends, i) != 0
+}
+
+pub fn put_view(begins: &mut [u32], ends: &mut [u32], n: usize, e: EstIdx, v: TrainIdxsView)
+    requires { ⌜ (n ≤ length (now begins)) × (n ≤ length (now ends)) ⌝ }
+    ensures { λ _. ⌜ viewsOf n (now (begins .exit)) (now (ends .exit)) ≡ set (viewsOf n (now (begins .entry)) (now (ends .entry))) (e .0) v ⌝ }
+{
+    let i = e.0 as usize;
+    if n <= i {
+        return;
+    }
+    begins[i] = v.idx_begin;
+    ends[i] = v.idx_end;
+}
+
+pub fn is_on_path(on: &[u8], e: EstIdx) -> bool
+    ensures { λ r. ⌜ r ≡ onFlag (now (on .entry)) e ⌝ }
+{
+    let i = e.0 as usize;
+    if on.len() <= i {
+        return false;
+    }
+    on[i] != 0
+}
+
+pub fn is_arrive(t: EstType) -> bool
+    ensures { λ r. ⌜ r ≡ isArrive t ⌝ }
+{
+    match t {
+        EstType::Arrive => true,
+        EstType::Clear => false,
+        EstType::Fake => false,
+    }
+}
+
+pub fn is_fake(t: EstType) -> bool
+    ensures { λ r. ⌜ r ≡ isFake t ⌝ }
+{
+    match t {
+        EstType::Arrive => false,
+        EstType::Clear => false,
+        EstType::Fake => true,
+    }
+}
+
+fn is_clear(t: EstType) -> bool
+    ensures { λ r. ⌜ r ≡ sameType Clear t ⌝ }
+{
+    match t {
+        EstType::Arrive => false,
+        EstType::Clear => true,
+        EstType::Fake => false,
+    }
+}
+
+fn same_type(a: EstType, b: EstType) -> bool
+    ensures { λ r. ⌜ r ≡ sameType a b ⌝ }
+{
+    match a {
+        EstType::Arrive => is_arrive(b),
+        EstType::Clear => is_clear(b),
+        EstType::Fake => is_fake(b),
+    }
+}
+
+pub fn same_event(a: LinkEvent, b: LinkEvent) -> bool
+    ensures { λ r. ⌜ r ≡ sameEvent a b ⌝ }
+{
+    if a.link_idx.0 != b.link_idx.0 {
+        return false;
+    }
+    let x = a.est_type;
+    let y = b.est_type;
+    same_type(x, y)
+}

@@ -1,0 +1,4 @@
+pub mod PushLaws
+pub mod DepositLaws
+pub mod RewindLaws
+pub mod TurnLaws

@@ -1,0 +1,98 @@
+-- A turn, step by step as the code has it, and what of a place its steps keep. Assumes nothing.
+use mathlib.Core.Path.{_≡_, refl, sym, ap, ap₂, _∙_}
+use mathlib.Core.List.{List, []}
+use Prim.Native.Nat.{ℕ, _+_, _≤_}
+use native.Mathlib.Omega.{arith}
+use lib.Ieee.{nan}
+use lib.ListN.{length}
+use Rattle.disp_structs.specs.Train.{Train}
+use Rattle.disp_structs.specs.declared.DispNode.{DispNode}
+use Rattle.free_path.specs.Base.{Res, ok, no}
+use Rattle.free_path.specs.Columns.{answer}
+use Rattle.free_path.proofs.CountLaws.{answer-no}
+use Rattle.train_update.specs.State as State
+use Rattle.train_update.specs.Look as Look
+use Rattle.train_update.specs.Look.{current, lookFrom, lookHere, storedTrains, occupiedNext, moveOf}
+use Rattle.train_update.specs.Update.{doMove, searchStep}
+use Rattle.train_update.specs.declared.Move.{Move}
+use Rattle.search.specs.Read.{placeWith}
+use Rattle.search.specs.declared.Round.{Round}
+use Rattle.search.specs.declared.Place.{Place}
+use Rattle.search_moves.specs.Effects.{Goes}
+
+-- a train, where what is asked does not depend on it
+pub someTrain : Train
+someTrain =
+    record {
+      «est_times» = [];
+      «disp_path» = [];
+      «div_nodes» = [];
+      «disp_node_idx_fixed» = 0;
+      «disp_node_idx_free» = 0;
+      «disp_node_idx_front» = 0;
+      «disp_node_idx_back» = 0;
+      «dist_disp_path_search» = record { 0 = nan };
+      «dist_fixed_max» = record { 0 = nan };
+      «train_idx» = record { 0 = 0 };
+      divergeRoom = 0;
+    }
+
+-- ---- the place
+
+module _ (p s q : Place) (a : s ≡ placeWith p (s .«div_idx_split») (s .«pool_count»)) (b : q ≡ placeWith s (q .«div_idx_split») (q .«pool_count»)) where
+  pub same-split : q .«idx_split» ≡ p .«idx_split»
+  same-split = ap (λ (x : Place). x .«idx_split») b ∙ ap (λ (x : Place). x .«idx_split») a
+
+  pub same-free : q .«disp_node_idx_free» ≡ p .«disp_node_idx_free»
+  same-free = ap (λ (x : Place). x .«disp_node_idx_free») b ∙ ap (λ (x : Place). x .«disp_node_idx_free») a
+
+  pub same-new : q .«new_count» ≡ p .«new_count»
+  same-new = ap (λ (x : Place). x .«new_count») b ∙ ap (λ (x : Place). x .«new_count») a
+
+  pub same-divs : q .«div_count» ≡ p .«div_count»
+  same-divs = ap (λ (x : Place). x .«div_count») b ∙ ap (λ (x : Place). x .«div_count») a
+
+  pub goes-from : (r : Round) (x : Place) → Goes r q x → Goes r p x
+  goes-from r x g =
+      let e = same-split in
+      let f = same-free in
+      let n = same-new in
+      record {
+        split = omega (arith, g .split, same-split);
+        divSplit = g .divSplit;
+        save = g .save;
+        divs = g .divs;
+        pool = g .pool;
+        free = λ c u v. g .free c (omega (arith, u, same-free)) (omega (arith, v, same-split, same-new));
+      }
+
+-- ---- the steps
+
+pub look-same : (r : State.Round) (s : State.Search) (n : DispNode) (k : ℕ) (c : ℕ) (h : Look.Here) → current (r .train .«disp_path») (s .«disp_path_new») (s .«idx_split») ≡ ok n → length (s .«disp_path_new») ≡ k
+    → answer c h ≡ lookFrom (ok n) (s .«idx_split» + k) (r .train .«est_times») (s .views) (r .train .«div_nodes») (s .«div_idx_split») → answer c h ≡ lookHere r s
+look-same r s n k c h e l q =
+    q ∙ sym (ap₂ (λ (x : Res DispNode) (j : ℕ). lookFrom x (s .«idx_split» + j) (r .train .«est_times») (s .views) (r .train .«div_nodes») (s .«div_idx_split»)) e l)
+
+module _ (r : State.Round) (s : State.Search) (c : ℕ) (h : Look.Here) (q : answer c h ≡ lookHere r s) where
+  pub step-look : (c ≡ 0 → ⊥) → no c ≡ searchStep r s
+  unfolding searchStep
+  step-look z = rw (← q, answer-no c h z)
+
+  module _ (z : c ≡ 0) (d : ℕ) (t : State.Search) (w : answer d t ≡ storedTrains r h s) where
+    pub step-stored : (d ≡ 0 → ⊥) → no d ≡ searchStep r s
+    unfolding searchStep
+    step-stored y = rw (← q, z, ← w, answer-no d t y)
+
+    module _ (y : d ≡ 0) (e : ℕ) (u : State.Search) (v : answer e u ≡ occupiedNext r h t) where
+      pub step-occupied : (e ≡ 0 → ⊥) → no e ≡ searchStep r s
+      unfolding searchStep
+      step-occupied x = rw (← q, z, ← w, y, ← v, answer-no e u x)
+
+      module _ (x : e ≡ 0) (f : ℕ) (m : Move) (k : answer f m ≡ moveOf r h u) where
+        pub step-chosen : (f ≡ 0 → ⊥) → no f ≡ searchStep r s
+        unfolding searchStep
+        step-chosen g = rw (← q, z, ← w, y, ← v, x, ← k, answer-no f m g)
+
+        pub step-go : f ≡ 0 → doMove m r h u ≡ searchStep r s
+        unfolding searchStep
+        step-go g = rw (← q, z, ← w, y, ← v, x, ← k, g)

@@ -1,0 +1,136 @@
+// One turn of the search of update_free_path (free_path.rs 345-575). ChangeDiverge and Join are left to do.
+use crate::Effect;
+use crate::Moved;
+use crate::moves;
+use crate::rewind;
+use disp_structs::DispNode;
+use search::Place;
+use search::Round;
+use search::look;
+use search::look::Here;
+use train_update::Move;
+ghost use mathlib.Core.Path.{_≡_};
+ghost use mathlib.Core.List.{List};
+ghost use Prim.Native.Nat.{ℕ, _+_, _≤_};
+ghost use lib.ListN.{length};
+ghost use Rattle.disp_structs.specs.Train.{Train};
+ghost use Rattle.disp_structs.specs.declared.DispNode.{DispNode};
+ghost use Rattle.free_path.specs.Base.{ok};
+ghost use Rattle.train_update.specs.Look.{current};
+ghost use Rattle.train_update.specs.Update.{doMove, searchStep};
+ghost use Rattle.search.specs.Read.{divsOf, pathOf, roundOf, hereOf, searchIn, arrays, Small, Lent, Marked};
+ghost use Rattle.search_moves.specs.Effects.{Sized, Goes, effectOf};
+
+// What the turn does, where the search stood, and where it stands.
+pub struct Turned {
+    pub effect: Effect,
+    pub here: Here,
+    pub place: Place,
+}
+
+fn left(effect: Effect, p: Place) -> Moved
+    ensures { λ x. ⌜ (x .effect ≡ effect) × (x .place ≡ p) ⌝ }
+{
+    Moved {
+        effect: effect,
+        place: p,
+    }
+}
+
+fn do_move(
+    go: Move,
+    img: &[u8],
+    r: Round,
+    h: Here,
+    p: Place,
+    pool: &mut [u16],
+    begins: &mut [u32],
+    ends: &mut [u32],
+    nt: &mut [u16],
+    nn: &mut [u16],
+) -> Moved
+    requires { ⌜ Small p × Sized r × Lent (r .«est_count») (arrays (now pool) (now begins) (now ends)) × (h .«idx_join_new» ≤ p .«idx_split» + p .«new_count») × (length (now nt) ≡ 1024) × (length (now nn) ≡ 1024) ⌝ }
+    ensures { λ x. ⌜ ((t : Train) (occ dt dn : List ℕ) (new : List DispNode) → length new ≡ p .«new_count» → effectOf (roundOf t occ (now (img .entry)) dt dn r) (hereOf h) (searchIn (r .«est_count») (x .place) new (divsOf (x .place .«div_count») (now (nt .exit)) (now (nn .exit))) (arrays (now (pool .exit)) (now (begins .exit)) (now (ends .exit)))) (x .effect) ≡ doMove go (roundOf t occ (now (img .entry)) dt dn r) (hereOf h) (searchIn (r .«est_count») p new (divsOf (p .«div_count») (now (nt .entry)) (now (nn .entry))) (arrays (now (pool .entry)) (now (begins .entry)) (now (ends .entry))))) × Goes r p (x .place) ⌝ }
+{
+    match go {
+        Move::Rewind => {
+            return rewind::rewind(img, r, h, p, pool, begins, ends, nn);
+        }
+        Move::Alternate => {
+            return moves::alternate(r, h, p, pool, begins, ends, nt, nn);
+        }
+        Move::ChangeDiverge => {
+            return left(Effect::ChangeDiverge, p);
+        }
+        Move::PushSaved => {
+            return moves::push_saved(img, r, h, p);
+        }
+        Move::BlockEmpty => {
+            return moves::block_empty(r, h, p, begins, ends);
+        }
+        Move::Advance => {
+            return moves::advance(r, h, p);
+        }
+        Move::Join => {
+            return left(Effect::Join, p);
+        }
+    }
+}
+
+fn stopped(code: u32, h: Here, p: Place) -> Turned
+    ensures { λ x. ⌜ x ≡ record { effect = Effect.Refused code; here = h; place = p } ⌝ }
+{
+    Turned {
+        effect: Effect::Refused(code),
+        here: h,
+        place: p,
+    }
+}
+
+// curr is the last node of the new path, or else the node before idx_split.
+pub fn turn(
+    img: &[u8],
+    occ: &[u16],
+    on: &[u8],
+    dt: &[u16],
+    dn: &[u16],
+    r: Round,
+    p: Place,
+    curr: DispNode,
+    pool: &mut [u16],
+    begins: &mut [u32],
+    ends: &mut [u32],
+    nt: &mut [u16],
+    nn: &mut [u16],
+) -> Turned
+    requires { ⌜ Small p × Sized r × Lent (r .«est_count») (arrays (now pool) (now begins) (now ends)) × (length (now nt) ≡ 1024) × (length (now nn) ≡ 1024) × Marked (now on) (pathOf (now img) (r .«path_count»)) ⌝ }
+    ensures { λ x. ⌜ ((t : Train) (new : List DispNode) → length new ≡ p .«new_count» → current (pathOf (now (img .entry)) (r .«path_count»)) new (p .«idx_split») ≡ ok curr → effectOf (roundOf t (now (occ .entry)) (now (img .entry)) (now (dt .entry)) (now (dn .entry)) r) (hereOf (x .here)) (searchIn (r .«est_count») (x .place) new (divsOf (x .place .«div_count») (now (nt .exit)) (now (nn .exit))) (arrays (now (pool .exit)) (now (begins .exit)) (now (ends .exit)))) (x .effect) ≡ searchStep (roundOf t (now (occ .entry)) (now (img .entry)) (now (dt .entry)) (now (dn .entry)) r) (searchIn (r .«est_count») p new (divsOf (p .«div_count») (now (nt .entry)) (now (nn .entry))) (arrays (now (pool .entry)) (now (begins .entry)) (now (ends .entry))))) × Goes r p (x .place) ⌝ }
+{
+    let h = look::look_here(img, r, p, curr, ends, dn);
+    if h.code != 0 {
+        return stopped(h.code, h, p);
+    }
+    let t = look::stored_trains(dt, dn, on, r, h, p, pool, begins, ends);
+    if t.code != 0 {
+        return stopped(t.code, h, p);
+    }
+    let s = t.place;
+    let u = look::occupied_next(occ, r, h, s, pool, begins, ends);
+    if u.code != 0 {
+        return stopped(u.code, h, p);
+    }
+    let q = u.place;
+    let m = look::move_of(img, on, r, h, q, ends);
+    if m.code != 0 {
+        return stopped(m.code, h, p);
+    }
+    let go = m.go;
+    let x = do_move(go, img, r, h, q, pool, begins, ends, nt, nn);
+    let effect = x.effect;
+    let place = x.place;
+    Turned {
+        effect: effect,
+        here: h,
+        place: place,
+    }
+}

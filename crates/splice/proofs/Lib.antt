@@ -1,0 +1,7 @@
+pub mod ListLaws
+pub mod NodeLaws
+pub mod FlagLaws
+pub mod DivLaws
+pub mod EndLaws
+pub mod JoinLaws
+pub mod ChangeLaws

@@ -1,0 +1,64 @@
+-- What the parts of a splice do to lists and columns. Assumes nothing.
+use Prim.Native.Nat.{ℕ, zero, suc, _+_, _-_, _^_, _≤_, _<_}
+use mathlib.Core.Path.{_≡_}
+use mathlib.Core.List.{List, _++_}
+use lib.ListN.{length, getD, take, drop, set}
+use lib.Dec.{T}
+use lib.Ieee.{Float, nan, binary64, fits, isNan}
+use mathlib.Core.Bool.{not}
+use Rattle.disp_structs.specs.Floats.{bitsOf}
+use Rattle.disp_structs.specs.declared.DispNode.{DispNode}
+use Rattle.link_rules.specs.Octets.{putLe}
+use Rattle.image.specs.Image.{estCount, nodePlace}
+use Rattle.disp_structs.specs.declared.EstType.the-variants.{Arrive}
+use Rattle.free_path.specs.Base.{Res, ok, _>>=_}
+
+-- the entries from i on go through F
+abbrev pub fromOn : {A : Type 0} → (List A → Res (List A)) → ℕ → List A → Res (List A)
+fromOn F i xs = F (drop i xs) >>= λ rest. ok (take i xs ++ rest)
+
+-- what g reads: f up to at, then c entries of h, then f from k up to m
+pub record Splices {A : Type 0} (g f h : ℕ → A) (at c k m : ℕ) : Type 0 where
+  pub first : (i : ℕ) → i < at → g i ≡ f i
+  pub new : (i : ℕ) → i < c → g (at + i) ≡ h i
+  pub rest : (i : ℕ) → i < m - k → g (at + c + i) ≡ f (k + i)
+
+-- k entries from a on are x
+unfoldable pub filled : ℕ → ℕ → ℕ → List ℕ → List ℕ
+filled zero x a xs = xs
+filled (suc k) x a xs = set (filled k x a xs) (a + k) x
+
+-- m diverge nodes in two columns and c new ones, the sentinel included, in two more, with room in each; a node's number may grow by join
+pub record DivsFit (dt dn nt nn : List ℕ) (m c room split join : ℕ) : Type 0 where
+  pub small : room < 2 ^ 16
+  pub held : m ≤ room
+  pub made : c ≤ room
+  pub first : 0 < split
+  pub trains : room ≤ length dt
+  pub nodes : room ≤ length dn
+  pub newTrains : room ≤ length nt
+  pub newNodes : room ≤ length nn
+  pub number : (i : ℕ) → getD dn i 0 + join < 2 ^ 16
+
+-- the offset of path node i
+unfoldable pub putOffset : Float → ℕ → List ℕ → List ℕ
+putOffset o i bs = putLe 8 (bitsOf o) (nodePlace (estCount bs) i) bs
+
+-- a node that a path record holds: its floats are values of binary64 and no NaN, its numbers fit
+pub record Sound (x : DispNode) : Type 0 where
+  pub offset : T (fits binary64 (x .offset .0)) × T (not (isNan (x .offset .0)))
+  pub time : T (fits binary64 (x .«time_pass» .0)) × T (not (isNan (x .«time_pass» .0)))
+  pub link : x .«link_event» .«link_idx» .0 < 2 ^ 32
+  pub est : x .«est_idx» .0 < 2 ^ 32
+  pub auth : x .«disp_auth_idx_entry» < 2 ^ 16
+
+-- what the rule of an array read gives past the end
+abbrev pub blank : DispNode
+blank =
+    record {
+      offset = record { 0 = nan };
+      «time_pass» = record { 0 = nan };
+      «link_event» = record { «link_idx» = record { 0 = 0 }; «est_type» = Arrive };
+      «est_idx» = record { 0 = 0 };
+      «disp_auth_idx_entry» = 0;
+    }

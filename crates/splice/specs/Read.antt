@@ -1,0 +1,110 @@
+-- A train as the end of a round has it: in the bytes of an image, two columns of diverge nodes, and a header's numbers. Assumes nothing.
+use Prim.Native.Nat.{ℕ, _+_, _-_, _^_, _≤_, _<_}
+use mathlib.Core.Path.{_≡_}
+use mathlib.Core.Bool.{Bool, not, _&&_}
+use mathlib.Core.List.{List}
+use lib.Dec.{ltb, eqb}
+use lib.ListN.{length, getD, take}
+use Rattle.disp_structs.specs.Train.{Train}
+use Rattle.disp_structs.specs.Values.{sameEst}
+use Rattle.disp_structs.specs.declared.EstIdx.{EstIdx}
+use Rattle.disp_structs.specs.declared.EstTime.{EstTime}
+use Rattle.disp_structs.specs.declared.DispNode.{DispNode}
+use Rattle.image.specs.Image.{estCount, divergeRoom, trainIdx, distDispPathSearch, distFixedMax, estAt, nodeAt, nodePlace}
+use Rattle.image.specs.declared.codec.PathHeader.{PathHeader}
+use Rattle.disp_structs.specs.declared.TrainIdxsView.{TrainIdxsView}
+use Rattle.free_path.specs.Base.{Res, ok, _>>_, need, walkFrom}
+use Rattle.free_path.specs.Columns.{divAt, trains}
+use Rattle.disp_structs.specs.Listed.{listed}
+use Rattle.train_update.specs.State.{Round, Search, viewOf}
+use Rattle.train_update.specs.Look.{Here}
+use Rattle.splice.specs.Parts.{DivsFit}
+use Rattle.splice.specs.Flags.{Below}
+use Rattle.splice.specs.declared.Reached.{Reached}
+
+-- the train of an image, of columns dt and dn of diverge nodes, and of a header's numbers
+unfoldable pub trainOf : List ℕ → List ℕ → List ℕ → PathHeader → Train
+trainOf img dt dn h =
+    record {
+      «est_times» = listed (estCount img) (estAt img);
+      «disp_path» = listed (h .«path_count») (nodeAt img);
+      «div_nodes» = listed (h .«diverge_count») (divAt dt dn);
+      «disp_node_idx_fixed» = h .fixed;
+      «disp_node_idx_free» = h .free;
+      «disp_node_idx_front» = h .front;
+      «disp_node_idx_back» = h .back;
+      «dist_disp_path_search» = distDispPathSearch img;
+      «dist_fixed_max» = distFixedMax img;
+      «train_idx» = trainIdx img;
+      divergeRoom = divergeRoom img;
+    }
+
+-- two images have the same length, and the same bytes before their path records: header and est records
+pub record Kept (img was : List ℕ) : Type 0 where
+  pub size : length img ≡ length was
+  pub below : (i : ℕ) → i < nodePlace (estCount was) 0 → getD img i 0 ≡ getD was i 0
+
+-- ---- where a search stands, as the numbers of p say
+
+pub record Stands (img dt dn : List ℕ) (h : PathHeader) (p : Reached) (e : EstTime) (r : Round) (here : Here) (s : Search) : Type 0 where
+  pub train : r .train ≡ trainOf img dt dn h
+  pub save : r .«idx_split_save» ≡ p .«split_save»
+  pub split : s .«idx_split» ≡ p .split
+  pub divSplit : s .«div_idx_split» ≡ p .«div_split»
+  pub free : s .«disp_node_idx_free» ≡ p .free
+  pub join : here .«idx_join_new» ≡ p .join
+  pub est : here .«est_curr» ≡ e
+
+-- the new path and the new diverge nodes, and the current node
+pub record Joins (fresh nt nn : List ℕ) (p : Reached) (n : DispNode) (here : Here) (s : Search) : Type 0 where
+  pub path : s .«disp_path_new» ≡ listed (p .«new_count») (nodeAt fresh)
+  pub divs : s .«div_nodes_new» ≡ listed (p .«div_count») (divAt nt nn)
+  pub curr : here .«disp_node_curr» ≡ n
+
+-- what a join may rely on: its lists have room in their arrays, each link of an Arrive node has a flag,
+-- and the path that is left, wherever the old one has the next est, has at most as many nodes as there are est records
+pub record JoinFits (img fresh dt dn nt nn : List ℕ) (h : PathHeader) (p : Reached) (next : EstIdx) : Type 0 where
+  pub small : estCount img < 2 ^ 16
+  pub path : h .«path_count» ≤ estCount img
+  pub size : nodePlace (estCount img) (estCount img) ≤ length img
+  pub new : p .split + p .«new_count» < 2 ^ 16
+  pub room : nodePlace (estCount fresh) (estCount img) ≤ length fresh
+  pub rest : (b : ℕ) → walkFrom (λ x. sameEst next (x .«est_idx»)) (listed (h .«path_count») (nodeAt img)) (p .«split_save») ≡ ok b → p .split ≤ b → p .split + p .«new_count» + (h .«path_count» - b) ≤ estCount img
+  pub links : (i : ℕ) → i < h .«path_count» → Below (nodeAt img i .«link_event»)
+  pub newLinks : (i : ℕ) → i < p .«new_count» → Below (nodeAt fresh i .«link_event»)
+  pub divs : DivsFit dt dn nt nn (h .«diverge_count») (p .«div_count») (divergeRoom img) (p .«div_split») (p .join)
+
+-- ---- a change of diverge nodes
+
+-- the asserts (503-507): nothing new, and the old path and a diverge node at the split node
+unfoldable pub atSplit : List ℕ → ℕ → Reached → EstIdx → List ℕ → ℕ → Bool
+atSplit img n p alt dn m =
+    eqb (p .«new_count») 0
+    && (eqb (p .«div_count») 1
+    && (eqb (p .join) (p .split)
+    && (ltb (p .split) n && (sameEst alt (nodeAt img (p .split) .«est_idx») && (ltb (p .«div_split») m && eqb (p .split) (getD dn (p .«div_split») 0))))))
+
+-- where the old diverge nodes of the split node end (508-514)
+unfoldable pub baseEnd : List ℕ → ℕ → Reached → EstIdx → List ℕ → List ℕ → ℕ → Res ℕ
+baseEnd img n p alt dt dn m = need (atSplit img n p alt dn m) >> walkFrom (λ d. not (eqb (d .«disp_node_idx») (p .split))) (listed m (divAt dt dn)) (p .«div_split» + 1)
+
+-- the pool, the view of the next est, the alternate, and how much is new
+pub record Changes (pool : List ℕ) (count : ℕ) (other : EstIdx) (v : TrainIdxsView) (p : Reached) (here : Here) (s : Search) : Type 0 where
+  pub trainIdxs : s .«train_idxs_blocking» ≡ take count (trains pool)
+  pub view : viewOf (s .views) (here .«est_curr» .«idx_next») ≡ v
+  pub alt : here .«est_curr» .«idx_next_alt» ≡ other
+  pub path : length (s .«disp_path_new») ≡ p .«new_count»
+  pub divs : length (s .«div_nodes_new») ≡ p .«div_count»
+
+-- what it may rely on: its lists have room in their arrays
+pub record ChangeFits (img dt dn nt nn pool : List ℕ) (count : ℕ) (h : PathHeader) (p : Reached) : Type 0 where
+  pub small : divergeRoom img < 2 ^ 16
+  pub held : h .«diverge_count» ≤ divergeRoom img
+  pub first : 0 < p .«div_split»
+  pub inside : p .«div_split» < h .«diverge_count»
+  pub split : p .split < 2 ^ 16
+  pub trainRoom : divergeRoom img ≤ length dt
+  pub nodeRoom : divergeRoom img ≤ length dn
+  pub newTrains : divergeRoom img ≤ length nt
+  pub newNodes : divergeRoom img ≤ length nn
+  pub counted : count ≤ length pool

@@ -1,0 +1,189 @@
+// Diverge nodes in two columns: walks over them, a splice, and update_div_nodes (free_path.rs 642-676).
+// New diverge nodes stand in two more columns, behind a sentinel at 0, with room behind them for the old ones that come after.
+ghost use mathlib.Core.Path.{_≡_};
+ghost use mathlib.Core.Bool.{not, cond};
+ghost use mathlib.Core.List.{List, _++_};
+ghost use Prim.Native.Nat.{ℕ, _+_, _-_, _^_, _≤_, _<_};
+ghost use lib.Dec.{ltb, eqb};
+ghost use lib.ListN.{length, getD, set, take, drop};
+ghost use Rattle.free_path.specs.Base.{ok, walkFrom};
+ghost use Rattle.free_path.specs.Columns.{answer, divAt};
+ghost use Rattle.disp_structs.specs.Listed.{listed};
+ghost use Rattle.train_update.specs.Join.{shiftDivs, updateDivNodes};
+ghost use Rattle.splice.specs.Parts.{fromOn, Splices, filled, DivsFit};
+use crate::copies;
+use free_path::columns;
+
+// A refusal's number, or 0; and an index.
+pub struct Found {
+    pub code: u32,
+    pub at: usize,
+}
+
+// From i on the first of m entries above x.
+pub fn walk_above(dn: &[u16], m: usize, i: usize, x: u32) -> Found
+    ensures { λ r. ⌜ ((ts : List ℕ) → answer (r .code) (r .at) ≡ walkFrom (λ d. ltb x (d .«disp_node_idx»)) (listed m (divAt ts (now (dn .entry)))) i) ⌝ }
+{
+    let mut k = i;
+    while k < m {
+        let d = columns::u16_of(dn, k) as u32;
+        if x < d {
+            return Found { code: 0, at: k };
+        }
+        k += 1;
+    }
+    Found { code: 13, at: 0 }
+}
+
+// From i on the first of m entries that is not x.
+pub fn walk_past(dn: &[u16], m: usize, i: usize, x: u32) -> Found
+    ensures { λ r. ⌜ ((ts : List ℕ) → answer (r .code) (r .at) ≡ walkFrom (λ d. not (eqb (d .«disp_node_idx») x)) (listed m (divAt ts (now (dn .entry)))) i) ⌝ }
+{
+    let mut k = i;
+    while k < m {
+        let d = columns::u16_of(dn, k) as u32;
+        if d != x {
+            return Found { code: 0, at: k };
+        }
+        k += 1;
+    }
+    Found { code: 13, at: 0 }
+}
+
+// A store past the end is none.
+fn put_entry(col: &mut [u16], i: usize, x: u16)
+    ensures { λ _. ⌜ now (col .exit) ≡ set (now (col .entry)) i x ⌝ }
+{
+    if i < col.len() {
+        col[i] = x;
+    }
+}
+
+// k entries from a on become x.
+pub fn fill_entries(col: &mut [u16], a: usize, k: usize, x: u16)
+    requires { ⌜ a + k ≤ length (now col) ⌝ }
+    ensures { λ _. ⌜ now (col .exit) ≡ filled k x a (now (col .entry)) ⌝ }
+{
+    let mut j = 0;
+    while j < k {
+        put_entry(col, a + j, x);
+        j += 1;
+    }
+}
+
+// Diverge nodes from k on move with their nodes.
+fn shift_divs(dn: &mut [u16], k: usize, m: usize, join: u32, base: u32) -> u32
+    requires { ⌜ ((i : ℕ) → getD (now dn) i 0 + join < 2 ^ 16) ⌝ }
+    ensures { λ r. ⌜ ((ts : List ℕ) → m ≤ length (now (dn .entry)) → answer r (listed m (divAt ts (now (dn .exit)))) ≡ fromOn (shiftDivs join base) k (listed m (divAt ts (now (dn .entry))))) ⌝ }
+{
+    let mut i = k;
+    while i < m {
+        let x = columns::u16_of(dn, i) as u32 + join;
+        if x < base {
+            return 13;
+        }
+        put_entry(dn, i, (x - base) as u16);
+        i += 1;
+    }
+    0
+}
+
+// The entries from k up to m of a column go behind the c new ones, and all of them to the column at `at`.
+fn splice_column(col: &mut [u16], fresh: &mut [u16], c: usize, at: usize, k: usize, m: usize)
+    requires { ⌜ (k ≤ m) × (m ≤ length (now col)) × (at + c + (m - k) ≤ length (now col)) × (1 + c + (m - k) ≤ length (now fresh)) ⌝ }
+    ensures { λ _. ⌜ Splices (λ i. getD (now (col .exit)) i 0) (λ i. getD (now (col .entry)) i 0) (λ i. getD (now (fresh .entry)) (1 + i) 0) at c k m ⌝ }
+{
+    copies::copy_entries(col, k, fresh, 1 + c, m - k);
+    copies::copy_entries(fresh, 1, col, at, c + (m - k));
+}
+
+// div_nodes.splice(at..k, the c new ones)
+pub fn splice_divs(
+    dt: &mut [u16],
+    dn: &mut [u16],
+    nt: &mut [u16],
+    nn: &mut [u16],
+    c: usize,
+    at: usize,
+    k: usize,
+    m: usize,
+)
+    requires { ⌜ (at ≤ m) × (k ≤ m) × (m ≤ length (now dt)) × (m ≤ length (now dn)) × (at + c + (m - k) ≤ length (now dt)) × (at + c + (m - k) ≤ length (now dn)) × (1 + c + (m - k) ≤ length (now nt)) × (1 + c + (m - k) ≤ length (now nn)) ⌝ }
+    ensures { λ _. ⌜ listed (at + c + (m - k)) (divAt (now (dt .exit)) (now (dn .exit))) ≡ take at (listed m (divAt (now (dt .entry)) (now (dn .entry)))) ++ listed c (λ i. divAt (now (nt .entry)) (now (nn .entry)) (1 + i)) ++ drop k (listed m (divAt (now (dt .entry)) (now (dn .entry)))) ⌝ }
+{
+    splice_column(dt, nt, c, at, k, m);
+    splice_column(dn, nn, c, at, k, m);
+}
+
+// Diverge nodes from k on move with their nodes, if those move.
+fn move_divs(dn: &mut [u16], k: usize, m: usize, join: u32, base: u32) -> u32
+    requires { ⌜ ((i : ℕ) → getD (now dn) i 0 + join < 2 ^ 16) ⌝ }
+    ensures { λ r. ⌜ ((ts : List ℕ) → m ≤ length (now (dn .entry)) → answer r (listed m (divAt ts (now (dn .exit)))) ≡ fromOn (λ ds. cond (eqb base join) (ok ds) (shiftDivs join base ds)) k (listed m (divAt ts (now (dn .entry))))) ⌝ }
+{
+    if base == join {
+        return 0;
+    }
+    shift_divs(dn, k, m, join, base)
+}
+
+// A refusal's number, or 0; how many diverge nodes there are, and the div_idx_split that is returned.
+pub struct Divs {
+    pub code: u32,
+    pub count: usize,
+    pub split: usize,
+}
+
+// update_div_nodes with c new diverge nodes, the sentinel included.
+pub fn update_div_nodes(
+    dt: &mut [u16],
+    dn: &mut [u16],
+    m: usize,
+    nt: &mut [u16],
+    nn: &mut [u16],
+    c: usize,
+    room: usize,
+    split: usize,
+    base: u32,
+    join: u32,
+) -> Divs
+    requires { ⌜ DivsFit (now dt) (now dn) (now nt) (now nn) m c room split join ⌝ }
+    ensures { λ r. ⌜ (answer (r .code) (record { «div_nodes» = listed (r .count) (divAt (now (dt .exit)) (now (dn .exit))); «div_idx_split» = r .split }) ≡ updateDivNodes room (listed m (divAt (now (dt .entry)) (now (dn .entry)))) (listed c (divAt (now (nt .entry)) (now (nn .entry)))) split base join) × (r .count ≤ room) ⌝ }
+{
+    let k = walk_above(dn, m, split, base);
+    if k.code != 0 {
+        return Divs {
+            code: k.code,
+            count: 0,
+            split: 0,
+        };
+    }
+    let s = move_divs(dn, k.at, m, join, base);
+    if s != 0 {
+        return Divs {
+            code: s,
+            count: 0,
+            split: 0,
+        };
+    }
+    if c == 0 {
+        return Divs {
+            code: 13,
+            count: 0,
+            split: 0,
+        };
+    }
+    let total = split + (c - 1) + (m - k.at);
+    if room < total {
+        return Divs {
+            code: 11,
+            count: 0,
+            split: 0,
+        };
+    }
+    splice_divs(dt, dn, nt, nn, c - 1, split, k.at, m);
+    Divs {
+        code: 0,
+        count: total,
+        split: split + (c - 1),
+    }
+}
