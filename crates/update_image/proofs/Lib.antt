@@ -1,0 +1,5 @@
+pub mod PathReads
+pub mod BytesAccepted
+pub mod AcceptedClean
+pub mod StoredGood
+pub mod AcceptedBytes
