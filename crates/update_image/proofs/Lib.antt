@@ -3,3 +3,4 @@ pub mod BytesAccepted
 pub mod AcceptedClean
 pub mod StoredGood
 pub mod AcceptedBytes
+pub mod UpdateLeaves

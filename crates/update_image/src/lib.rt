@@ -1,1 +1,1 @@
-// Laws that join the bytes of an image with the update of the train that they hold. The crate has no functions.
+// One train's update on the bytes of its image (document 01, Update), and its laws. The crate has no functions.

@@ -1,0 +1,67 @@
+-- Update (document 01, Operations) on the bytes of one image: its refusals in order, else the update of the train that the image holds. Assumes nothing.
+use Prim.Native.Nat.{ℕ, zero, suc}
+use mathlib.Core.Bool.{Bool, cond, _&&_, _||_, true}
+use mathlib.Core.List.{List, [], _∷_, map}
+use lib.Dec.{ltb, leb, eqb}
+use lib.ListN.{length}
+use Rattle.link_rules.specs.declared.link_idx.LinkIdx.{LinkIdx}
+use Rattle.disp_structs.specs.Train.{Train}
+use Rattle.image.specs.Codec.{decoded, storedInto}
+use Rattle.image_fault.specs.ImageFault.{noFault, refused, orElse, imageFault}
+use Rattle.image_fault.specs.declared.Fault.{Fault}
+use Rattle.train_update.specs.Update.{Status, Success, Blocked, Faulty, Refused, Updated, updateFreePath}
+
+-- the answer, and the image that is left
+pub record UpdatedImage : Type 0 where
+  pub status : Status
+  pub rounds : ℕ
+  pub strays : ℕ
+  pub image : List ℕ
+
+-- ---- refusals 2, 4 and 5
+
+-- every link is below L
+unfoldable pub linksBelow : ℕ → List ℕ → Bool
+linksBelow l [] = true
+linksBelow l (b ∷ bs) = ltb b l && linksBelow l bs
+
+-- 2 occupancy length; 4 blocking links; 5 moved or limit 0
+unfoldable pub callFault : List ℕ → List ℕ → ℕ → ℕ → Fault
+callFault occ blocking moved limit =
+    orElse (cond (leb 2 (length occ) && leb (length occ) 4000) noFault (refused 2 0))
+    (orElse (cond (leb (length blocking) 4000 && linksBelow (length occ) blocking) noFault (refused 4 0))
+    (cond (eqb moved 0 || eqb limit 0) (refused 5 0) noFault))
+
+-- ---- the update
+
+-- a refusal leaves the image, every other answer stores the train
+abbrev pub leftImage : Status → Train → List ℕ → List ℕ
+leftImage Success t img = storedInto t img
+leftImage Blocked t img = storedInto t img
+leftImage (Faulty n) t img = storedInto t img
+leftImage (Refused n place) t img = img
+
+abbrev pub storedAnswer : Updated → List ℕ → UpdatedImage
+storedAnswer u img = record { status = u .status; rounds = u .rounds; strays = u .strays; image = leftImage (u .status) (u .train) img }
+
+-- refused before the first round
+abbrev pub refusedAnswer : ℕ → ℕ → List ℕ → UpdatedImage
+refusedAnswer n place img = record { status = Refused n place; rounds = 0; strays = 0; image = img }
+
+abbrev pub answerBy : ℕ → ℕ → Updated → List ℕ → UpdatedImage
+answerBy zero place u img = storedAnswer u img
+answerBy (suc n) place u img = refusedAnswer (suc n) place img
+
+abbrev pub linkIdxs : List ℕ → List LinkIdx
+linkIdxs blocking = map (λ (n : ℕ). record { 0 = n }) blocking
+
+-- refusals 2 to 9 of the call and of the image
+unfoldable pub updateFault : List ℕ → List ℕ → List ℕ → ℕ → ℕ → Fault
+updateFault img occ blocking moved limit = orElse (callFault occ blocking moved limit) (imageFault img (length occ))
+
+-- the image, the occupancy, the blocking list, the moved train, local, the round limit; 10 to 13 are those of updateFreePath
+unfoldable pub updatedImage : List ℕ → List ℕ → List ℕ → ℕ → Bool → ℕ → UpdatedImage
+updatedImage img occ blocking moved local limit =
+    let f = updateFault img occ blocking moved limit in
+    let u = updateFreePath occ (linkIdxs blocking) (record { 0 = moved }) local limit (decoded img) in
+    answerBy (f .number) (f .place) u img
