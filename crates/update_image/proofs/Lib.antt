@@ -4,3 +4,4 @@ pub mod AcceptedClean
 pub mod StoredGood
 pub mod AcceptedBytes
 pub mod UpdateLeaves
+pub mod ImageRenumbering

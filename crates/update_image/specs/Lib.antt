@@ -1,1 +1,2 @@
 pub mod UpdateImage
+pub mod UpdateMatch
