@@ -5,3 +5,4 @@ pub mod StoredGood
 pub mod AcceptedBytes
 pub mod UpdateLeaves
 pub mod ImageRenumbering
+pub mod Examples
