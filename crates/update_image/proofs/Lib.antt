@@ -3,6 +3,7 @@ pub mod BytesAccepted
 pub mod AcceptedClean
 pub mod StoredGood
 pub mod AcceptedBytes
+pub mod UpdateAnswers
 pub mod UpdateLeaves
 pub mod ImageRenumbering
 pub mod Examples
