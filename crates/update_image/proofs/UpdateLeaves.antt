@@ -110,3 +110,15 @@ module _ (img occ blocking : List ℕ) (moved : ℕ) (local : Bool) (limit : ℕ
       let h = Clean.or-else-clean (callFault occ blocking moved limit) (imageFault img (length occ)) e .1 in
       ap (λ (k : ℕ). decoded (answerBy k (updateFault img occ blocking moved limit .place) u img .image)) e
       ∙ left-passes img (length occ) b h (u .status) (u .train) (leaves img (length occ) b h occ blocking moved local limit w m) .1
+
+  -- so Success, Blocked and Faulty leave an image that passes 6 to 9
+  pub done-accepted : Bytes img → Trains16 occ → moved < 65536 → ((n place : ℕ) → after .status ≡ Refused n place → ⊥) → imageFault (after .image) (length occ) .number ≡ 0
+  unfolding updatedImage updateFault
+  done-accepted b w m done = go (updateFault img occ blocking moved limit .number) refl
+    where
+      go : (k : ℕ) → updateFault img occ blocking moved limit .number ≡ k → imageFault (after .image) (length occ) .number ≡ 0
+      go zero e = left-accepted b w m (Clean.or-else-clean (callFault occ blocking moved limit) (imageFault img (length occ)) e .1)
+      go (suc k) e =
+          let place = updateFault img occ blocking moved limit .place in
+          let u = updateFreePath occ (linkIdxs blocking) (record { 0 = moved }) local limit (decoded img) in
+          absurd (done (suc k) place (ap (λ (n : ℕ). answerBy n place u img .status) e))
