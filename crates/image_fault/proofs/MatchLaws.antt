@@ -32,12 +32,12 @@ use Rattle.image_fault.proofs.AcceptLaws.{counts-fit, fits-counts, clea
 
 -- ---- scans over tests that agree
 
-all-same : (n : ℕ) (f g : ℕ → Bool) → ((i : ℕ) → i < n → f i ≡ g i) → allBelow n f ≡ allBelow n g
+pub all-same : (n : ℕ) (f g : ℕ → Bool) → ((i : ℕ) → i < n → f i ≡ g i) → allBelow n f ≡ allBelow n g
 unfolding allBelow
 all-same zero f g h = refl
 all-same (suc n) f g h = ap₂ (λ (a b : Bool). a && b) (all-same n f g (λ i l. h i (omega arith))) (h n (omega arith))
 
-first-same : (m : ℕ) (f g : ℕ → Bool) (k i : ℕ) → ((j : ℕ) → i ≤ j → j < i + k → f j ≡ g j) → firstUnfit m f k i ≡ firstUnfit m g k i
+pub first-same : (m : ℕ) (f g : ℕ → Bool) (k i : ℕ) → ((j : ℕ) → i ≤ j → j < i + k → f j ≡ g j) → firstUnfit m f k i ≡ firstUnfit m g k i
 unfolding firstUnfit
 first-same m f g zero i h = refl
 first-same m f g (suc k) i h = go (g i) refl (first-same m f g k (i + 1) (λ j l r. h j (omega arith) (omega arith)))

@@ -17,6 +17,7 @@ use Rattle.disp_structs.specs.declared.Metres.{Metres}
 use Rattle.disp_structs.specs.declared.EstTime.{EstTime}
 use Rattle.disp_structs.specs.declared.DispNode.{DispNode}
 use Rattle.image.specs.Image.{estCount, nodePlace, imageSize, estFrom, putNode}
+use Rattle.image.specs.Codec.{putEach}
 use Rattle.train_disp.specs.TrainDisp.{newNode, offsetBehind, walkNext, withHeader, withEst, putNodes, sizesFit, Sized, allWithin}
 use Rattle.train_disp.specs.declared.Order.{Order}
 
@@ -62,7 +63,7 @@ length-node n at bs = simp length-put
 -- ---- one node of the path is written: i of e are, at is the record's number and o its offset
 
 pub put-turn : (e i : ℕ) (n : DispNode) (ns : List DispNode) (bs : List ℕ) → putNodes (n ∷ ns) (nodePlace e i) bs ≡ putNodes ns (nodePlace e (i + 1)) (putNode n (nodePlace e i) bs)
-unfolding putNodes
+unfolding putEach
 put-turn e i n ns bs = let k : nodePlace e i + 32 ≡ nodePlace e (i + 1) = omega arith in ap (λ (p : ℕ). putNodes ns p (putNode n (nodePlace e i) bs)) k
 
 module _ (sums : Bool) (est : List ℕ) (e i at : ℕ) (o : Metres) (img img′ : List ℕ) (r : EstTime) (n : DispNode) (h : i < e) (er : r ≡ estFrom est (32 * at))
@@ -94,7 +95,7 @@ module _ (sums : Bool) (est : List ℕ) (e i at : ℕ) (o : Metres) (img img′ 
     last = walk-last sums est e i at o h (sym (ap (λ (y : EstTime). y .«idx_next» .0) er) ∙ z)
 
     pub path-last : putNodes (walkNext sums est (e - i) at o) (nodePlace e i) img ≡ img′
-    unfolding putNodes
+    unfolding putEach
     path-last = ap (λ (ns : List DispNode). putNodes ns (nodePlace e i) img) last ∙ sym placed
 
     pub count-last : length (walkNext sums est (e - i) at o) ≡ 1

@@ -14,6 +14,7 @@ use Rattle.disp_structs.specs.declared.Metres.{Metres}
 use Rattle.disp_structs.specs.declared.EstTime.{EstTime}
 use Rattle.disp_structs.specs.declared.DispNode.{DispNode}
 use Rattle.image.specs.Image.{nodePlace, divergePlace, imageSize, estFrom, putNode}
+use Rattle.image.specs.Codec.{putEach}
 use Rattle.image_fault.specs.ImageFault.{imageFault}
 use Rattle.image_fault.specs.declared.Fault.{Fault}
 use Rattle.train_disp.specs.declared.Order.{Order}
@@ -77,9 +78,8 @@ unfoldable pub withEst : List ℕ → List ℕ → List ℕ
 withEst est bs = paste bs 64 est (length est)
 
 -- path nodes in records from at on
-unfoldable pub putNodes : List DispNode → ℕ → List ℕ → List ℕ
-putNodes [] at bs = bs
-putNodes (x ∷ xs) at bs = putNodes xs (at + 32) (putNode x at bs)
+abbrev pub putNodes : List DispNode → ℕ → List ℕ → List ℕ
+putNodes = putEach putNode 32
 
 -- N, and the ending diverge node (0, N) behind the starting one (0, 0) (165-171)
 unfoldable pub withEnds : ℕ → ℕ → List ℕ → List ℕ

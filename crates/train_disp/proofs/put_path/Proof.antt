@@ -9,6 +9,7 @@ use borrow.Author.Needs.{needs}
 use Rattle.disp_structs.specs.Values.{zeroMetres}
 use Rattle.disp_structs.specs.declared.DispNode.{DispNode}
 use Rattle.image.specs.Image.{estCount, nodePlace}
+use Rattle.image.specs.Codec.{putEach}
 use Rattle.train_disp.specs.TrainDisp.{walkNext, putNodes}
 use Rattle.train_disp.proofs.LayOutLaws.{walk-end, kept, long, path-on, count-on, path-last, count-last}
 use Rattle.train_disp.proofs.put_path.Statement.{statement}
@@ -82,7 +83,7 @@ same-length-2 : tie.Need-same-length-2 Inv-loop μ-loop
 same-length-2 c = search needs
 
 returns-2 : tie.Need-returns-2 Inv-loop μ-loop
-unfolding putNodes
+unfolding putEach
 returns-2 c =
     let g = c .before .loop in
     let a = c .before .before .before .before .args in
