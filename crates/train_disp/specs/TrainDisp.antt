@@ -1,13 +1,12 @@
 -- Laying out a new train: TrainDisp::new (train_disp/mod.rs 91-218), with refusals 5 to 9 and 11. Assumes nothing.
 use Prim.Native.Nat.{ℕ, zero, suc, _+_, _*_, _/_, _%_, _≤_}
-use mathlib.Core.Bool.{Bool, true, false, cond, not, _&&_}
+use mathlib.Core.Bool.{Bool, true, false, cond, _&&_}
 use mathlib.Core.List.{List, [], _∷_}
 use lib.Dec.{leb, eqb}
 use lib.Ieee.{Float, ne}
 use lib.ListN.{length, replicate}
 use lib.Seq.{paste}
 use Rattle.link_rules.specs.Octets.{putLe}
-use Rattle.link_rules.specs.declared.refusal.Refusal.{Refusal}
 use Rattle.disp_structs.specs.Floats.{bitsOf}
 use Rattle.disp_structs.specs.Values.{noEst, sameEst, plus, zeroMetres, within, never}
 use Rattle.disp_structs.specs.declared.Metres.{Metres}

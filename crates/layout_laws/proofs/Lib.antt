@@ -1,0 +1,3 @@
+pub mod OffsetsAside
+pub mod LaidBytes
+pub mod LaidOut
