@@ -2,7 +2,6 @@
 use crate::Effect;
 use crate::Moved;
 use disp_structs::EstTime;
-use disp_structs::EstType;
 use disp_structs::LinkEvent;
 use free_path::columns;
 use free_path::train_idxs_view;

@@ -91,7 +91,7 @@ put-view-requires c κs =
 one-back-requires : tie.Need-one-back-requires
 one-back-requires c κs =
     let s = (c .before .before .before .before .before .before .before .before .before .before .before .before .before .before .before .before .before .before .before .before .before .before .before .before .before .before .before .before .before .pre) in
-    record { split = s .0 .split; divSplit = s .0 .divSplit; save = c .before .before .before .before .before .before .before .before .before .before .before .before .before .before .before .before .before .before .before .before .before .before .before .save-of .ensures .1; free = s .0 .free; new = s .0 .new; divs = omega (arith, c .before .before .before .before .before .before .before .before .before .before .before .rewind-divs .ensures .1, s .0 .divs); pool = c .before .before .before .before .before .before .before .before .before .before .before .before .before .before .before .before .rewind-view .ensures .1 }
+    record { split = s .0 .split; divSplit = s .0 .divSplit; save = c .before .before .before .before .before .before .before .before .before .before .before .before .before .before .before .before .before .before .before .before .before .before .before .save-of .ensures .1; free = omega (arith, s .0 .free, s .0 .split); new = s .0 .new; divs = omega (arith, c .before .before .before .before .before .before .before .before .before .before .before .rewind-divs .ensures .1, s .0 .divs); pool = c .before .before .before .before .before .before .before .before .before .before .before .before .before .before .before .before .rewind-view .ensures .1 }
 
 -- src/rewind.rt:201:1
 same-length-7 : tie.Need-same-length-7
