@@ -85,7 +85,7 @@ module _ (p : ℕ → ℕ) (at : ℕ) (bs bs′ : List ℕ) (q : length bs ≡ l
         after = rw e (last-part wf wg wg′ wh bs bs′ q l (omega arith) (omega arith) (omega arith));
       }
 
-  node-one : (x : DispNode) → NodeHeld x → NodeHeld (rNode p x) → at + 32 ≤ length bs → Renumbered p (putNode x at bs) (putNode (rNode p x) at bs′) at 32 16 4
+  pub node-one : (x : DispNode) → NodeHeld x → NodeHeld (rNode p x) → at + 32 ≤ length bs → Renumbered p (putNode x at bs) (putNode (rNode p x) at bs′) at 32 16 4
   unfolding putNode nodeFrom
   node-one x h h′ l =
       let wf = then (put-to 8 (bitsOf (x .offset .0)) at (at + 8) (omega arith)) (put-to 8 (bitsOf (x .«time_pass» .0)) (at + 8) (at + 16) (omega arith)) (omega arith) (omega arith) in
@@ -440,7 +440,7 @@ encoded-match p q p0 q0 t k k′ = shut-match p q p0 q0 t k k′
 -- ---- a renumbered state can be held where the state can
 
 -- a renumbering of numbers below b keeps them below b
-width : (top b : ℕ) (p : ℕ → ℕ) → Renumbering top p → top < b → (a : ℕ) → a < b → p a < b
+pub width : (top b : ℕ) (p : ℕ → ℕ) → Renumbering top p → top < b → (a : ℕ) → a < b → p a < b
 width top b p r h a l =
     ⊎-elim
     (λ (s : a < top + 1). omega (arith, within top p r a (omega arith)))

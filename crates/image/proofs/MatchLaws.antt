@@ -24,7 +24,7 @@ module _ {p : ℕ → ℕ} {bs bs′ : List ℕ} {at w k v : ℕ} (m : Renumbere
 
 -- ---- one record of each kind
 
-est-renumbered : (p : ℕ → ℕ) (bs bs′ : List ℕ) (at : ℕ) → Renumbered p bs bs′ at 32 24 4 → estFrom bs′ at ≡ rEst p (estFrom bs at)
+pub est-renumbered : (p : ℕ → ℕ) (bs bs′ : List ℕ) (at : ℕ) → Renumbered p bs bs′ at 32 24 4 → estFrom bs′ at ≡ rEst p (estFrom bs at)
 unfolding estFrom
 est-renumbered p bs bs′ at m =
     rw (

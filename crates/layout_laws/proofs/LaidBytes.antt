@@ -11,7 +11,6 @@ use lib.Ieee.{Float, nan, inf, fin, binary64, fits, isNan, le, lt, eq}
 use lib.Ieee.Bits.{ofBits-fits}
 use lib.Ieee.Fits.{add-fits}
 use lib.ListN.{length, getD, replicate, length-replicate, length-map, List·getD-eq-default}
-use lib.Seq.{length-paste}
 use borrow.Author.Tests.{le-leb, leb-true, eqb-true}
 use Rattle.link_rules.specs.Octets.{leAt, putLe}
 use Rattle.link_rules.proofs.OctetLaws.{length-put, le-put-same, le-put-other}
@@ -28,9 +27,10 @@ use Rattle.image.proofs.RecordLaws.{Real, node-writes}
 use Rattle.image.proofs.Parts.{keep}
 use Rattle.image_fault.specs.ImageFault.{floatFits}
 use Rattle.image_fault.proofs.ScanLaws.{both}
-use Rattle.train_disp.specs.TrainDisp.{newNode, offsetBehind, walkNext, estLength, newPath, withHeader, withEst, putNodes, withEnds, laidImage, sizesFit, allWithin}
+use Rattle.train_disp.specs.TrainDisp.{newNode, offsetBehind, walkNext, estLength, newPath, putNodes, withEnds, laidImage, sizesFit, allWithin}
 use Rattle.train_disp.specs.declared.Order.{Order}
 use Rattle.train_disp.proofs.LayOutLaws.{count-written, walk-few}
+use Rattle.layout_laws.proofs.LaidBase.{based, based-long}
 use Rattle.layout_laws.proofs.OffsetsAside.{Aside, SameAside}
 
 -- ---- a path without its offsets
@@ -46,10 +46,10 @@ plain n =
     }
 
 -- the est record that a walk reads, and the nodes behind it
-abbrev read : List ℕ → ℕ → EstTime
+abbrev pub read : List ℕ → ℕ → EstTime
 read est e = estFrom est (32 * e)
 
-abbrev later : Bool → List ℕ → ℕ → ℕ → Metres → List DispNode
+abbrev pub later : Bool → List ℕ → ℕ → ℕ → Metres → List DispNode
 later sums est k e o = walkNext sums est k (read est e .«idx_next» .0) (offsetBehind sums o (read est e))
 
 -- without sums the walk gives the same nodes with offsets 0
@@ -63,13 +63,14 @@ walk-plain est (suc k) e o = go (sameEst (read est e .«idx_next») noEst) (walk
     go true h = refl
     go false h = ap (λ (ns : List DispNode). newNode (read est e) e zeroMetres ∷ ns) h
 
--- what each node of a walk has, that a node at an offset of Q has
-pub walk-all : (sums : Bool) (est : List ℕ) (P : DispNode → Type 0) (Q : Metres → Type 0) → ((e : ℕ) (o : Metres) → Q o → P (newNode (read est e) e o)) → ((e : ℕ) (o : Metres) → Q (offsetBehind sums o (read est e)))
-    → (k e : ℕ) (o : Metres) → Q o → (i : ℕ) → i < length (walkNext sums est k e o) → P (getD (walkNext sums est k e o) i (nodeFrom [] 0))
+-- what each node of a walk has, where each record and offset that it comes to has Q
+pub walk-all : (sums : Bool) (est : List ℕ) (P : DispNode → Type 0) (Q : ℕ → Metres → Type 0) → ((e : ℕ) (o : Metres) → Q e o → P (newNode (read est e) e o))
+    → ((e : ℕ) (o : Metres) → Q e o → Q (read est e .«idx_next» .0) (offsetBehind sums o (read est e)))
+    → (k e : ℕ) (o : Metres) → Q e o → (i : ℕ) → i < length (walkNext sums est k e o) → P (getD (walkNext sums est k e o) i (nodeFrom [] 0))
 unfolding walkNext
 walk-all sums est P Q here on zero e o h i l = absurd (omega arith)
 walk-all sums est P Q here on (suc k) e o h i l =
-    go (sameEst (read est e .«idx_next») noEst) (walk-all sums est P Q here on k (read est e .«idx_next» .0) (offsetBehind sums o (read est e)) (on e o)) i l
+    go (sameEst (read est e .«idx_next») noEst) (walk-all sums est P Q here on k (read est e .«idx_next» .0) (offsetBehind sums o (read est e)) (on e o h)) i l
   where
     go : (t : Bool) → ((j : ℕ) → j < length (later sums est k e o) → P (getD (later sums est k e o) j (nodeFrom [] 0)))
         → (j : ℕ) → j < length (newNode (read est e) e o ∷ cond t [] (later sums est k e o)) → P (getD (newNode (read est e) e o ∷ cond t [] (later sums est k e o)) j (nodeFrom [] 0))
@@ -150,7 +151,7 @@ split : (a b : Bool) → cond a b false ≡ true → (a ≡ true) × (b ≡ true
 split true b h = (refl, h)
 split false b h = let z : _≡_ {A = ℕ} 0 1 = cc in absurd (omega arith)
 
-reach-number : (x : Float) → inReach x ≡ true → T (not (isNan x))
+pub reach-number : (x : Float) → inReach x ≡ true → T (not (isNan x))
 unfolding inReach le lt eq isNan
 reach-number nan h = let z : _≡_ {A = ℕ} 0 1 = cc in absurd (omega arith)
 reach-number (inf s) h = tt
@@ -163,7 +164,7 @@ float-fits x r h = rw (le-leb (bitsOf x % 0x8000_0000_0000_0000) 0x7ff0_0000_000
 real-offset : (x : DispNode) → T (fits binary64 (x .offset .0)) → within (x .offset) ≡ true → Real (x .offset .0)
 real-offset x f h = record { holds = f; number = reach-number (x .offset .0) h }
 
-all-within : (xs : List DispNode) → allWithin xs ≡ true → (i : ℕ) → i < length xs → within (getD xs i (nodeFrom [] 0) .offset) ≡ true
+pub all-within : (xs : List DispNode) → allWithin xs ≡ true → (i : ℕ) → i < length xs → within (getD xs i (nodeFrom [] 0) .offset) ≡ true
 unfolding allWithin
 all-within [] w i l = absurd (omega arith)
 all-within (x ∷ xs) w zero l = split (within (x .offset)) (allWithin xs) w .0
@@ -206,13 +207,10 @@ module _ (est : List ℕ) (o : Order) (size : ℕ) (z : SizesFit (length est) o 
   e = estLength est
 
   abbrev base : List ℕ
-  base = withEst est (withHeader e o (replicate size 0))
+  base = based e o est size
 
-  pub base-long : length base ≡ size
-  unfolding withEst withHeader
-  base-long =
-      let long : length (withHeader e o (replicate size 0)) ≡ size = simp (length-put, length-replicate) in
-      length-paste (withHeader e o (replicate size 0)) 64 est (length est) (omega (arith, z .whole, z .size-is)) (omega arith) ∙ long
+  base-long : length base ≡ size
+  base-long = based-long e o est size (omega (arith, z .whole, z .size-is))
 
   module _ (sums : Bool) where
     abbrev path : List DispNode
@@ -227,7 +225,7 @@ module _ (est : List ℕ) (o : Order) (size : ℕ) (z : SizesFit (length est) o 
     pub few : length path ≤ e
     few = walk-few sums est e 0 zeroMetres
 
-    pub noded-long : length noded ≡ size
+    noded-long : length noded ≡ size
     noded-long = nodes-write .long base ∙ base-long
 
     pub laid-long : length (laidImage sums est o size) ≡ size
@@ -275,7 +273,7 @@ module _ (est : List ℕ) (o : Order) (size : ℕ) (z : SizesFit (length est) o 
       let n = length path in
       let k = few true in
       let q : nodePlace e i ≡ nodePlace e 0 + 32 * i + 0 = omega arith in
-      let holds = walk-all true est (λ x. T (fits binary64 (x .offset .0))) (λ y. T (fits binary64 (y .0))) (λ j y h. h) (λ j y. add-fits binary64 (y .0) (read est j .«dist_to_next» .0)) e 0 zeroMetres (ofBits-fits binary64 0) in
+      let holds = walk-all true est (λ x. T (fits binary64 (x .offset .0))) (λ j y. T (fits binary64 (y .0))) (λ j y h. h) (λ j y h. add-fits binary64 (y .0) (read est j .«dist_to_next» .0)) e 0 zeroMetres (ofBits-fits binary64 0) in
       let real : (j : ℕ) → j < n → Real (getD path j (nodeFrom [] 0) .offset .0) = λ j m. real-offset (getD path j (nodeFrom [] 0)) (holds j m) (all-within path w j m) in
       rw (
         le-put-other 8 2 n (divergePlace e 1 + 2) (putLe 4 n 8 (noded true)) (nodePlace e i) (inl (omega arith)),

@@ -1,3 +1,6 @@
 pub mod OffsetsAside
+pub mod LaidBase
 pub mod LaidBytes
 pub mod LaidOut
+pub mod LaidMatch
+pub mod LaidRenumbered
