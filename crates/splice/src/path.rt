@@ -47,10 +47,11 @@ fn shift_offsets(img: &mut [u8], n: u32, i: u32, change: Metres) -> u32
     requires { ⌜ nodePlace (estCount (now img)) n ≤ length (now img) ⌝ }
     ensures { λ r. ⌜ (answer r (listed n (nodeAt (now (img .exit)))) ≡ fromOn (shiftOffsets change) i (listed n (nodeAt (now (img .entry))))) × Kept (now (img .exit)) (now (img .entry)) ⌝ }
 {
+    let c = change.0;
     let mut k = i;
     while k < n {
         let x = codec::node_at(img, k);
-        let o = x.offset.0 + change.0;
+        let o = x.offset.0 + c;
         if !floats::in_reach(o) {
             return 11;
         }

@@ -18,10 +18,10 @@ use Rattle.splice.proofs.path.shift_offsets.Statement.{statement}
 use Rattle.splice.proofs.path.shift_offsets.Tie as tie
 
 abbrev Inv-loop : tie.InvT-loop
-Inv-loop img₀ n i change k₀ img k = Kept img img₀ × (fromOn (shiftOffsets change) k (listed n (nodeAt img)) ≡ fromOn (shiftOffsets change) i (listed n (nodeAt img₀)))
+Inv-loop img₀ n i c k₀ img k = Kept img img₀ × (fromOn (shiftOffsets (record { 0 = c })) k (listed n (nodeAt img)) ≡ fromOn (shiftOffsets (record { 0 = c })) i (listed n (nodeAt img₀)))
 
 abbrev μ-loop : tie.MeasureT-loop
-μ-loop img₀ n i change k₀ img k = n - k
+μ-loop img₀ n i c k₀ img k = n - k
 
 loop-holds : tie.Need-loop-holds Inv-loop μ-loop
 loop-holds c = (record { size = refl; below = λ j h. refl }, refl)
@@ -33,13 +33,13 @@ in-reach-requires : tie.Need-in-reach-requires Inv-loop μ-loop
 in-reach-requires c κs = search needs
 
 same-length : tie.Need-same-length Inv-loop μ-loop
-same-length c = c .before .before .before .before .before .before .before .loop .inv .0 .size
+same-length c = c .before .before .before .before .before .before .loop .inv .0 .size
 
 returns : tie.Need-returns Inv-loop μ-loop
 returns c =
-    let l = c .before .before .before .before .before .before .before .loop in
-    let a = c .before .before .before .before .before .before .before .before .before .args in
-    let far = ap (λ (y : DispNode). inReach (add binary64 (y .offset .0) (a .change .0))) (sym (c .before .before .before .before .node-at .ensures)) ∙ sym (c .before .in-reach .ensures) ∙ not-true _ (c .if1 .taken) in
+    let l = c .before .before .before .before .before .before .loop in
+    let a = c .before .before .before .before .before .before .before .before .args in
+    let far = ap (λ (y : DispNode). inReach (add binary64 (y .offset .0) (a .change .0))) (sym (c .before .before .before .node-at .ensures)) ∙ sym (c .before .in-reach .ensures) ∙ not-true _ (c .if1 .taken) in
     (sym (offsets-no (a .change) (l .img) (a .n) (l .k) (omega arith) far) ∙ l .inv .1, l .inv .0)
 
 put-offset-requires : tie.Need-put-offset-requires Inv-loop μ-loop
@@ -53,14 +53,14 @@ loop-less c = search needs
 
 loop-again : tie.Need-loop-again Inv-loop μ-loop
 loop-again c =
-    let l = c .before .before .before .before .before .before .before .before .before .before .before .loop in
-    let a = c .before .before .before .before .before .before .before .before .before .before .before .before .before .args in
-    let e = c .before .before .put-offset .ensures ∙ ap (λ (y : DispNode). putOffset (add binary64 (y .offset .0) (a .change .0)) (l .k) (l .img)) (c .before .before .before .before .before .before .before .before .node-at .ensures) in
-    let near = ap (λ (y : DispNode). inReach (add binary64 (y .offset .0) (a .change .0))) (sym (c .before .before .before .before .before .before .before .before .node-at .ensures)) ∙ sym (c .before .before .before .before .before .in-reach .ensures) ∙ not-false _ (c .before .before .before .before .if1 .left) in
+    let l = c .before .before .before .before .before .before .before .before .before .before .loop in
+    let a = c .before .before .before .before .before .before .before .before .before .before .before .before .args in
+    let e = c .before .before .put-offset .ensures ∙ ap (λ (y : DispNode). putOffset (add binary64 (y .offset .0) (a .change .0)) (l .k) (l .img)) (c .before .before .before .before .before .before .before .node-at .ensures) in
+    let near = ap (λ (y : DispNode). inReach (add binary64 (y .offset .0) (a .change .0))) (sym (c .before .before .before .before .before .before .before .node-at .ensures)) ∙ sym (c .before .before .before .before .before .in-reach .ensures) ∙ not-false _ (c .before .before .before .before .if1 .left) in
     let s = l .inv .0 .size in
     let q = kept-count (l .img) (now (a .img)) (l .inv .0) in (
       kept-then _ (l .img) (now (a .img)) (kept-eq _ _ (l .img) e (offset-kept (l .img) _ (l .k))) (l .inv .0),
-      ap (λ (x : List ℕ). fromOn (shiftOffsets (a .change)) (l .k + 1) (listed (a .n) (nodeAt x))) e ∙ offsets-turn (a .change) (l .img) (a .n) (l .k) (omega arith) (omega (arith, c .before .before .before .before .before .before .before .before .before .before .before .before .before .pre)) near ∙ l .inv .1,
+      ap (λ (x : List ℕ). fromOn (shiftOffsets (a .change)) (l .k + 1) (listed (a .n) (nodeAt x))) e ∙ offsets-turn (a .change) (l .img) (a .n) (l .k) (omega arith) (omega (arith, c .before .before .before .before .before .before .before .before .before .before .before .before .pre)) near ∙ l .inv .1,
     )
 
 same-length-2 : tie.Need-same-length-2 Inv-loop μ-loop
