@@ -196,6 +196,7 @@ def changed(name, text):
     text = re.sub(r", (Serialize|Deserialize)\b", "", text)
     text = text.replace("get_unchecked", "get_checked")
     text = re.sub(r"^(fn |enum |struct |type )", r"pub \1", text, flags=re.M)
+    text = text.replace("    fn validate_free_path", "    pub fn validate_free_path")
     if name == "train_disp.rs":
         text = re.sub(r"^    ([a-z_]+: [A-Za-z:<>]+,)$", r"    pub \1", text,
                       flags=re.M)

@@ -3,6 +3,7 @@
 use crate::cases::*;
 use crate::gen::*;
 use crate::layout::*;
+use crate::leaves;
 use crate::rng::Rng;
 use crate::yards::*;
 
@@ -153,7 +154,7 @@ pub fn sheet(rng: &mut Rng) -> Case {
     Case::sheet(&b)
 }
 
-/// A case of any operation.
+/// A case of any operation of document 01.
 pub fn any(rng: &mut Rng) -> Case {
     match rng.below(100) {
         0..=9 => mark(rng),
@@ -174,6 +175,7 @@ pub fn by_name(name: &str, rng: &mut Rng) -> Option<Case> {
         "check" => check(rng),
         "tidy" => tidy(rng),
         "sheet" => sheet(rng),
+        "leaf" => leaves::any(rng),
         "any" => any(rng),
         _ => return None,
     })

@@ -2,6 +2,7 @@
 //! README.md describes the format.
 
 use crate::layout::*;
+use crate::leaves;
 use crate::model::{self, CheckArgs, Checked, Outcome};
 
 pub const MARK: u32 = 1;
@@ -9,6 +10,13 @@ pub const LAY_OUT: u32 = 2;
 pub const UPDATE: u32 = 3;
 pub const CHECK: u32 = 4;
 pub const SHEET: u32 = 5;
+// The leaves of an update: leaves.rs.
+pub const CLASS: u32 = 6;
+pub const SENTINELS: u32 = 7;
+pub const INTERSECT: u32 = 8;
+pub const UNION: u32 = 9;
+pub const NEAR: u32 = 10;
+pub const STEP: u32 = 11;
 
 const HEAD: usize = 104;
 /// The length of an output buffer that is as its input was.
@@ -32,6 +40,7 @@ fn before(op: u32) -> [Option<usize>; 2] {
         LAY_OUT => [Some(1), None],
         UPDATE => [Some(0), None],
         CHECK => [Some(0), Some(3)],
+        UNION => [Some(0), None],
         _ => [None, None],
     }
 }
@@ -79,7 +88,7 @@ impl Case {
             UPDATE => self.answer_update(),
             CHECK => self.answer_check(),
             SHEET => self.outs = [model::sheet(&self.ins[0]).into_bytes(), vec![]],
-            op => panic!("no operation {op}"),
+            _ => leaves::answer(&mut self),
         }
         self
     }

@@ -5,6 +5,7 @@ use crate::cases::*;
 use crate::gen::*;
 use crate::hook;
 use crate::layout::*;
+use crate::leaves;
 use crate::model::{self, CheckArgs, Checked, Outcome};
 use crate::rng::Rng;
 use crate::text::BRANCHES;
@@ -86,7 +87,8 @@ fn names(c: &Case) -> Vec<String> {
             let rows = (0..c.outs[1].len() / 16).map(|i| slot_code(model::row_at(&c.outs[1], i).code));
             std::iter::once(first).chain(rows).collect()
         }
-        _ => vec![sheet_name(&c.outs[0])],
+        SHEET => vec![sheet_name(&c.outs[0])],
+        _ => vec![leaves::name(c)],
     }
 }
 

@@ -10,6 +10,7 @@ pub mod figures;
 pub mod gen;
 pub mod hook;
 pub mod layout;
+pub mod leaves;
 pub mod model;
 pub mod record;
 pub mod rng;

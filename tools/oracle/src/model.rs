@@ -153,6 +153,8 @@ enum Ran {
 
 thread_local! {
     static LINE: Cell<u32> = const { Cell::new(0) };
+    /// Whether a panic outside free_path.rs is told.
+    static TOLD: Cell<bool> = const { Cell::new(true) };
 }
 
 /// Makes panics silent and keeps their lines. To be called once, before the calls below.
@@ -162,10 +164,25 @@ pub fn quiet_panics() {
         if at.file().ends_with("free_path.rs") {
             LINE.with(|l| l.set(at.line()));
         } else {
-            eprintln!("panic outside free_path.rs: {info}");
+            if TOLD.with(Cell::get) {
+                eprintln!("panic outside free_path.rs: {info}");
+            }
             LINE.with(|l| l.set(0));
         }
     }));
+}
+
+/// Calls a part of the text, which may panic in the types that it uses.
+pub fn caught<T>(f: impl FnOnce() -> T) -> std::thread::Result<T> {
+    TOLD.with(|t| t.set(false));
+    let r = catch_unwind(AssertUnwindSafe(f));
+    TOLD.with(|t| t.set(true));
+    r
+}
+
+/// The line of free_path.rs where the last panic was; 0 outside it.
+pub fn panic_line() -> u32 {
+    LINE.with(Cell::get)
 }
 
 // ---- mark or release

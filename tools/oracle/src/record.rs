@@ -6,6 +6,7 @@ use crate::cases::*;
 use crate::gen::*;
 use crate::hook;
 use crate::layout::*;
+use crate::leaves;
 use crate::model;
 use crate::rng::Rng;
 use crate::selftest;
@@ -23,6 +24,7 @@ pub const BOUNDARY: u32 = 50;
 pub const CHOSEN: u32 = 60;
 pub const BRANCH: u32 = 70;
 pub const SAMPLED: u32 = 80;
+pub const LEAF: u32 = 90;
 
 /// Keeps the smallest cases for each key.
 struct Chooser {
@@ -78,7 +80,8 @@ fn keys(c: &Case) -> Vec<String> {
         }
         CHECK if a[0] == 2 => vec![format!("refused {}", a[1])],
         CHECK => check_keys(c),
-        _ => sheet_keys(&String::from_utf8_lossy(&c.outs[0])),
+        SHEET => sheet_keys(&String::from_utf8_lossy(&c.outs[0])),
+        _ => vec![leaves::key(c)],
     }
 }
 
@@ -666,6 +669,13 @@ fn tidy_checks(rng: &mut Rng) -> Vec<Case> {
     by_key.cases(CHOSEN).collect()
 }
 
+/// Leaves: the smallest for each answer, and some as they come.
+fn leaf_cases(rng: &mut Rng) -> Vec<Case> {
+    let mut cases = chosen(rng, 60_000, 1, leaves::any);
+    cases.extend((0..80).map(|_| leaves::any(rng)));
+    cases
+}
+
 pub fn recorded(seed: u64) -> Vec<Case> {
     let mut rng = Rng::new(seed);
     let rng = &mut rng;
@@ -690,6 +700,7 @@ pub fn recorded(seed: u64) -> Vec<Case> {
     list.extend(tidy_checks(rng));
     list.extend(tag(boundary_sheets(rng), BOUNDARY));
     list.extend(chosen(rng, 10_000, 2, sheet));
+    list.extend(tag(leaf_cases(rng), LEAF));
     let mut seen = BTreeSet::new();
     list.retain(|c| seen.insert((c.op, c.args, c.ins.clone())));
     list.into_iter().map(Case::answered).collect()
