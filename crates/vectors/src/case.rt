@@ -37,6 +37,7 @@ pub(crate) struct Counts {
     pub(crate) marks: Count,
     pub(crate) layouts: Count,
     pub(crate) images: Count,
+    pub(crate) leaves: Count,
     pub(crate) skipped: u64,
     pub(crate) broken: bool,
 }
@@ -52,6 +53,10 @@ pub(crate) fn none() -> Counts {
             differ: 0,
         },
         images: Count {
+            cases: 0,
+            differ: 0,
+        },
+        leaves: Count {
             cases: 0,
             differ: 0,
         },
@@ -95,6 +100,14 @@ pub(crate) fn with_image(counts: Counts, agrees: bool) -> Counts {
     let images = counts.images;
     let next = images.with(agrees);
     out.images = next;
+    out
+}
+
+pub(crate) fn with_leaf(counts: Counts, agrees: bool) -> Counts {
+    let mut out = counts;
+    let leaves = counts.leaves;
+    let next = leaves.with(agrees);
+    out.leaves = next;
     out
 }
 
@@ -168,6 +181,48 @@ pub(crate) fn same(a: &[u8], b: &[u8]) -> bool {
         if a[i] != b[i] {
             return false;
         }
+        i += 1;
+    }
+    true
+}
+
+// Fills a column with the u16 numbers that begin at `first` and stand `step` bytes apart; past the bytes they are 0.
+pub(crate) fn u16s(to: &mut [u16], bytes: &[u8], first: usize, step: usize) {
+    let mut at = first;
+    let mut i = 0;
+    while i < to.len() {
+        to[i] = octets::u16_at(bytes, at);
+        at = std::num::wrapping_add_usize(at, step);
+        i += 1;
+    }
+}
+
+// Fills a column with u32 numbers; past the bytes they are 0.
+pub(crate) fn u32s(to: &mut [u32], bytes: &[u8]) {
+    let mut at: usize = 0;
+    let mut i = 0;
+    while i < to.len() {
+        to[i] = octets::u32_at(bytes, at);
+        at = std::num::wrapping_add_usize(at, 4);
+        i += 1;
+    }
+}
+
+// Are the first n of the column the u16 numbers of the bytes?
+pub(crate) fn holds(col: &[u16], n: usize, bytes: &[u8]) -> bool {
+    if col.len() < n {
+        return false;
+    }
+    if n != bytes.len() / 2 {
+        return false;
+    }
+    let mut at: usize = 0;
+    let mut i = 0;
+    while i < n {
+        if octets::u16_at(bytes, at) != col[i] {
+            return false;
+        }
+        at = std::num::wrapping_add_usize(at, 2);
         i += 1;
     }
     true

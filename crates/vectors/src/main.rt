@@ -6,6 +6,7 @@ ghost use lib.ListN.{length};
 mod case;
 mod image_refusal;
 mod lay_out;
+mod leaf;
 mod mark;
 
 use case::Count;
@@ -24,6 +25,7 @@ fn main() {
     print_line(b"mark or release: ", counts.marks);
     print_line(b"lay out: ", counts.layouts);
     print_line(b"refusals 6 to 9 of an image: ", counts.images);
+    print_line(b"leaves of the search: ", counts.leaves);
     print_skipped(counts.skipped);
     if counts.broken {
         io::write_all(STDOUT_FILENO, b"the list is broken\n");
@@ -101,6 +103,9 @@ fn replay(head: &[u8], body: &[u8], counts: Counts) -> Counts {
     }
     if image_refusal::is_told(head) {
         return case::with_image(counts, image_refusal::agrees(head, body));
+    }
+    if leaf::is_told(head) {
+        return case::with_leaf(counts, leaf::agrees(head, body));
     }
     case::with_skipped(counts)
 }

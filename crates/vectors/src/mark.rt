@@ -5,7 +5,6 @@ use crate::case;
 use link_rules::advance_rewind;
 use link_rules::link_idx::LinkIdx;
 use link_rules::link_idx::TrainIdx;
-use link_rules::octets;
 
 // Room for an occupancy.
 fn room() -> [u16; 8192]
@@ -26,7 +25,7 @@ pub(crate) fn agrees(head: &[u8], body: &[u8]) -> bool {
 
 fn agrees_in(head: &[u8], body: &[u8], occupancy: &mut [u16]) -> bool {
     let was = case::second_input(head, body);
-    fill(occupancy, was);
+    case::u16s(occupancy, was, 0, 2);
     let link = LinkIdx(case::argument(head, 0));
     let train = TrainIdx((case::argument(head, 1) % 65536) as u16);
     let answer = advance_rewind::update_links_blocked(
@@ -38,31 +37,9 @@ fn agrees_in(head: &[u8], body: &[u8], occupancy: &mut [u16]) -> bool {
     if !case::is_answer(answer, head) {
         return false;
     }
-    holds(occupancy, case::first_output(head, body, was))
-}
-
-fn fill(occupancy: &mut [u16], bytes: &[u8]) {
-    let mut at: usize = 0;
-    let mut i = 0;
-    while i < occupancy.len() {
-        occupancy[i] = octets::u16_at(bytes, at);
-        at = std::num::wrapping_add_usize(at, 2);
-        i += 1;
-    }
-}
-
-fn holds(occupancy: &[u16], bytes: &[u8]) -> bool {
-    if occupancy.len() != bytes.len() / 2 {
-        return false;
-    }
-    let mut at: usize = 0;
-    let mut i = 0;
-    while i < occupancy.len() {
-        if octets::u16_at(bytes, at) != occupancy[i] {
-            return false;
-        }
-        at = std::num::wrapping_add_usize(at, 2);
-        i += 1;
-    }
-    true
+    case::holds(
+        occupancy,
+        occupancy.len(),
+        case::first_output(head, body, was),
+    )
 }

@@ -2,26 +2,26 @@ use Prim.Native.Nat.{_-_, _≤_}
 use mathlib.Core.Path.{_≡_}
 use lib.ListN.{length}
 use borrow.Author.Needs.{needs}
-use Rattle.vectors.proofs.mark.fill.Statement.{statement}
-use Rattle.vectors.proofs.mark.fill.Tie as tie
+use Rattle.vectors.proofs.case.u32s.Statement.{statement}
+use Rattle.vectors.proofs.case.u32s.Tie as tie
 
 abbrev Inv-loop : tie.InvT-loop
-Inv-loop occupancy₀ bytes at₀ i₀ occupancy at i = (i ≤ length occupancy₀) × (length occupancy ≡ length occupancy₀)
+Inv-loop to₀ bytes at₀ i₀ to at i = (i ≤ length to₀) × (length to ≡ length to₀)
 
 abbrev μ-loop : tie.MeasureT-loop
-μ-loop occupancy₀ bytes at₀ i₀ occupancy at i = length occupancy₀ - i
+μ-loop to₀ bytes at₀ i₀ to at i = length to₀ - i
 
 loop-holds : tie.Need-loop-holds Inv-loop μ-loop
 loop-holds c = search needs
 
-u16-at-requires : tie.Need-u16-at-requires Inv-loop μ-loop
-u16-at-requires c κs = search needs
+u32-at-requires : tie.Need-u32-at-requires Inv-loop μ-loop
+u32-at-requires c κs = search needs
 
-mul-occupancy : tie.Need-mul-occupancy Inv-loop μ-loop
-mul-occupancy c = search needs
+mul-to : tie.Need-mul-to Inv-loop μ-loop
+mul-to c = search needs
 
-slice-write-occupancy : tie.Need-slice-write-occupancy Inv-loop μ-loop
-slice-write-occupancy c = search needs
+slice-write-to : tie.Need-slice-write-to Inv-loop μ-loop
+slice-write-to c = search needs
 
 wrapping-add-usize-requires : tie.Need-wrapping-add-usize-requires Inv-loop μ-loop
 wrapping-add-usize-requires c κs = search needs
@@ -41,16 +41,16 @@ same-length c = search needs
 returns : tie.Need-returns Inv-loop μ-loop
 returns c = search needs
 
-pub fill-spec : {M : Type 1} → statement M
-fill-spec =
+pub u32s-spec : {M : Type 1} → statement M
+u32s-spec =
     tie.close
     (tie.spec
     Inv-loop
     μ-loop
     loop-holds
-    u16-at-requires
-    mul-occupancy
-    slice-write-occupancy
+    u32-at-requires
+    mul-to
+    slice-write-to
     wrapping-add-usize-requires
     add-i
     loop-less
