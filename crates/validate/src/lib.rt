@@ -1,0 +1,114 @@
+// The number of errors of validate_free_path (free_path.rs 749-821), over the bytes of an image.
+// Every function here is proved, the crate assumes nothing of its own, and no public function has a `requires`.
+ghost use mathlib.Core.Path.{_≡_};
+ghost use mathlib.Core.Bool.{cond};
+ghost use Prim.Native.Nat.{_+_, _<_, _^_};
+ghost use lib.ListN.{drop};
+ghost use Rattle.free_path.specs.Base.{count};
+ghost use Rattle.free_path.specs.Columns.{answer};
+ghost use Rattle.free_path.specs.Validate.{badPath, inConflict, validateFreePath};
+ghost use Rattle.disp_structs.specs.Values.{isArrive};
+ghost use Rattle.image.specs.Image.{nodeAt};
+ghost use Rattle.validate.specs.Paths.{estsOf, pathOf};
+use disp_structs::EstType;
+use free_path::columns;
+use free_path::validate;
+use image::codec;
+
+// A refusal's number, or 0; and the number of errors.
+pub struct Errors {
+    pub code: u32,
+    pub count: u64,
+}
+
+// The errors of the steps of the path, and the occupancy conflicts at or after free.
+pub fn validate_free_path(img: &[u8], occ: &[u16], free: u32) -> Errors
+    ensures { λ r. ⌜ answer (r .code) (r .count) ≡ validateFreePath (now (occ .entry)) (estsOf (now (img .entry))) free (pathOf (now (img .entry))) ⌝ }
+{
+    let steps = step_errors(img);
+    if steps.code != 0 {
+        return steps;
+    }
+    if codec::path_count(img) < free {
+        return Errors { code: 13, count: 0 };
+    }
+    Errors {
+        code: 0,
+        count: steps.count + conflicts(img, occ, free),
+    }
+}
+
+// An est number past the records is 13.
+fn step_errors(img: &[u8]) -> Errors
+    ensures { λ r. ⌜ (answer (r .code) (r .count) ≡ badPath (estsOf (now (img .entry))) (pathOf (now (img .entry)))) × (r .count < 2 ^ 32) ⌝ }
+{
+    let e = codec::est_count(img);
+    let n = codec::path_count(img);
+    let mut k: u64 = 0;
+    let mut i: u32 = 0;
+    while (i as u64) + 1 < (n as u64) {
+        let a = codec::node_at(img, i);
+        let b = codec::node_at(img, i + 1);
+        if e <= a.est_idx.0 {
+            return Errors { code: 13, count: 0 };
+        }
+        if e <= b.est_idx.0 {
+            return Errors { code: 13, count: 0 };
+        }
+        k = more(
+            k,
+            validate::bad_step(
+                a,
+                b,
+                codec::est_at(img, a.est_idx.0),
+                codec::est_at(img, b.est_idx.0),
+            ),
+        );
+        i += 1;
+    }
+    Errors { code: 0, count: k }
+}
+
+fn more(k: u64, one: bool) -> u64
+    requires { ⌜ k < 2 ^ 33 ⌝ }
+    ensures { λ r. ⌜ r ≡ k + cond one 1 0 ⌝ }
+{
+    if one {
+        return k + 1;
+    }
+    k
+}
+
+fn is_arrive(t: EstType) -> bool
+    ensures { λ r. ⌜ r ≡ isArrive t ⌝ }
+{
+    match t {
+        EstType::Arrive => true,
+        EstType::Clear => false,
+        EstType::Fake => false,
+    }
+}
+
+fn in_conflict(img: &[u8], occ: &[u16], i: u32) -> bool
+    ensures { λ r. ⌜ r ≡ inConflict (now (occ .entry)) (nodeAt (now (img .entry)) i) ⌝ }
+{
+    let e = codec::node_link_event(img, i);
+    let t = e.est_type;
+    if is_arrive(t) {
+        return columns::is_occupied(occ, e.link_idx);
+    }
+    false
+}
+
+fn conflicts(img: &[u8], occ: &[u16], free: u32) -> u64
+    ensures { λ r. ⌜ (r ≡ count (inConflict (now (occ .entry))) (drop free (pathOf (now (img .entry))))) × (r < 2 ^ 32) ⌝ }
+{
+    let n = codec::path_count(img);
+    let mut k: u64 = 0;
+    let mut i = free;
+    while i < n {
+        k = more(k, in_conflict(img, occ, i));
+        i += 1;
+    }
+    k
+}
