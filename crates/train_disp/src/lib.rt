@@ -90,13 +90,30 @@ fn sizes_fit(n: usize, order: Order, size: usize) -> bool
     size == 64 + 64 * e + 4 * q
 }
 
-// 6 to 9 of the image with all offsets 0.
+// 6 to 9 of the image with all offsets 0. A small image is judged in a small buffer, which takes less time to clear.
 fn judge(est: &[u8], order: Order, size: usize) -> Fault
     requires { ⌜ Sized (length (now est)) order size ⌝ }
     ensures { λ r. ⌜ r ≡ imageFault (laidImage false (now (est .entry)) order size) (order .links) ⌝ }
 {
+    if size <= 4096 {
+        return judge_small(est, order, size);
+    }
     let mut room = scratch();
     judge_in(est, order, &mut room[..size])
+}
+
+fn judge_small(est: &[u8], order: Order, size: usize) -> Fault
+    requires { ⌜ (Sized (length (now est)) order size) × (size ≤ 4096) ⌝ }
+    ensures { λ r. ⌜ r ≡ imageFault (laidImage false (now (est .entry)) order size) (order .links) ⌝ }
+{
+    let mut room = small_scratch();
+    judge_in(est, order, &mut room[..size])
+}
+
+fn small_scratch() -> [u8; 4096]
+    ensures { λ r. ⌜ 4096 ≡ length r ⌝ }
+{
+    [0u8; 4096]
 }
 
 // Room for the largest image.
