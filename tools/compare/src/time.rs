@@ -20,7 +20,7 @@ fn best<T>(items: &[T], turns: usize, f: impl Fn(&T)) -> f64 {
 }
 
 fn print(name: &str, n: usize, library: f64, oracle: f64) {
-    println!("{name}: {n} items, library {library:.2} us, Rust {oracle:.2} us, ratio {:.2}", library / oracle);
+    println!("{name}: {n} items, library {library:.2} us, oracle {oracle:.2} us, ratio {:.2}", library / oracle);
 }
 
 /// Accepted images with this many est records or more.
