@@ -43,12 +43,15 @@ pub fn answered(asked: &Case) -> Case {
 
 fn mark(case: &mut Case) {
     let mut occ = u16s(&case.ins[1]);
-    let table = &case.ins[0];
-    let (link, train) = (case.args[0], case.args[1] as u16);
-    // SAFETY: each pointer goes with its own length, and the function keeps to them.
-    let word = unsafe { lavtoeu_mark(table.as_ptr(), table.len(), occ.as_mut_ptr(), occ.len(), link, train) };
+    let word = mark_in(&case.ins[0], &mut occ, case.args[0], case.args[1] as u16);
     put_word(case, word);
     case.outs = [u16_bytes(&occ), vec![]];
+}
+
+/// The call alone, on buffers of the caller.
+pub fn mark_in(table: &[u8], occ: &mut [u16], link: u32, train: u16) -> u32 {
+    // SAFETY: each pointer goes with its own length, and the function keeps to them.
+    unsafe { lavtoeu_mark(table.as_ptr(), table.len(), occ.as_mut_ptr(), occ.len(), link, train) }
 }
 
 fn lay_out(case: &mut Case) {

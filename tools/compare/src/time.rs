@@ -2,9 +2,11 @@
 
 use crate::library;
 use oracle::cases::{Case, LAY_OUT, MARK};
-use oracle::layout::read_image;
+use oracle::layout::{read_image, read_table, u16s};
+use oracle::model::Kept;
 use oracle::rng::Rng;
 use oracle::{calls, gen};
+use std::cell::RefCell;
 use std::hint::black_box;
 use std::time::Instant;
 
@@ -47,6 +49,32 @@ fn of_op(rng: &mut Rng, kind: &str, op: u32, count: usize) -> Vec<Case> {
     found
 }
 
+/// The library's mark on its buffers beside update_links_blocked on structs that are kept: nothing is read or copied
+/// for the Rust.
+fn mark_alone(rng: &mut Rng) {
+    let items: Vec<_> = of_op(rng, "mark", MARK, 1000)
+        .into_iter()
+        .map(|c| {
+            let occ = u16s(&c.ins[1]);
+            let kept = Kept::new(&read_table(&c.ins[0]).expect("an accepted table"), &occ);
+            (c, RefCell::new(occ), RefCell::new(kept))
+        })
+        .collect();
+    let ours = best(&items, 200, |(c, occ, _)| {
+        black_box(library::mark_in(black_box(&c.ins[0]), &mut occ.borrow_mut(), c.args[0], c.args[1] as u16));
+    });
+    let theirs = best(&items, 200, |(c, _, kept)| {
+        black_box(&mut *kept.borrow_mut()).mark(black_box(c.args[0]), c.args[1] as u16);
+    });
+    let links: usize = items.iter().map(|(c, ..)| c.ins[1].len() / 2).sum();
+    println!(
+        "mark alone: {} items of {} links on average, library {ours:.3} us, Rust on kept structs {theirs:.3} us, ratio {:.1}",
+        items.len(),
+        links / items.len(),
+        ours / theirs
+    );
+}
+
 pub fn run(seed: u64) {
     let mut rng = Rng::new(seed);
     for (name, least) in [("refusals 6 to 9, any size", 1), ("refusals 6 to 9, E = 512", 512)] {
@@ -69,4 +97,5 @@ pub fn run(seed: u64) {
         });
         print(name, items.len(), ours, theirs);
     }
+    mark_alone(&mut rng);
 }

@@ -187,6 +187,26 @@ pub fn panic_line() -> u32 {
 
 // ---- mark or release
 
+/// What ALTRIOS keeps between two marks.
+pub struct Kept {
+    network: Vec<Link>,
+    links_blocked: Vec<TrainIdx>,
+}
+
+impl Kept {
+    pub fn new(records: &[LinkRecord], occ: &[u16]) -> Kept {
+        let network = records
+            .iter()
+            .map(|x| Link { idx_flip: LinkIdx::new(x.flip), link_idxs_lockout: links(&x.lockouts) })
+            .collect();
+        Kept { network, links_blocked: trains(occ) }
+    }
+
+    pub fn mark(&mut self, link: u32, train: u16) {
+        update_links_blocked(&mut self.links_blocked, &self.network, LinkIdx::new(link), train_idx(train));
+    }
+}
+
 pub fn mark(table: &[u8], occ: &mut [u16], link: u32, train: u16) -> Result<(), Refusal> {
     let records = read_table(table).ok_or(refusal(1))?;
     if occ.len() != records.len() {
@@ -195,13 +215,9 @@ pub fn mark(table: &[u8], occ: &mut [u16], link: u32, train: u16) -> Result<(), 
     if link == 0 || link as usize >= records.len() {
         return Err(refusal(3));
     }
-    let network: Vec<Link> = records
-        .iter()
-        .map(|x| Link { idx_flip: LinkIdx::new(x.flip), link_idxs_lockout: links(&x.lockouts) })
-        .collect();
-    let mut links_blocked = trains(occ);
-    update_links_blocked(&mut links_blocked, &network, LinkIdx::new(link), train_idx(train));
-    for (o, t) in occ.iter_mut().zip(links_blocked) {
+    let mut kept = Kept::new(&records, occ);
+    kept.mark(link, train);
+    for (o, t) in occ.iter_mut().zip(kept.links_blocked) {
         *o = number(t);
     }
     Ok(())
