@@ -71,7 +71,7 @@ fn forever() -> Seconds
     Seconds(floats::real_of(0x7ff0_0000_0000_0000))
 }
 
-pub fn advance(r: Round, h: Here, p: Place) -> Moved
+pub(crate) fn advance(r: Round, h: Here, p: Place) -> Moved
     requires { ⌜ Small p × (h .«idx_join_new» ≤ p .«idx_split» + p .«new_count») ⌝ }
     ensures { λ x. ⌜ ((t : Train) (occ img dt dn : List ℕ) (new : List DispNode) (divs : List DivergeNode) (pool : List TrainIdx) (views : List TrainIdxsView) → effectOf (roundOf t occ img dt dn r) (hereOf h) (searchOf (x .place) new divs pool views) (x .effect) ≡ Moves.advance (hereOf h) (searchOf p new divs pool views)) × Goes r p (x .place) × (x .place .«div_count» ≡ p .«div_count») × (x .place .«pool_count» ≡ p .«pool_count») ⌝ }
 {
@@ -107,7 +107,13 @@ fn saved_free(fixed: usize, save: usize, join: usize) -> usize
     fixed - save + join
 }
 
-pub fn block_empty(r: Round, h: Here, p: Place, begins: &mut [u32], ends: &mut [u32]) -> Moved
+pub(crate) fn block_empty(
+    r: Round,
+    h: Here,
+    p: Place,
+    begins: &mut [u32],
+    ends: &mut [u32],
+) -> Moved
     requires { ⌜ Small p × Sized r × (h .«idx_join_new» ≤ p .«idx_split» + p .«new_count») × (r .«est_count» ≤ length (now begins)) × (r .«est_count» ≤ length (now ends)) ⌝ }
     ensures { λ x. ⌜ ((t : Train) (occ img dt dn : List ℕ) (new : List DispNode) (divs : List DivergeNode) (pool : List TrainIdx) → effectOf (roundOf t occ img dt dn r) (hereOf h) (searchOf (x .place) new divs pool (viewsOf (r .«est_count») (now (begins .exit)) (now (ends .exit)))) (x .effect) ≡ ok (blockEmpty (roundOf t occ img dt dn r) (hereOf h) (searchOf p new divs pool (viewsOf (r .«est_count») (now (begins .entry)) (now (ends .entry)))))) × Goes r p (x .place) × (x .place .«div_count» ≡ p .«div_count») × (x .place .«pool_count» ≡ p .«pool_count») ⌝ }
 {
@@ -158,7 +164,7 @@ fn saved_node(n: DispNode, e: EstIdx) -> DispNode
     }
 }
 
-pub fn push_saved(img: &[u8], r: Round, h: Here, p: Place) -> Moved
+pub(crate) fn push_saved(img: &[u8], r: Round, h: Here, p: Place) -> Moved
     requires { ⌜ Small p × Sized r × (h .«idx_join_new» ≤ p .«idx_split» + p .«new_count») ⌝ }
     ensures { λ x. ⌜ ((t : Train) (occ dt dn : List ℕ) (new : List DispNode) (divs : List DivergeNode) (pool : List TrainIdx) (views : List TrainIdxsView) → effectOf (roundOf t occ (now (img .entry)) dt dn r) (hereOf h) (searchOf (x .place) new divs pool views) (x .effect) ≡ pushSaved (roundOf t occ (now (img .entry)) dt dn r) (hereOf h) (searchOf p new divs pool views)) × Goes r p (x .place) × (x .place .«div_count» ≡ p .«div_count») × (x .place .«pool_count» ≡ p .«pool_count») ⌝ }
 {
@@ -283,7 +289,7 @@ fn push_divs(
     }
 }
 
-pub fn alternate(
+pub(crate) fn alternate(
     r: Round,
     h: Here,
     p: Place,

@@ -197,7 +197,7 @@ fn one_back(r: Round, h: Here, p: Place) -> Moved
     give_up(h, p)
 }
 
-pub fn rewind(
+pub(crate) fn rewind(
     img: &[u8],
     r: Round,
     h: Here,

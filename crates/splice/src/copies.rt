@@ -4,7 +4,7 @@ ghost use Prim.Native.Nat.{_+_, _≤_};
 ghost use lib.ListN.{length, drop};
 ghost use lib.Seq.{paste};
 
-pub fn copy_octets(from: &[u8], a: usize, to: &mut [u8], b: usize, k: usize)
+pub(crate) fn copy_octets(from: &[u8], a: usize, to: &mut [u8], b: usize, k: usize)
     requires { ⌜ (a + k ≤ length (now from)) × (b + k ≤ length (now to)) ⌝ }
     ensures { λ _. ⌜ now (to .exit) ≡ paste (now (to .entry)) b (drop a (now (from .entry))) k ⌝ }
 {
@@ -15,7 +15,7 @@ pub fn copy_octets(from: &[u8], a: usize, to: &mut [u8], b: usize, k: usize)
     }
 }
 
-pub fn copy_entries(from: &[u16], a: usize, to: &mut [u16], b: usize, k: usize)
+pub(crate) fn copy_entries(from: &[u16], a: usize, to: &mut [u16], b: usize, k: usize)
     requires { ⌜ (a + k ≤ length (now from)) × (b + k ≤ length (now to)) ⌝ }
     ensures { λ _. ⌜ now (to .exit) ≡ paste (now (to .entry)) b (drop a (now (from .entry))) k ⌝ }
 {

@@ -60,7 +60,7 @@ fn put_entry(col: &mut [u16], i: usize, x: u16)
 }
 
 // k entries from a on become x.
-pub fn fill_entries(col: &mut [u16], a: usize, k: usize, x: u16)
+pub(crate) fn fill_entries(col: &mut [u16], a: usize, k: usize, x: u16)
     requires { ⌜ a + k ≤ length (now col) ⌝ }
     ensures { λ _. ⌜ now (col .exit) ≡ filled k x a (now (col .entry)) ⌝ }
 {
@@ -98,7 +98,7 @@ fn splice_column(col: &mut [u16], fresh: &mut [u16], c: usize, at: usize, k: usi
 }
 
 // div_nodes.splice(at..k, the c new ones)
-pub fn splice_divs(
+pub(crate) fn splice_divs(
     dt: &mut [u16],
     dn: &mut [u16],
     nt: &mut [u16],
@@ -134,7 +134,7 @@ pub struct Divs {
 }
 
 // update_div_nodes with c new diverge nodes, the sentinel included.
-pub fn update_div_nodes(
+pub(crate) fn update_div_nodes(
     dt: &mut [u16],
     dn: &mut [u16],
     m: usize,

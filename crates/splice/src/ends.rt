@@ -116,7 +116,7 @@ fn move_ends(img: &[u8], n: u32, fresh: &[u8], k: u32, split: u32, low: u32, hig
 }
 
 // The train must be before the join, and is moved where it has passed the split.
-pub fn new_ends(
+pub(crate) fn new_ends(
     img: &[u8],
     n: u32,
     fresh: &[u8],

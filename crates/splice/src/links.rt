@@ -100,7 +100,7 @@ fn exchange_range(flags: &mut [u8], img: &[u8], a: u32, e: u32, x: u8) -> u32
 }
 
 // The links of the nodes from split up to base go, and those of the new path come.
-pub fn exchange_links(img: &[u8], n: u32, split: u32, base: u32, fresh: &[u8], k: u32) -> u32
+pub(crate) fn exchange_links(img: &[u8], n: u32, split: u32, base: u32, fresh: &[u8], k: u32) -> u32
     requires { ⌜ ((i : ℕ) → i < n → Below (nodeAt (now img) i .«link_event»)) × ((i : ℕ) → i < k → Below (nodeAt (now fresh) i .«link_event»)) ⌝ }
     ensures { λ r. ⌜ (answer r tt ≡ exchangeLinks (listed n (nodeAt (now (img .entry)))) (listed k (nodeAt (now (fresh .entry)))) split base) × (r ≡ 0 → split ≤ base) ⌝ }
 {

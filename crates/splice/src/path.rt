@@ -70,7 +70,7 @@ fn put_offset(img: &mut [u8], i: u32, o: f64)
 }
 
 // The offsets of a path's rest, unless they change by almost nothing.
-pub fn update_offsets(img: &mut [u8], n: u32, i: u32, change: Metres) -> u32
+pub(crate) fn update_offsets(img: &mut [u8], n: u32, i: u32, change: Metres) -> u32
     requires { ⌜ nodePlace (estCount (now img)) n ≤ length (now img) ⌝ }
     ensures { λ r. ⌜ (answer r (listed n (nodeAt (now (img .exit)))) ≡ fromOn (λ xs. cond (near change zeroMetres) (ok xs) (shiftOffsets change xs)) i (listed n (nodeAt (now (img .entry))))) × Kept (now (img .exit)) (now (img .entry)) ⌝ }
 {
@@ -81,7 +81,7 @@ pub fn update_offsets(img: &mut [u8], n: u32, i: u32, change: Metres) -> u32
 }
 
 // The new path goes into its buffer.
-pub fn write_new(fresh: &mut [u8], new: [DispNode; 512], k: u32)
+pub(crate) fn write_new(fresh: &mut [u8], new: [DispNode; 512], k: u32)
     requires { ⌜ (k ≤ 512) × (length new ≡ 512) × (nodePlace (estCount (now fresh)) k ≤ length (now fresh)) × ((i : ℕ) → i < k → Sound (getD new i blank)) ⌝ }
     ensures { λ _. ⌜ (listed k (nodeAt (now (fresh .exit))) ≡ take k new) × Kept (now (fresh .exit)) (now (fresh .entry)) ⌝ }
 {
@@ -93,7 +93,7 @@ pub fn write_new(fresh: &mut [u8], new: [DispNode; 512], k: u32)
 }
 
 // disp_path.splice(split..base, the k nodes of the new path): the old path from base on goes behind the new one, and both behind the split.
-pub fn splice_path(img: &mut [u8], fresh: &mut [u8], n: u32, split: u32, base: u32, k: u32)
+pub(crate) fn splice_path(img: &mut [u8], fresh: &mut [u8], n: u32, split: u32, base: u32, k: u32)
     requires { ⌜ (split ≤ base) × (base ≤ n) × (nodePlace (estCount (now img)) n ≤ length (now img)) × (nodePlace (estCount (now img)) (split + k + (n - base)) ≤ length (now img)) × (nodePlace (estCount (now fresh)) (k + (n - base)) ≤ length (now fresh)) ⌝ }
     ensures { λ _. ⌜ (listed (split + k + (n - base)) (nodeAt (now (img .exit))) ≡ take split (listed n (nodeAt (now (img .entry)))) ++ listed k (nodeAt (now (fresh .entry))) ++ drop base (listed n (nodeAt (now (img .entry))))) × Kept (now (img .exit)) (now (img .entry)) ⌝ }
 {
