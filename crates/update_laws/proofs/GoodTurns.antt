@@ -6,16 +6,16 @@ use lib.ListN.{length}
 use Rattle.disp_structs.specs.declared.DivergeNode.{DivergeNode}
 use Rattle.free_path.specs.Base.{ok, Res, no, _>>=_}
 use Rattle.train_update.specs.State.{Round, Search, Turn, goOn, ends, Ended}
-use Rattle.train_update.specs.Look.{Here}
+use Rattle.train_update.specs.Look.{Here, lookHere, storedTrains, occupiedNext}
 use Rattle.train_update.specs.Update.{searchStep, searchFrom}
 use Rattle.train_update.specs.Accepted.{Accepted}
 use Rattle.update_laws.specs.Turns.{Stands, Looks, Turned}
 use Rattle.update_laws.specs.Turns.Looks.{passes, blocks}
 use Rattle.update_laws.specs.Bounds.{Bounds}
 use Rattle.update_laws.specs.Good.{Good}
-use Rattle.update_laws.proofs.Answers.{ok-same, no-ok}
+use Rattle.update_laws.proofs.Answers.{ok-same, no-ok, before-ok}
 use Rattle.update_laws.proofs.Lists.{at-below}
-use Rattle.update_laws.proofs.Turning.{step-ok}
+use Rattle.update_laws.proofs.Turning.{Seen, look-ok, LooksLow, stored-ok, occupied-ok, step-ok}
 use Rattle.update_laws.proofs.Stack.{stack-few, looks-stack, looks-stands, did-stack}
 use Rattle.update_laws.proofs.Open.{looks-stack-open, did-open}
 use Rattle.update_laws.proofs.Views.{looks-views, did-views}
@@ -51,6 +51,23 @@ module _ (links : ℕ) (r : Round) (g : Accepted links (r .train)) where
 
     pub looked-stands : Stands r (w .looked) (w .here)
     looked-stands = looks-stands r (w .here) (w .occupied) (looks-stands r (w .here) (w .stored) (w .stands))
+
+  -- the same of the three steps before the move, whatever the move does
+  module _ (s : Search) (k : Good links r s) (h : Here) (t u : Search) (a : lookHere r s ≡ ok h) (b : storedTrains r h s ≡ ok t) (c : occupiedNext r h t ≡ ok u) where
+    seen : Seen r s h
+    seen = look-ok r s h a
+
+    first-look : LooksLow r h s t
+    first-look = stored-ok r h s (g .divs) (seen .div-in) b
+
+    second-look : Looks r h t u × (u .«div_idx_split» ≡ t .«div_idx_split»)
+    second-look = occupied-ok r h t (before-ok (r .train .«div_nodes») (t .«div_idx_split») (first-look .low-at) .0) c
+
+    pub steps-good : Good links r u
+    steps-good = looks-good h (looks-stands r h (first-look .looks) (seen .stands)) (second-look .0) (looks-good h (seen .stands) (first-look .looks) k)
+
+    pub steps-stand : Stands r u h
+    steps-stand = looks-stands r h (second-look .0) (looks-stands r h (first-look .looks) (seen .stands))
 
   pub turned-good : (s : Search) → Good links r s → {u : Search} → Turned r s (goOn u) → Good links r u
   turned-good s k {u} w =

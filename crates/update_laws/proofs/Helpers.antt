@@ -37,7 +37,7 @@ pub record Moved (links e : ℕ) (xs ys : List DispNode) : Type 0 where
   pub links-same : linksOnPath ys ≡ linksOnPath xs
   pub fit : Each NodeFits xs → Each NodeFits ys
 
-moved-none : (links e : ℕ) (xs : List DispNode) → Each (NodeAccepted links e) xs → Moved links e xs xs
+pub moved-none : (links e : ℕ) (xs : List DispNode) → Each (NodeAccepted links e) xs → Moved links e xs xs
 moved-none links e xs a = record { long = refl; each = a; same = λ i y h. (y, h, refl); links-same = refl; fit = λ f. f }
 
 room-true : (t : Bool) {u : Unit {0}} → room t ≡ ok u → t ≡ true

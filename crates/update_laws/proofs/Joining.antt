@@ -4,13 +4,15 @@ use mathlib.Core.Logic.{_⊎_}
 use mathlib.Core.List.{List, _++_}
 use Prim.Native.Nat.{ℕ, suc, _+_, _-_, _≤_, _<_}
 use native.Mathlib.Omega.{arith}
+use borrow.Author.Tests.{eqb-true}
 use lib.ListN.{length, take, drop, length-append, length-drop}
 use lib.Seq.{length-take-le}
+use Rattle.disp_structs.specs.Values.{sameEst}
 use Rattle.disp_structs.specs.declared.EstIdx.{EstIdx}
 use Rattle.disp_structs.specs.declared.EstTime.{EstTime}
 use Rattle.disp_structs.specs.declared.DispNode.{DispNode}
 use Rattle.disp_structs.specs.declared.DivergeNode.{DivergeNode}
-use Rattle.free_path.specs.Base.{ok, at}
+use Rattle.free_path.specs.Base.{ok, at, walkFrom}
 use Rattle.free_path.specs.LinkOptType.{linksOnPath}
 use Rattle.train_update.specs.State.{Round, Search, ends, Ended}
 use Rattle.train_update.specs.Look.{Here}
@@ -20,9 +22,9 @@ use Rattle.update_laws.specs.Turns.{Stands}
 use Rattle.update_laws.specs.Good.{Good, stack, NewDivGood}
 use Rattle.update_laws.specs.Ended.{DivPoint, EndsGood}
 use Rattle.update_laws.proofs.Answers.{ok-same}
-use Rattle.update_laws.proofs.Lists.{at-below, at-left, at-take, at-drop, at-last, last-at, last-append, each-append, each-take, chain-append, chain-drop}
+use Rattle.update_laws.proofs.Lists.{at-below, at-left, at-take, at-drop, at-last, last-at, last-append, each-append, each-take, each-drop, chain-append, chain-drop, walk-ok}
 use Rattle.update_laws.proofs.Stack.{estOf, chain-few, stack-length, stack-last, next-leads}
-use Rattle.update_laws.proofs.Helpers.{Moved}
+use Rattle.update_laws.proofs.Helpers.{Moved, moved-none}
 use Rattle.update_laws.proofs.DivSplice.{spliced-accepted, spliced-point}
 use Rattle.update_laws.proofs.DivNodes.{DivsUpdated}
 use Rattle.update_laws.proofs.Joins.{joined-to}
@@ -97,6 +99,18 @@ module _ (links : ℕ) (r : Round) (g : Accepted links (r .train)) (s : Search) 
       ends = whole-ends;
       distinct = d;
     }
+
+  -- the path that a join leaves has at most as many nodes as there are est records
+  pub join-few : (b : ℕ) → walkFrom (λ (n : DispNode). sameEst (h .«est_curr» .«idx_next») (n .«est_idx»)) path (r .«idx_split_save») ≡ ok b → s .«idx_split» + length (s .«disp_path_new») + (length path - b) ≤ length est
+  join-few b q =
+      let w = walk-ok (λ (n : DispNode). sameEst (h .«est_curr» .«idx_next») (n .«est_idx»)) path (r .«idx_split_save») q in
+      let e = sym (eqb-true (h .«est_curr» .«idx_next» .0) (estOf (w .0)) (w .2)) in
+      let m = moved-none links (length est) (drop b path) (each-drop (NodeAccepted links (length est)) b path (g .path .each)) in
+      omega (
+        arith,
+        whole-long b (w .0) (w .1) e (drop b path) m,
+        chain-few links est (g .ests) (stack r s ++ drop b path) (whole-steps b (w .0) (w .1) e (drop b path) m) (λ n p. omega (arith, whole-starts b (w .0) (w .1) e (drop b path) m n p, g .ests .some)),
+      )
 
   -- ---- the diverge nodes
   module _ (base : ℕ) (l : base < length path) (d : Divs) (w : DivsUpdated (length path) (r .train .divergeRoom) (s .«div_idx_split») base (h .«idx_join_new») (r .train .«div_nodes») (s .«div_nodes_new») d) where
