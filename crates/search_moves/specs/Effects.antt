@@ -1,6 +1,7 @@
--- What a move of the search answers, as the turn of train_update's definitions, and the bounds that it keeps. Assumes nothing.
+-- What a move and a turn of the search answer, as train_update's definitions have it, and the bounds that a move keeps. Assumes nothing.
 use Prim.Native.Nat.{ℕ, _+_, _≤_}
-use mathlib.Core.Bool.{cond}
+use mathlib.Core.Path.{_≡_}
+use mathlib.Core.Bool.{Bool, true, false, cond}
 use mathlib.Core.List.{List, [], _∷_, _++_}
 use Rattle.link_rules.specs.declared.link_idx.TrainIdx.{TrainIdx}
 use Rattle.disp_structs.specs.declared.DispNode.{DispNode}
@@ -11,22 +12,57 @@ use Rattle.train_update.specs.State as State
 use Rattle.train_update.specs.Look as Look
 use Rattle.train_update.specs.Moves as Moves
 use Rattle.train_update.specs.Join as Joined
+use Rattle.train_update.specs.declared.Move.{Move}
+use Rattle.train_update.specs.declared.Move.the-variants.{Rewind, Alternate, ChangeDiverge, PushSaved, BlockEmpty, Advance, Join}
 use Rattle.search.specs.declared.Round.{Round}
 use Rattle.search.specs.declared.Place.{Place}
 use Rattle.search_moves.specs.declared.Effect.{Effect}
-use Rattle.search_moves.specs.declared.Effect.the-variants.{Refused, Push, Pop, Stay, GiveUp, ChangeDiverge, Join}
+use Rattle.search_moves.specs.declared.Effect.the-variants.{Refused, Push, Pop, Stay, GiveUp}
 
 -- ---- answers
 
--- a refusal, what is done to the new path, the end of the round, or the move that is left to do
-abbrev pub effectOf : State.Round → Look.Here → State.Search → Effect → Res State.Turn
-effectOf r h s (Refused c) = no c
-effectOf r h s (Push n) = ok (State.goOn (State.setNew s (s .«disp_path_new» ++ (n ∷ []))))
-effectOf r h s Pop = ok (State.goOn (State.setNew s (popped (s .«disp_path_new»))))
-effectOf r h s Stay = ok (State.goOn s)
-effectOf r h s GiveUp = ok (State.ends (State.blockedAt (State.withFree (r .train) (r .train .«disp_node_idx_fixed»))))
-effectOf r h s ChangeDiverge = Moves.changeDiverge r h s
-effectOf r h s Join = Joined.join r h s
+-- a refusal, what is done to the new path, or the end of the round
+abbrev pub effectOf : State.Round → State.Search → Effect → Res State.Turn
+effectOf r s (Refused c) = no c
+effectOf r s (Push n) = ok (State.goOn (State.setNew s (s .«disp_path_new» ++ (n ∷ []))))
+effectOf r s Pop = ok (State.goOn (State.setNew s (popped (s .«disp_path_new»))))
+effectOf r s Stay = ok (State.goOn s)
+effectOf r s GiveUp = ok (State.ends (State.blockedAt (State.withFree (r .train) (r .train .«disp_node_idx_fixed»))))
+
+-- a turn that goes on: Push, Pop and Stay
+abbrev pub onward : Effect → Bool
+onward (Refused c) = false
+onward (Push n) = true
+onward Pop = true
+onward Stay = true
+onward GiveUp = false
+
+-- the moves that a turn leaves to do
+abbrev pub leaves : Move → Bool
+leaves Rewind = false
+leaves Alternate = false
+leaves ChangeDiverge = true
+leaves PushSaved = false
+leaves BlockEmpty = false
+leaves Advance = false
+leaves Join = true
+
+-- what a turn answers: the move that it leaves to do, else what its effect says
+abbrev pub turnOf : Move → Effect → State.Round → Look.Here → State.Search → Res State.Turn
+turnOf Rewind e r h s = effectOf r s e
+turnOf Alternate e r h s = effectOf r s e
+turnOf ChangeDiverge e r h s = Moves.changeDiverge r h s
+turnOf PushSaved e r h s = effectOf r s e
+turnOf BlockEmpty e r h s = effectOf r s e
+turnOf Advance e r h s = effectOf r s e
+turnOf Join e r h s = Joined.join r h s
+
+-- a turn up to its move: where it stands, and the search that has looked
+pub record Looked (r : State.Round) (s : State.Search) (h : Look.Here) (u : State.Search) : Type 0 where
+  pub between : State.Search
+  pub here : Look.lookHere r s ≡ ok h
+  pub stored : Look.storedTrains r h s ≡ ok between
+  pub next : Look.occupiedNext r h between ≡ ok u
 
 -- a node is pushed on the new path, and the search goes on
 abbrev pub pushTurn : State.Search → DispNode → Res State.Turn

@@ -32,7 +32,6 @@ ghost use Rattle.free_path.specs.LinkOptType.{least};
 ghost use Rattle.free_path.specs.Columns.{answer, trains};
 ghost use Rattle.train_update.specs.State.{diverging};
 ghost use Rattle.train_update.specs.State as State;
-ghost use Rattle.train_update.specs.Look as Look;
 ghost use Rattle.train_update.specs.Moves as Moves;
 ghost use Rattle.train_update.specs.Moves.{notFake, alternateFree, alternateNode, savedNode, pushSaved, blockEmpty};
 ghost use Rattle.search.specs.Read.{divsOf, trainsFrom, viewsOf, pathOf, roundOf, hereOf, searchOf, searchIn, arrays, Small};
@@ -40,7 +39,7 @@ ghost use Rattle.search_moves.specs.Effects.{Sized, Goes, effectOf, push
 
 // A node goes to the new path, its offset in reach.
 fn pushed(n: DispNode, p: Place) -> Moved
-    ensures { λ x. ⌜ (x .place ≡ p) × ((r : State.Round) (h : Look.Here) (s : State.Search) → effectOf r h s (x .effect) ≡ pushTurn s n) ⌝ }
+    ensures { λ x. ⌜ (x .place ≡ p) × ((r : State.Round) (s : State.Search) → effectOf r s (x .effect) ≡ pushTurn s n) ⌝ }
 {
     if !floats::in_reach(n.offset.0) {
         return Moved {
@@ -73,7 +72,7 @@ fn forever() -> Seconds
 
 pub(crate) fn advance(r: Round, h: Here, p: Place) -> Moved
     requires { ⌜ Small p × (h .«idx_join_new» ≤ p .«idx_split» + p .«new_count») ⌝ }
-    ensures { λ x. ⌜ ((t : Train) (occ img dt dn : List ℕ) (new : List DispNode) (divs : List DivergeNode) (pool : List TrainIdx) (views : List TrainIdxsView) → effectOf (roundOf t occ img dt dn r) (hereOf h) (searchOf (x .place) new divs pool views) (x .effect) ≡ Moves.advance (hereOf h) (searchOf p new divs pool views)) × Goes r p (x .place) × (x .place .«div_count» ≡ p .«div_count») × (x .place .«pool_count» ≡ p .«pool_count») ⌝ }
+    ensures { λ x. ⌜ ((t : Train) (occ img dt dn : List ℕ) (new : List DispNode) (divs : List DivergeNode) (pool : List TrainIdx) (views : List TrainIdxsView) → effectOf (roundOf t occ img dt dn r) (searchOf (x .place) new divs pool views) (x .effect) ≡ Moves.advance (hereOf h) (searchOf p new divs pool views)) × Goes r p (x .place) × (x .place .«div_count» ≡ p .«div_count») × (x .place .«pool_count» ≡ p .«pool_count») ⌝ }
 {
     let est = h.est_curr;
     let ahead = h.est_next;
@@ -115,7 +114,7 @@ pub(crate) fn block_empty(
     ends: &mut [u32],
 ) -> Moved
     requires { ⌜ Small p × Sized r × (h .«idx_join_new» ≤ p .«idx_split» + p .«new_count») × (r .«est_count» ≤ length (now begins)) × (r .«est_count» ≤ length (now ends)) ⌝ }
-    ensures { λ x. ⌜ ((t : Train) (occ img dt dn : List ℕ) (new : List DispNode) (divs : List DivergeNode) (pool : List TrainIdx) → effectOf (roundOf t occ img dt dn r) (hereOf h) (searchOf (x .place) new divs pool (viewsOf (r .«est_count») (now (begins .exit)) (now (ends .exit)))) (x .effect) ≡ ok (blockEmpty (roundOf t occ img dt dn r) (hereOf h) (searchOf p new divs pool (viewsOf (r .«est_count») (now (begins .entry)) (now (ends .entry)))))) × Goes r p (x .place) × (x .place .«div_count» ≡ p .«div_count») × (x .place .«pool_count» ≡ p .«pool_count») ⌝ }
+    ensures { λ x. ⌜ ((t : Train) (occ img dt dn : List ℕ) (new : List DispNode) (divs : List DivergeNode) (pool : List TrainIdx) → effectOf (roundOf t occ img dt dn r) (searchOf (x .place) new divs pool (viewsOf (r .«est_count») (now (begins .exit)) (now (ends .exit)))) (x .effect) ≡ ok (blockEmpty (roundOf t occ img dt dn r) (hereOf h) (searchOf p new divs pool (viewsOf (r .«est_count») (now (begins .entry)) (now (ends .entry)))))) × Goes r p (x .place) × (x .place .«div_count» ≡ p .«div_count») × (x .place .«pool_count» ≡ p .«pool_count») ⌝ }
 {
     let est = h.est_curr;
     let v = TrainIdxsView {
@@ -166,7 +165,7 @@ fn saved_node(n: DispNode, e: EstIdx) -> DispNode
 
 pub(crate) fn push_saved(img: &[u8], r: Round, h: Here, p: Place) -> Moved
     requires { ⌜ Small p × Sized r × (h .«idx_join_new» ≤ p .«idx_split» + p .«new_count») ⌝ }
-    ensures { λ x. ⌜ ((t : Train) (occ dt dn : List ℕ) (new : List DispNode) (divs : List DivergeNode) (pool : List TrainIdx) (views : List TrainIdxsView) → effectOf (roundOf t occ (now (img .entry)) dt dn r) (hereOf h) (searchOf (x .place) new divs pool views) (x .effect) ≡ pushSaved (roundOf t occ (now (img .entry)) dt dn r) (hereOf h) (searchOf p new divs pool views)) × Goes r p (x .place) × (x .place .«div_count» ≡ p .«div_count») × (x .place .«pool_count» ≡ p .«pool_count») ⌝ }
+    ensures { λ x. ⌜ ((t : Train) (occ dt dn : List ℕ) (new : List DispNode) (divs : List DivergeNode) (pool : List TrainIdx) (views : List TrainIdxsView) → effectOf (roundOf t occ (now (img .entry)) dt dn r) (searchOf (x .place) new divs pool views) (x .effect) ≡ pushSaved (roundOf t occ (now (img .entry)) dt dn r) (hereOf h) (searchOf p new divs pool views)) × Goes r p (x .place) × (x .place .«div_count» ≡ p .«div_count») × (x .place .«pool_count» ≡ p .«pool_count») ⌝ }
 {
     if r.path_count <= p.idx_save {
         return Moved {
@@ -300,7 +299,7 @@ pub(crate) fn alternate(
     nn: &mut [u16],
 ) -> Moved
     requires { ⌜ Small p × Sized r × (h .«idx_join_new» ≤ p .«idx_split» + p .«new_count») × (length (now pool) ≡ 2048) × (length (now nt) ≡ 1024) × (length (now nn) ≡ 1024) ⌝ }
-    ensures { λ x. ⌜ ((t : Train) (occ img dt dn : List ℕ) (new : List DispNode) → effectOf (roundOf t occ img dt dn r) (hereOf h) (searchIn (r .«est_count») (x .place) new (divsOf (x .place .«div_count») (now (nt .exit)) (now (nn .exit))) (arrays (now (pool .entry)) (now (begins .entry)) (now (ends .entry)))) (x .effect) ≡ Moves.alternate (roundOf t occ img dt dn r) (hereOf h) (searchIn (r .«est_count») p new (divsOf (p .«div_count») (now (nt .entry)) (now (nn .entry))) (arrays (now (pool .entry)) (now (begins .entry)) (now (ends .entry))))) × Goes r p (x .place) ⌝ }
+    ensures { λ x. ⌜ ((t : Train) (occ img dt dn : List ℕ) (new : List DispNode) → effectOf (roundOf t occ img dt dn r) (searchIn (r .«est_count») (x .place) new (divsOf (x .place .«div_count») (now (nt .exit)) (now (nn .exit))) (arrays (now (pool .entry)) (now (begins .entry)) (now (ends .entry)))) (x .effect) ≡ Moves.alternate (roundOf t occ img dt dn r) (hereOf h) (searchIn (r .«est_count») p new (divsOf (p .«div_count») (now (nt .entry)) (now (nn .entry))) (arrays (now (pool .entry)) (now (begins .entry)) (now (ends .entry))))) × Goes r p (x .place) ⌝ }
 {
     let est = h.est_curr;
     let v = views::view_at(begins, ends, r.est_count, est.idx_next);

@@ -152,7 +152,7 @@ fn left_at(d: usize, join: usize, k: usize) -> Index
 // ---- one dispatch node back
 
 fn give_up(h: Here, p: Place) -> Moved
-    ensures { λ x. ⌜ (x .place ≡ p) × ((t : Train) (occ img dt dn : List ℕ) (r : Round) (new : List DispNode) (divs : List DivergeNode) (pool : List TrainIdx) (views : List TrainIdxsView) → length divs ≡ p .«div_count» → effectOf (roundOf t occ img dt dn r) (hereOf h) (searchOf p new divs pool views) (x .effect) ≡ giveUp (roundOf t occ img dt dn r) (hereOf h) (searchOf p new divs pool views)) ⌝ }
+    ensures { λ x. ⌜ (x .place ≡ p) × ((t : Train) (occ img dt dn : List ℕ) (r : Round) (new : List DispNode) (divs : List DivergeNode) (pool : List TrainIdx) (views : List TrainIdxsView) → length divs ≡ p .«div_count» → effectOf (roundOf t occ img dt dn r) (searchOf p new divs pool views) (x .effect) ≡ giveUp (roundOf t occ img dt dn r) (hereOf h) (searchOf p new divs pool views)) ⌝ }
 {
     if p.div_count != 1 {
         return Moved {
@@ -174,7 +174,7 @@ fn give_up(h: Here, p: Place) -> Moved
 
 fn one_back(r: Round, h: Here, p: Place) -> Moved
     requires { ⌜ Small p ⌝ }
-    ensures { λ x. ⌜ ((t : Train) (occ img dt dn : List ℕ) (new : List DispNode) (divs : List DivergeNode) (pool : List TrainIdx) (views : List TrainIdxsView) → length new ≡ p .«new_count» → length divs ≡ p .«div_count» → effectOf (roundOf t occ img dt dn r) (hereOf h) (searchOf (x .place) new divs pool views) (x .effect) ≡ oneBack (roundOf t occ img dt dn r) (hereOf h) (searchOf p new divs pool views)) × Goes r p (x .place) × (x .place .«div_count» ≡ p .«div_count») × (x .place .«pool_count» ≡ p .«pool_count») ⌝ }
+    ensures { λ x. ⌜ ((t : Train) (occ img dt dn : List ℕ) (new : List DispNode) (divs : List DivergeNode) (pool : List TrainIdx) (views : List TrainIdxsView) → length new ≡ p .«new_count» → length divs ≡ p .«div_count» → effectOf (roundOf t occ img dt dn r) (searchOf (x .place) new divs pool views) (x .effect) ≡ oneBack (roundOf t occ img dt dn r) (hereOf h) (searchOf p new divs pool views)) × Goes r p (x .place) × (x .place .«div_count» ≡ p .«div_count») × (x .place .«pool_count» ≡ p .«pool_count») ⌝ }
 {
     if p.new_count != 0 {
         return Moved {
@@ -208,7 +208,7 @@ pub(crate) fn rewind(
     nn: &[u16],
 ) -> Moved
     requires { ⌜ Small p × Sized r × Lent (r .«est_count») (arrays (now pool) (now begins) (now ends)) × (h .«idx_join_new» ≤ p .«idx_split» + p .«new_count») ⌝ }
-    ensures { λ x. ⌜ ((t : Train) (occ dt dn nt : List ℕ) (new : List DispNode) → length new ≡ p .«new_count» → effectOf (roundOf t occ (now (img .entry)) dt dn r) (hereOf h) (searchIn (r .«est_count») (x .place) new (divsOf (x .place .«div_count») nt (now (nn .entry))) (arrays (now (pool .exit)) (now (begins .exit)) (now (ends .exit)))) (x .effect) ≡ Moves.rewind (roundOf t occ (now (img .entry)) dt dn r) (hereOf h) (searchIn (r .«est_count») p new (divsOf (p .«div_count») nt (now (nn .entry))) (arrays (now (pool .entry)) (now (begins .entry)) (now (ends .entry))))) × Goes r p (x .place) ⌝ }
+    ensures { λ x. ⌜ ((t : Train) (occ dt dn nt : List ℕ) (new : List DispNode) → length new ≡ p .«new_count» → effectOf (roundOf t occ (now (img .entry)) dt dn r) (searchIn (r .«est_count») (x .place) new (divsOf (x .place .«div_count») nt (now (nn .entry))) (arrays (now (pool .exit)) (now (begins .exit)) (now (ends .exit)))) (x .effect) ≡ Moves.rewind (roundOf t occ (now (img .entry)) dt dn r) (hereOf h) (searchIn (r .«est_count») p new (divsOf (p .«div_count») nt (now (nn .entry))) (arrays (now (pool .entry)) (now (begins .entry)) (now (ends .entry))))) × Goes r p (x .place) ⌝ }
 {
     let save = save_of(img, r, h, p);
     if save.code != 0 {

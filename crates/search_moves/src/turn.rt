@@ -1,4 +1,4 @@
-// One turn of the search of update_free_path (free_path.rs 345-575). ChangeDiverge and Join are left to do.
+// One turn of the search of update_free_path (free_path.rs 345-575), up to ChangeDiverge and Join.
 use crate::Effect;
 use crate::Moved;
 use crate::moves;
@@ -10,6 +10,7 @@ use search::look;
 use search::look::Here;
 use train_update::Move;
 ghost use mathlib.Core.Path.{_≡_};
+ghost use mathlib.Core.Bool.{true, false};
 ghost use mathlib.Core.List.{List};
 ghost use Prim.Native.Nat.{ℕ, _+_, _≤_};
 ghost use lib.ListN.{length};
@@ -19,24 +20,33 @@ ghost use Rattle.free_path.specs.Base.{ok};
 ghost use Rattle.train_update.specs.Look.{current};
 ghost use Rattle.train_update.specs.Update.{doMove, searchStep};
 ghost use Rattle.search.specs.Read.{divsOf, pathOf, roundOf, hereOf, searchIn, arrays, Small, Lent, Marked};
-ghost use Rattle.search_moves.specs.Effects.{Sized, Goes, effectOf};
+ghost use Rattle.search_moves.specs.Effects.{Sized, Goes, Looked, effectOf, leaves, turnOf};
 
-// What the turn does, where the search stood, and where it stands.
+// The move, its effect (Stay where the caller has to do the move), where the search stood, and where it stands. A turn that is refused before its
+// move has Advance and the refusal.
 pub struct Turned {
+    pub go: Move,
     pub effect: Effect,
     pub here: Here,
     pub place: Place,
 }
 
-fn left(effect: Effect, p: Place) -> Moved
-    ensures { λ x. ⌜ (x .effect ≡ effect) × (x .place ≡ p) ⌝ }
+// ChangeDiverge and Join are left to the caller.
+fn is_left(go: Move) -> bool
+    ensures { λ b. ⌜ b ≡ leaves go ⌝ }
 {
-    Moved {
-        effect: effect,
-        place: p,
+    match go {
+        Move::Rewind => false,
+        Move::Alternate => false,
+        Move::ChangeDiverge => true,
+        Move::PushSaved => false,
+        Move::BlockEmpty => false,
+        Move::Advance => false,
+        Move::Join => true,
     }
 }
 
+// The moves that are not left to the caller; the arms of the other two are not reached.
 fn do_move(
     go: Move,
     img: &[u8],
@@ -49,8 +59,8 @@ fn do_move(
     nt: &mut [u16],
     nn: &mut [u16],
 ) -> Moved
-    requires { ⌜ Small p × Sized r × Lent (r .«est_count») (arrays (now pool) (now begins) (now ends)) × (h .«idx_join_new» ≤ p .«idx_split» + p .«new_count») × (length (now nt) ≡ 1024) × (length (now nn) ≡ 1024) ⌝ }
-    ensures { λ x. ⌜ ((t : Train) (occ dt dn : List ℕ) (new : List DispNode) → length new ≡ p .«new_count» → effectOf (roundOf t occ (now (img .entry)) dt dn r) (hereOf h) (searchIn (r .«est_count») (x .place) new (divsOf (x .place .«div_count») (now (nt .exit)) (now (nn .exit))) (arrays (now (pool .exit)) (now (begins .exit)) (now (ends .exit)))) (x .effect) ≡ doMove go (roundOf t occ (now (img .entry)) dt dn r) (hereOf h) (searchIn (r .«est_count») p new (divsOf (p .«div_count») (now (nt .entry)) (now (nn .entry))) (arrays (now (pool .entry)) (now (begins .entry)) (now (ends .entry))))) × Goes r p (x .place) ⌝ }
+    requires { ⌜ (leaves go ≡ false) × Small p × Sized r × Lent (r .«est_count») (arrays (now pool) (now begins) (now ends)) × (h .«idx_join_new» ≤ p .«idx_split» + p .«new_count») × (length (now nt) ≡ 1024) × (length (now nn) ≡ 1024) ⌝ }
+    ensures { λ x. ⌜ ((t : Train) (occ dt dn : List ℕ) (new : List DispNode) → length new ≡ p .«new_count» → effectOf (roundOf t occ (now (img .entry)) dt dn r) (searchIn (r .«est_count») (x .place) new (divsOf (x .place .«div_count») (now (nt .exit)) (now (nn .exit))) (arrays (now (pool .exit)) (now (begins .exit)) (now (ends .exit)))) (x .effect) ≡ doMove go (roundOf t occ (now (img .entry)) dt dn r) (hereOf h) (searchIn (r .«est_count») p new (divsOf (p .«div_count») (now (nt .entry)) (now (nn .entry))) (arrays (now (pool .entry)) (now (begins .entry)) (now (ends .entry))))) × Goes r p (x .place) ⌝ }
 {
     match go {
         Move::Rewind => {
@@ -60,7 +70,10 @@ fn do_move(
             return moves::alternate(r, h, p, pool, begins, ends, nt, nn);
         }
         Move::ChangeDiverge => {
-            return left(Effect::ChangeDiverge, p);
+            return Moved {
+                effect: Effect::Refused(13),
+                place: p,
+            };
         }
         Move::PushSaved => {
             return moves::push_saved(img, r, h, p);
@@ -72,15 +85,19 @@ fn do_move(
             return moves::advance(r, h, p);
         }
         Move::Join => {
-            return left(Effect::Join, p);
+            return Moved {
+                effect: Effect::Refused(13),
+                place: p,
+            };
         }
     }
 }
 
 fn stopped(code: u32, h: Here, p: Place) -> Turned
-    ensures { λ x. ⌜ x ≡ record { effect = Effect.Refused code; here = h; place = p } ⌝ }
+    ensures { λ x. ⌜ x ≡ record { go = Move.Advance; effect = Effect.Refused code; here = h; place = p } ⌝ }
 {
     Turned {
+        go: Move::Advance,
         effect: Effect::Refused(code),
         here: h,
         place: p,
@@ -104,7 +121,7 @@ pub fn turn(
     nn: &mut [u16],
 ) -> Turned
     requires { ⌜ Small p × Sized r × Lent (r .«est_count») (arrays (now pool) (now begins) (now ends)) × (length (now nt) ≡ 1024) × (length (now nn) ≡ 1024) × Marked (now on) (pathOf (now img) (r .«path_count»)) ⌝ }
-    ensures { λ x. ⌜ ((t : Train) (new : List DispNode) → length new ≡ p .«new_count» → current (pathOf (now (img .entry)) (r .«path_count»)) new (p .«idx_split») ≡ ok curr → effectOf (roundOf t (now (occ .entry)) (now (img .entry)) (now (dt .entry)) (now (dn .entry)) r) (hereOf (x .here)) (searchIn (r .«est_count») (x .place) new (divsOf (x .place .«div_count») (now (nt .exit)) (now (nn .exit))) (arrays (now (pool .exit)) (now (begins .exit)) (now (ends .exit)))) (x .effect) ≡ searchStep (roundOf t (now (occ .entry)) (now (img .entry)) (now (dt .entry)) (now (dn .entry)) r) (searchIn (r .«est_count») p new (divsOf (p .«div_count») (now (nt .entry)) (now (nn .entry))) (arrays (now (pool .entry)) (now (begins .entry)) (now (ends .entry))))) × Goes r p (x .place) ⌝ }
+    ensures { λ x. ⌜ ((t : Train) (new : List DispNode) → length new ≡ p .«new_count» → current (pathOf (now (img .entry)) (r .«path_count»)) new (p .«idx_split») ≡ ok curr → (turnOf (x .go) (x .effect) (roundOf t (now (occ .entry)) (now (img .entry)) (now (dt .entry)) (now (dn .entry)) r) (hereOf (x .here)) (searchIn (r .«est_count») (x .place) new (divsOf (x .place .«div_count») (now (nt .exit)) (now (nn .exit))) (arrays (now (pool .exit)) (now (begins .exit)) (now (ends .exit)))) ≡ searchStep (roundOf t (now (occ .entry)) (now (img .entry)) (now (dt .entry)) (now (dn .entry)) r) (searchIn (r .«est_count») p new (divsOf (p .«div_count») (now (nt .entry)) (now (nn .entry))) (arrays (now (pool .entry)) (now (begins .entry)) (now (ends .entry))))) × (leaves (x .go) ≡ true → Looked (roundOf t (now (occ .entry)) (now (img .entry)) (now (dt .entry)) (now (dn .entry)) r) (searchIn (r .«est_count») p new (divsOf (p .«div_count») (now (nt .entry)) (now (nn .entry))) (arrays (now (pool .entry)) (now (begins .entry)) (now (ends .entry)))) (hereOf (x .here)) (searchIn (r .«est_count») (x .place) new (divsOf (x .place .«div_count») (now (nt .exit)) (now (nn .exit))) (arrays (now (pool .exit)) (now (begins .exit)) (now (ends .exit)))))) × Goes r p (x .place) ⌝ }
 {
     let h = look::look_here(img, r, p, curr, ends, dn);
     if h.code != 0 {
@@ -125,10 +142,19 @@ pub fn turn(
         return stopped(m.code, h, p);
     }
     let go = m.go;
+    if is_left(go) {
+        return Turned {
+            go: go,
+            effect: Effect::Stay,
+            here: h,
+            place: q,
+        };
+    }
     let x = do_move(go, img, r, h, q, pool, begins, ends, nt, nn);
     let effect = x.effect;
     let place = x.place;
     Turned {
+        go: go,
         effect: effect,
         here: h,
         place: place,

@@ -33,7 +33,7 @@ returns c =
     let l = (c .before .least-of) in
     let f = (c .before .before .forever) in
     let e = x .ensures .0 in
-    ((λ t occ img dt dn new divs pool views. rw e (x .ensures .1 (roundOf t occ img dt dn (a .r)) (hereOf (a .h)) (State.setFree (searchOf (a .p) new divs pool views) (l .result)) ∙ advance-is (hereOf (a .h)) (searchOf (a .p) new divs pool views) (f .result) (f .ensures) (l .result) (l .ensures .0))), rw e (record { split = omega arith; divSplit = s .0 .divSplit; save = s .0 .save; divs = s .0 .divs; pool = s .0 .pool; free = λ b u v. omega (arith, l .ensures .1, u, v) }), rw e, rw e)
+    ((λ t occ img dt dn new divs pool views. rw e (x .ensures .1 (roundOf t occ img dt dn (a .r)) (State.setFree (searchOf (a .p) new divs pool views) (l .result)) ∙ advance-is (hereOf (a .h)) (searchOf (a .p) new divs pool views) (f .result) (f .ensures) (l .result) (l .ensures .0))), rw e (record { split = omega arith; divSplit = s .0 .divSplit; save = s .0 .save; divs = s .0 .divs; pool = s .0 .pool; free = λ b u v. omega (arith, l .ensures .1, u, v) }), rw e, rw e)
 
 pub advance-spec : {M : Type 1} → statement M
 advance-spec = tie.close (tie.spec forever-requires least-of-requires pushed-requires returns)

@@ -73,7 +73,7 @@ returns-2 c =
     let n = (c .before .alternate-node) in
     let x = (c .pushed) in
     let e = x .ensures .0 in
-    ((λ t occ img dt dn new. rw e (x .ensures .1 (roundOf t occ img dt dn (a .r)) (hereOf (a .h)) (State.setDivsNew (State.setFree (searchIn (a .r .«est_count») (a .p) new (divsOf (a .p .«div_count») (now (a .nt)) (now (a .nn))) (arrays (now (a .pool)) (now (a .begins)) (now (a .ends)))) (f .result)) (divsOf (d .result .len) (d .last .1 .1 .1 .1 .1 .0) (d .last .1 .1 .1 .1 .1 .1 .0))) ∙ L.alternate-go (roundOf t occ img dt dn (a .r)) (hereOf (a .h)) (searchIn (a .r .«est_count») (a .p) new (divsOf (a .p .«div_count») (now (a .nt)) (now (a .nn))) (arrays (now (a .pool)) (now (a .begins)) (now (a .ends)))) (d .result .code) (divsOf (d .result .len) (d .last .1 .1 .1 .1 .1 .0) (d .last .1 .1 .1 .1 .1 .1 .0)) (d .ensures .0 ∙ ap (λ (v : TrainIdxsView). deposit (take (a .p .«pool_count») (trains (now (a .pool)))) v (a .r .«diverge_room») (divsOf (a .p .«div_count») (now (a .nt)) (now (a .nn))) (a .h .«idx_join_new»)) (c .before .before .before .before .before .before .before .before .before .before .before .before .before .view-at .ensures)) (c .before .before .before .before .if1 .left) (f .result) (f .ensures .0) (n .result) (n .ensures))), rw e (record { split = omega arith; divSplit = s .0 .divSplit; save = s .0 .save; divs = d .ensures .1; pool = s .0 .pool; free = λ b u v. omega (arith, f .ensures .1, u) }))
+    ((λ t occ img dt dn new. rw e (x .ensures .1 (roundOf t occ img dt dn (a .r)) (State.setDivsNew (State.setFree (searchIn (a .r .«est_count») (a .p) new (divsOf (a .p .«div_count») (now (a .nt)) (now (a .nn))) (arrays (now (a .pool)) (now (a .begins)) (now (a .ends)))) (f .result)) (divsOf (d .result .len) (d .last .1 .1 .1 .1 .1 .0) (d .last .1 .1 .1 .1 .1 .1 .0))) ∙ L.alternate-go (roundOf t occ img dt dn (a .r)) (hereOf (a .h)) (searchIn (a .r .«est_count») (a .p) new (divsOf (a .p .«div_count») (now (a .nt)) (now (a .nn))) (arrays (now (a .pool)) (now (a .begins)) (now (a .ends)))) (d .result .code) (divsOf (d .result .len) (d .last .1 .1 .1 .1 .1 .0) (d .last .1 .1 .1 .1 .1 .1 .0)) (d .ensures .0 ∙ ap (λ (v : TrainIdxsView). deposit (take (a .p .«pool_count») (trains (now (a .pool)))) v (a .r .«diverge_room») (divsOf (a .p .«div_count») (now (a .nt)) (now (a .nn))) (a .h .«idx_join_new»)) (c .before .before .before .before .before .before .before .before .before .before .before .before .before .view-at .ensures)) (c .before .before .before .before .if1 .left) (f .result) (f .ensures .0) (n .result) (n .ensures))), rw e (record { split = omega arith; divSplit = s .0 .divSplit; save = s .0 .save; divs = d .ensures .1; pool = s .0 .pool; free = λ b u v. omega (arith, f .ensures .1, u) }))
 
 pub alternate-spec : {M : Type 1} → statement M
 alternate-spec =

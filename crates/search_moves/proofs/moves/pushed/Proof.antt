@@ -16,13 +16,13 @@ in-reach-requires c κs = search needs
 returns : tie.Need-returns
 returns c =
     let a = (c .before .before .args) in
-    (refl, λ r h s. push-far s (a .n) (sym (c .before .in-reach .ensures) ∙ not-true _ (c .if1 .taken)))
+    (refl, λ r s. push-far s (a .n) (sym (c .before .in-reach .ensures) ∙ not-true _ (c .if1 .taken)))
 
 -- src/moves.rt:46:1
 returns-2 : tie.Need-returns-2
 returns-2 c =
     let a = (c .before .before .args) in
-    (refl, λ r h s. push-near s (a .n) (sym (c .before .in-reach .ensures) ∙ not-false _ (c .if1 .left)))
+    (refl, λ r s. push-near s (a .n) (sym (c .before .in-reach .ensures) ∙ not-false _ (c .if1 .left)))
 
 pub pushed-spec : {M : Type 1} → statement M
 pushed-spec = tie.close (tie.spec in-reach-requires returns returns-2)

@@ -1,9 +1,10 @@
 use denote.Ref.{now}
-use mathlib.Core.Path.{_≡_, refl, sym, ap, _∙_}
-use native.Mathlib.Omega.{arith}
+use mathlib.Core.Path.{ap}
 use lib.ListN.{take}
+use Rattle.est_times.proofs.Counting.{clash}
 use Rattle.free_path.specs.Columns.{trains}
 use Rattle.search.specs.Read.{divsOf, viewsOf}
+use Rattle.search_moves.specs.Effects.{leaves}
 use borrow.Author.Needs.{needs}
 use Rattle.search_moves.proofs.turn.do_move.Statement.{statement}
 use Rattle.search_moves.proofs.turn.do_move.Tie as tie
@@ -14,158 +15,141 @@ use Rattle.search_moves.proofs.moves.alternate.Reads as alternate-reads
 use Rattle.search_moves.proofs.moves.block_empty.Reads as block-empty-reads
 use Rattle.search_moves.proofs.moves.push_saved.Reads as push-saved-reads
 use Rattle.search_moves.proofs.rewind.rewind.Reads as rewind-reads
-use Rattle.search_moves.proofs.turn.left.Reads as left-reads
 
--- src/turn.rt:57:49
+-- src/turn.rt:67:49
 enum-told : tie.Need-enum-told
 enum-told c = search needs
 
--- src/turn.rt:57:13
+-- src/turn.rt:67:13
 rewind-requires : tie.Need-rewind-requires
 rewind-requires c κs = search needs
 
--- src/turn.rt:57:13
+-- src/turn.rt:67:13
 same-length : tie.Need-same-length
 same-length c = search needs
 
--- src/turn.rt:57:13
+-- src/turn.rt:67:13
 same-length-2 : tie.Need-same-length-2
 same-length-2 c = search needs
 
--- src/turn.rt:57:13
+-- src/turn.rt:67:13
 same-length-3 : tie.Need-same-length-3
 same-length-3 c = search needs
 
--- src/turn.rt:57:13
+-- src/turn.rt:67:13
 same-length-4 : tie.Need-same-length-4
 same-length-4 c = search needs
 
--- src/turn.rt:57:13
+-- src/turn.rt:67:13
 returns : tie.Need-returns
 returns c =
     let a = (c .before .before .before .before .before .before .before .before .before .before .before .before .before .before .before .before .before .before .before .args) in
     let x = (c .before .before .before .before .before .before .rewind) in
     ((λ t occ dt dn new l. rw (c .before .before .before .before .before .before .before .before .before .before .before .enum-told .given .1) (x .ensures .0 t occ dt dn (now (a .nt)) new l)), x .ensures .1)
 
--- src/turn.rt:60:46
+-- src/turn.rt:70:46
 enum-told-2 : tie.Need-enum-told-2
 enum-told-2 c = search needs
 
--- src/turn.rt:60:13
+-- src/turn.rt:70:13
 alternate-requires : tie.Need-alternate-requires
 alternate-requires c κs = search needs
 
--- src/turn.rt:60:13
+-- src/turn.rt:70:13
 same-length-5 : tie.Need-same-length-5
 same-length-5 c = search needs
 
--- src/turn.rt:60:13
+-- src/turn.rt:70:13
 same-length-6 : tie.Need-same-length-6
 same-length-6 c = search needs
 
--- src/turn.rt:60:13
+-- src/turn.rt:70:13
 same-length-7 : tie.Need-same-length-7
 same-length-7 c = search needs
 
--- src/turn.rt:60:13
+-- src/turn.rt:70:13
 same-length-8 : tie.Need-same-length-8
 same-length-8 c = search needs
 
--- src/turn.rt:60:13
+-- src/turn.rt:70:13
 same-length-9 : tie.Need-same-length-9
 same-length-9 c = search needs
 
--- src/turn.rt:60:13
+-- src/turn.rt:70:13
 returns-2 : tie.Need-returns-2
 returns-2 c =
     let a = (c .before .before .before .before .before .before .before .before .before .before .before .before .before .before .before .before .before .before .args) in
     let x = (c .before .before .before .before .alternate) in
     ((λ t occ dt dn new l. rw (c .before .before .before .before .before .before .before .before .before .before .enum-told2 .given .1) (x .ensures .0 t occ (now (a .img)) dt dn new)), x .ensures .1)
 
--- src/turn.rt:63:25
+-- src/turn.rt:74:25
 enum-told-3 : tie.Need-enum-told-3
 enum-told-3 c = search needs
 
--- src/turn.rt:63:13
-left-requires : tie.Need-left-requires
-left-requires c κs = search needs
-
--- src/turn.rt:63:13
+-- src/turn.rt:73:13
 returns-3 : tie.Need-returns-3
-returns-3 c =
-    let a = (c .before .before .before .before .before .before .before .before .before .args) in
-    let s = (c .before .before .before .before .before .before .before .before .before .pre) in
-    let x = (c .left) in
-    ((λ t occ dt dn new l. rw (c .before .enum-told3 .given .1, x .ensures .0, x .ensures .1)), rw (x .ensures .1) (record { split = omega arith; divSplit = s .0 .divSplit; save = s .0 .save; divs = s .0 .divs; pool = s .0 .pool; free = λ b u v. omega (arith, u) }))
+returns-3 c = clash _ (ap leaves (c .enum-told3 .given .1)) (c .before .before .before .before .before .before .before .before .pre .0)
 
--- src/turn.rt:66:13
+-- src/turn.rt:79:13
 enum-told-4 : tie.Need-enum-told-4
 enum-told-4 c = search needs
 
--- src/turn.rt:66:13
+-- src/turn.rt:79:13
 push-saved-requires : tie.Need-push-saved-requires
 push-saved-requires c κs = search needs
 
--- src/turn.rt:66:13
+-- src/turn.rt:79:13
 returns-4 : tie.Need-returns-4
 returns-4 c =
     let a = (c .before .before .before .before .before .before .before .before .before .args) in
     let x = (c .push-saved) in
     ((λ t occ dt dn new l. rw (c .before .enum-told4 .given .1, x .ensures .2, x .ensures .3) (x .ensures .0 t occ dt dn new (divsOf (a .p .«div_count») (now (a .nt)) (now (a .nn))) (take (a .p .«pool_count») (trains (now (a .pool)))) (viewsOf (a .r .«est_count») (now (a .begins)) (now (a .ends))))), x .ensures .1)
 
--- src/turn.rt:69:48
+-- src/turn.rt:82:48
 enum-told-5 : tie.Need-enum-told-5
 enum-told-5 c = search needs
 
--- src/turn.rt:69:13
+-- src/turn.rt:82:13
 block-empty-requires : tie.Need-block-empty-requires
 block-empty-requires c κs = search needs
 
--- src/turn.rt:69:13
+-- src/turn.rt:82:13
 same-length-10 : tie.Need-same-length-10
 same-length-10 c = search needs
 
--- src/turn.rt:69:13
+-- src/turn.rt:82:13
 same-length-11 : tie.Need-same-length-11
 same-length-11 c = search needs
 
--- src/turn.rt:69:13
+-- src/turn.rt:82:13
 returns-5 : tie.Need-returns-5
 returns-5 c =
     let a = (c .before .before .before .before .before .before .before .before .before .before .before .before .before .before .before .args) in
     let x = (c .before .before .before .before .block-empty) in
     ((λ t occ dt dn new l. rw (c .before .before .before .before .before .before .before .enum-told5 .given .1, x .ensures .2, x .ensures .3) (x .ensures .0 t occ (now (a .img)) dt dn new (divsOf (a .p .«div_count») (now (a .nt)) (now (a .nn))) (take (a .p .«pool_count») (trains (now (a .pool)))))), x .ensures .1)
 
--- src/turn.rt:72:13
+-- src/turn.rt:85:13
 enum-told-6 : tie.Need-enum-told-6
 enum-told-6 c = search needs
 
--- src/turn.rt:72:13
+-- src/turn.rt:85:13
 advance-requires : tie.Need-advance-requires
 advance-requires c κs = search needs
 
--- src/turn.rt:72:13
+-- src/turn.rt:85:13
 returns-6 : tie.Need-returns-6
 returns-6 c =
     let a = (c .before .before .before .before .before .before .before .before .before .args) in
     let x = (c .advance) in
     ((λ t occ dt dn new l. rw (c .before .enum-told6 .given .1, x .ensures .2, x .ensures .3) (x .ensures .0 t occ (now (a .img)) dt dn new (divsOf (a .p .«div_count») (now (a .nt)) (now (a .nn))) (take (a .p .«pool_count») (trains (now (a .pool)))) (viewsOf (a .r .«est_count») (now (a .begins)) (now (a .ends))))), x .ensures .1)
 
--- src/turn.rt:75:25
+-- src/turn.rt:89:25
 enum-told-7 : tie.Need-enum-told-7
 enum-told-7 c = search needs
 
--- src/turn.rt:75:13
-left-requires-2 : tie.Need-left-requires-2
-left-requires-2 c κs = search needs
-
--- src/turn.rt:75:13
+-- src/turn.rt:88:13
 returns-7 : tie.Need-returns-7
-returns-7 c =
-    let a = (c .before .before .before .before .before .before .before .before .before .args) in
-    let s = (c .before .before .before .before .before .before .before .before .before .pre) in
-    let x = (c .left2) in
-    ((λ t occ dt dn new l. rw (c .before .enum-told7 .given .1, x .ensures .0, x .ensures .1)), rw (x .ensures .1) (record { split = omega arith; divSplit = s .0 .divSplit; save = s .0 .save; divs = s .0 .divs; pool = s .0 .pool; free = λ b u v. omega (arith, u) }))
+returns-7 c = clash _ (ap leaves (c .enum-told7 .given .1)) (c .before .before .before .before .before .before .before .before .pre .0)
 
 pub do-move-spec : {M : Type 1} → statement M
 do-move-spec =
@@ -187,7 +171,6 @@ do-move-spec =
     same-length-9
     returns-2
     enum-told-3
-    left-requires
     returns-3
     enum-told-4
     push-saved-requires
@@ -201,5 +184,4 @@ do-move-spec =
     advance-requires
     returns-6
     enum-told-7
-    left-requires-2
     returns-7)
