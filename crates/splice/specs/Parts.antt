@@ -28,7 +28,7 @@ unfoldable pub filled : ℕ → ℕ → ℕ → List ℕ → List ℕ
 filled zero x a xs = xs
 filled (suc k) x a xs = set (filled k x a xs) (a + k) x
 
--- m diverge nodes in two columns and c new ones, the sentinel included, in two more, with room in each; a node's number may grow by join
+-- m diverge nodes in two columns and c new ones, the sentinel included, in two more, with room in each; the number of a held node may grow by join
 pub record DivsFit (dt dn nt nn : List ℕ) (m c room split join : ℕ) : Type 0 where
   pub small : room < 2 ^ 16
   pub held : m ≤ room
@@ -38,7 +38,7 @@ pub record DivsFit (dt dn nt nn : List ℕ) (m c room split join : ℕ) : Type 0
   pub nodes : room ≤ length dn
   pub newTrains : room ≤ length nt
   pub newNodes : room ≤ length nn
-  pub number : (i : ℕ) → getD dn i 0 + join < 2 ^ 16
+  pub number : (i : ℕ) → i < m → getD dn i 0 + join < 2 ^ 16
 
 -- the offset of path node i
 unfoldable pub putOffset : Float → ℕ → List ℕ → List ℕ

@@ -73,7 +73,7 @@ pub(crate) fn fill_entries(col: &mut [u16], a: usize, k: usize, x: u16)
 
 // Diverge nodes from k on move with their nodes.
 fn shift_divs(dn: &mut [u16], k: usize, m: usize, join: u32, base: u32) -> u32
-    requires { ⌜ ((i : ℕ) → getD (now dn) i 0 + join < 2 ^ 16) ⌝ }
+    requires { ⌜ ((i : ℕ) → i < m → getD (now dn) i 0 + join < 2 ^ 16) ⌝ }
     ensures { λ r. ⌜ ((ts : List ℕ) → m ≤ length (now (dn .entry)) → answer r (listed m (divAt ts (now (dn .exit)))) ≡ fromOn (shiftDivs join base) k (listed m (divAt ts (now (dn .entry))))) ⌝ }
 {
     let mut i = k;
@@ -117,7 +117,7 @@ pub(crate) fn splice_divs(
 
 // Diverge nodes from k on move with their nodes, if those move.
 fn move_divs(dn: &mut [u16], k: usize, m: usize, join: u32, base: u32) -> u32
-    requires { ⌜ ((i : ℕ) → getD (now dn) i 0 + join < 2 ^ 16) ⌝ }
+    requires { ⌜ ((i : ℕ) → i < m → getD (now dn) i 0 + join < 2 ^ 16) ⌝ }
     ensures { λ r. ⌜ ((ts : List ℕ) → m ≤ length (now (dn .entry)) → answer r (listed m (divAt ts (now (dn .exit)))) ≡ fromOn (λ ds. cond (eqb base join) (ok ds) (shiftDivs join base ds)) k (listed m (divAt ts (now (dn .entry))))) ⌝ }
 {
     if base == join {

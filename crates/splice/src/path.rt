@@ -81,7 +81,7 @@ pub(crate) fn update_offsets(img: &mut [u8], n: u32, i: u32, change: Metres) -> 
 }
 
 // The new path goes into its buffer.
-pub(crate) fn write_new(fresh: &mut [u8], new: [DispNode; 512], k: u32)
+pub fn write_new(fresh: &mut [u8], new: [DispNode; 512], k: u32)
     requires { ⌜ (k ≤ 512) × (length new ≡ 512) × (nodePlace (estCount (now fresh)) k ≤ length (now fresh)) × ((i : ℕ) → i < k → Sound (getD new i blank)) ⌝ }
     ensures { λ _. ⌜ (listed k (nodeAt (now (fresh .exit))) ≡ take k new) × Kept (now (fresh .exit)) (now (fresh .entry)) ⌝ }
 {

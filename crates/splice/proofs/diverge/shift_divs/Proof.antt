@@ -29,7 +29,7 @@ cast-x : tie.Need-cast-x Inv-loop μ-loop
 cast-x c = search needs
 
 add-x : tie.Need-add-x Inv-loop μ-loop
-add-x c = let l = c .before .before .before .loop in omega (arith, c .before .before .before .before .before .pre (l .i), l .inv .1 (l .i) (omega arith), c .u16-of .ensures)
+add-x c = let l = c .before .before .before .loop in omega (arith, c .before .before .before .before .before .pre (l .i) (omega arith), l .inv .1 (l .i) (omega arith), c .u16-of .ensures)
 
 same-length : tie.Need-same-length Inv-loop μ-loop
 same-length c = search needs
@@ -41,7 +41,7 @@ returns c =
     λ ts h. sym (shift-no (a .join) (a .base) ts (l .dn) (a .m) (l .i) (omega arith) (omega (arith, c .before .u16-of .ensures))) ∙ l .inv .2 ts h
 
 cast-put-entry : tie.Need-cast-put-entry Inv-loop μ-loop
-cast-put-entry c = let l = c .before .before .before .before .before .loop in omega (arith, c .before .before .before .before .before .before .before .pre (l .i), l .inv .1 (l .i) (omega arith), c .before .before .u16-of .ensures)
+cast-put-entry c = let l = c .before .before .before .before .before .loop in omega (arith, c .before .before .before .before .before .before .before .pre (l .i) (omega arith), l .inv .1 (l .i) (omega arith), c .before .before .u16-of .ensures)
 
 put-entry-requires : tie.Need-put-entry-requires Inv-loop μ-loop
 put-entry-requires c κs = search needs
