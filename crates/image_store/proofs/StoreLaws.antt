@@ -1,0 +1,134 @@
+-- Records written one after another leave the header's numbers, and together they are what is stored. Assumes nothing.
+use mathlib.Core.Path.{_≡_, sym, ap, ap₂, _∙_}
+use mathlib.Core.Logic.{inl}
+use mathlib.Core.List.{List}
+use Prim.Native.Nat.{ℕ, _+_, _*_, _-_, _≤_}
+use native.Mathlib.Omega.{arith}
+use native.Mathlib.Numerals.{add-one}
+use lib.ListN.{length}
+use Rattle.link_rules.specs.Octets.{leAt}
+use Rattle.disp_structs.specs.Listed.{listed}
+use Rattle.disp_structs.proofs.ListedLaws.{listed-length}
+use Rattle.disp_structs.specs.declared.DispNode.{DispNode}
+use Rattle.disp_structs.specs.declared.DivergeNode.{DivergeNode}
+use Rattle.free_path.specs.Columns.{divAt}
+use Rattle.image.specs.Image.{estCount, divergeRoom, estAt, nodeAt, nodePlace, divergePlace, putNode, putDiverge, zeroWords, clearNodes, clearDiverges, putPathHeader}
+use Rattle.image.specs.Codec.{putEach, pathHeaderOf, putRecords, storedInto}
+use Rattle.image.specs.declared.codec.PathHeader.{PathHeader}
+use Rattle.image.proofs.Writers.{Writes, le-outside, each-writes, zero-writes}
+use Rattle.image.proofs.RecordLaws.{node-writes, diverge-writes}
+use Rattle.image.proofs.EachLaws.{each-more}
+use Rattle.splice.specs.Read.{trainOf}
+
+-- a write from 64 on leaves a number of the header
+header-stays : {a b : ℕ} {f : List ℕ → List ℕ} → Writes a b f → (v j : ℕ) (bs : List ℕ) → j + v ≤ 64 → 64 ≤ a → leAt v (f bs) j ≡ leAt v bs j
+header-stays wf v j bs h l = le-outside wf v j bs (inl (omega arith))
+
+-- ---- one more record of n
+
+each-next : {A : Type 0} (put : A → ℕ → List ℕ → List ℕ) (w n : ℕ) (f : ℕ → A) (at : ℕ) (bs : List ℕ)
+    → putEach put w (listed (n + 1) f) at bs ≡ put (f n) (at + w * n) (putEach put w (listed n f) at bs)
+unfolding listed
+each-next put w n f at bs = rw add-one (each-more put w (listed n f) (f n) at bs ∙ rw (listed-length n f))
+
+module _ (n : ℕ) (f : ℕ → DispNode) (bs : List ℕ) where
+  abbrev pub nodesInto : List ℕ
+  nodesInto = putEach putNode 32 (listed n f) (nodePlace (estCount bs) 0) bs
+
+  nodes-write : Writes (nodePlace (estCount bs) 0) (nodePlace (estCount bs) 0 + 32 * length (listed n f)) (putEach putNode 32 (listed n f) (nodePlace (estCount bs) 0))
+  nodes-write = each-writes putNode 32 node-writes (listed n f) (nodePlace (estCount bs) 0)
+
+  pub nodes-long : length nodesInto ≡ length bs
+  nodes-long = nodes-write .long bs
+
+  pub nodes-stay : (v j : ℕ) → j + v ≤ 64 → leAt v nodesInto j ≡ leAt v bs j
+  nodes-stay v j h = header-stays nodes-write v j bs h (omega arith)
+
+  pub nodes-next : (x : DispNode) (b c : List ℕ) → b ≡ nodesInto → x ≡ f n → c ≡ putNode x (nodePlace (estCount b) n) b → c ≡ putEach putNode 32 (listed (n + 1) f) (nodePlace (estCount bs) 0) bs
+  nodes-next x b c h q p =
+      let k : nodePlace (estCount bs) n ≡ nodePlace (estCount bs) 0 + 32 * n = omega arith in
+      p ∙ rw (q, h, nodes-stay 4 4 (omega arith), k) (sym (each-next putNode 32 n f (nodePlace (estCount bs) 0) bs))
+
+module _ (m : ℕ) (g : ℕ → DivergeNode) (bs : List ℕ) where
+  abbrev pub divergesInto : List ℕ
+  divergesInto = putEach putDiverge 4 (listed m g) (divergePlace (estCount bs) 0) bs
+
+  diverges-write : Writes (divergePlace (estCount bs) 0) (divergePlace (estCount bs) 0 + 4 * length (listed m g)) (putEach putDiverge 4 (listed m g) (divergePlace (estCount bs) 0))
+  diverges-write = each-writes putDiverge 4 diverge-writes (listed m g) (divergePlace (estCount bs) 0)
+
+  pub diverges-long : length divergesInto ≡ length bs
+  diverges-long = diverges-write .long bs
+
+  pub diverges-stay : (v j : ℕ) → j + v ≤ 64 → leAt v divergesInto j ≡ leAt v bs j
+  diverges-stay v j h = header-stays diverges-write v j bs h (omega arith)
+
+  pub diverges-next : (x : DivergeNode) (b c : List ℕ) → b ≡ divergesInto → x ≡ g m → c ≡ putDiverge x (divergePlace (estCount b) m) b → c ≡ putEach putDiverge 4 (listed (m + 1) g) (divergePlace (estCount bs) 0) bs
+  diverges-next x b c h q p =
+      let k : divergePlace (estCount bs) m ≡ divergePlace (estCount bs) 0 + 4 * m = omega arith in
+      p ∙ rw (q, h, diverges-stay 4 4 (omega arith), k) (sym (each-next putDiverge 4 m g (divergePlace (estCount bs) 0) bs))
+
+-- ---- what is stored
+
+clear-stays : (n : ℕ) (bs : List ℕ) (v j : ℕ) → j + v ≤ 64 → leAt v (clearNodes n bs) j ≡ leAt v bs j
+unfolding clearNodes
+clear-stays n bs v j h = header-stays (zero-writes (8 * (estCount bs - n)) (nodePlace (estCount bs) n)) v j bs h (omega arith)
+
+clear-nodes : (n e : ℕ) (bs : List ℕ) → estCount bs ≡ e → clearNodes n bs ≡ zeroWords (8 * (e - n)) (nodePlace e n) bs
+unfolding clearNodes
+clear-nodes n e bs h = ap (λ (x : ℕ). zeroWords (8 * (x - n)) (nodePlace x n) bs) h
+
+clear-diverges : (m e q : ℕ) (bs : List ℕ) → estCount bs ≡ e → divergeRoom bs ≡ q → clearDiverges m bs ≡ zeroWords (q - m) (divergePlace e m) bs
+unfolding clearDiverges
+clear-diverges m e q bs h k = ap₂ (λ (x y : ℕ). zeroWords (y - m) (divergePlace x m) bs) h k
+
+module _ (img dt dn : List ℕ) (h : PathHeader) where
+  abbrev e : ℕ
+  e = estCount img
+
+  abbrev q : ℕ
+  q = divergeRoom img
+
+  abbrev n : ℕ
+  n = h .«path_count»
+
+  abbrev m : ℕ
+  m = h .«diverge_count»
+
+  header-of : pathHeaderOf (trainOf img dt dn h) ≡ h
+  unfolding trainOf
+  header-of = rw (listed-length n (nodeAt img), listed-length m (divAt dt dn))
+
+  records-of : (bs : List ℕ) → putRecords (trainOf img dt dn h) bs
+      ≡ zeroWords (q - m) (divergePlace e m) (putEach putDiverge 4 (listed m (divAt dt dn)) (divergePlace e 0) (zeroWords (8 * (e - n)) (nodePlace e n) (putEach putNode 32 (listed n (nodeAt img)) (nodePlace e 0) bs)))
+  unfolding trainOf putRecords
+  records-of bs = rw (listed-length e (estAt img), listed-length n (nodeAt img), listed-length m (divAt dt dn))
+
+  -- the five writes, one after another
+  module _ (bs : List ℕ) (he : estCount bs ≡ e) (hq : divergeRoom bs ≡ q) (b1 b2 b3 b4 : List ℕ)
+      (p1 : b1 ≡ putEach putNode 32 (listed n (nodeAt img)) (nodePlace (estCount bs) 0) bs) (p2 : b2 ≡ clearNodes n b1)
+      (p3 : b3 ≡ putEach putDiverge 4 (listed m (divAt dt dn)) (divergePlace (estCount b2) 0) b2) (p4 : b4 ≡ clearDiverges m b3) where
+    -- a number of the header
+    same1 : (v j : ℕ) → j + v ≤ 64 → leAt v b1 j ≡ leAt v bs j
+    same1 v j l = ap (λ (x : List ℕ). leAt v x j) p1 ∙ nodes-stay n (nodeAt img) bs v j l
+
+    same2 : (v j : ℕ) → j + v ≤ 64 → leAt v b2 j ≡ leAt v bs j
+    same2 v j l = ap (λ (x : List ℕ). leAt v x j) p2 ∙ clear-stays n b1 v j l ∙ same1 v j l
+
+    same3 : (v j : ℕ) → j + v ≤ 64 → leAt v b3 j ≡ leAt v bs j
+    same3 v j l = ap (λ (x : List ℕ). leAt v x j) p3 ∙ diverges-stay m (divAt dt dn) b2 v j l ∙ same2 v j l
+
+    is1 : b1 ≡ putEach putNode 32 (listed n (nodeAt img)) (nodePlace e 0) bs
+    is1 = p1 ∙ ap (λ (x : ℕ). putEach putNode 32 (listed n (nodeAt img)) (nodePlace x 0) bs) he
+
+    is2 : b2 ≡ zeroWords (8 * (e - n)) (nodePlace e n) b1
+    is2 = p2 ∙ clear-nodes n e b1 (same1 4 4 (omega arith) ∙ he)
+
+    is3 : b3 ≡ putEach putDiverge 4 (listed m (divAt dt dn)) (divergePlace e 0) b2
+    is3 = p3 ∙ ap (λ (x : ℕ). putEach putDiverge 4 (listed m (divAt dt dn)) (divergePlace x 0) b2) (same2 4 4 (omega arith) ∙ he)
+
+    is4 : b4 ≡ zeroWords (q - m) (divergePlace e m) b3
+    is4 = p4 ∙ clear-diverges m e q b3 (same3 4 4 (omega arith) ∙ he) (same3 4 16 (omega arith) ∙ hq)
+
+    pub stored-is : putPathHeader h b4 ≡ storedInto (trainOf img dt dn h) bs
+    unfolding storedInto
+    stored-is = rw (header-of, records-of, is4, is3, is2, is1)

@@ -1,0 +1,85 @@
+use mathlib.Core.Path.{_≡_, refl, ap, ap₂, _∙_}
+use Prim.Native.Nat.{ℕ, _-_, _≤_}
+use native.Mathlib.Omega.{arith}
+use denote.Ref.{now}
+use lib.ListN.{length}
+use Rattle.disp_structs.specs.Listed.{listed}
+use Rattle.free_path.specs.Columns.{divAt, tr}
+use Rattle.image.specs.Image.{estCount, divergePlace, putDiverge}
+use Rattle.image.specs.Codec.{putEach}
+use Rattle.image_store.proofs.StoreLaws.{diverges-long, diverges-next}
+use borrow.Author.Needs.{needs}
+use Rattle.image_store.proofs.put_diverges.Statement.{statement}
+use Rattle.image_store.proofs.put_diverges.Tie as tie
+
+abbrev Inv-loop : tie.InvT-loop
+Inv-loop image₀ dt dn m i₀ image i = (i ≤ m) × (image ≡ putEach putDiverge 4 (listed i (divAt dt dn)) (divergePlace (estCount image₀) 0) image₀)
+
+abbrev μ-loop : tie.MeasureT-loop
+μ-loop image₀ dt dn m i₀ image i = m - i
+
+loop-holds : tie.Need-loop-holds Inv-loop μ-loop
+unfolding listed putEach
+loop-holds c = (search needs, refl)
+
+cast-u16-of : tie.Need-cast-u16-of Inv-loop μ-loop
+cast-u16-of c = search needs
+
+u16-of-requires : tie.Need-u16-of-requires Inv-loop μ-loop
+u16-of-requires c κs = search needs
+
+cast-u16-of-2 : tie.Need-cast-u16-of-2 Inv-loop μ-loop
+cast-u16-of-2 c = search needs
+
+u16-of-requires-2 : tie.Need-u16-of-requires-2 Inv-loop μ-loop
+u16-of-requires-2 c κs = search needs
+
+put-diverge-requires : tie.Need-put-diverge-requires Inv-loop μ-loop
+put-diverge-requires c κs = search needs
+
+add-i : tie.Need-add-i Inv-loop μ-loop
+add-i c = search needs
+
+loop-less : tie.Need-loop-less Inv-loop μ-loop
+loop-less c = search needs
+
+loop-again : tie.Need-loop-again Inv-loop μ-loop
+loop-again c =
+    let l = c .before .before .before .before .before .before .before .loop in
+    let a = c .before .before .before .before .before .before .before .before .before .before .before .args in
+    let t = c .before .before .before .before .before .u16-of in
+    let n = c .before .before .before .before .u16-of2 in (
+      search needs,
+      diverges-next (l .i) (divAt (now (a .dt)) (now (a .dn))) (now (a .image)) _ (l .image) (c .before .before .put-diverge .last .0) (l .inv .1) (ap₂ (λ (x y : ℕ). record { «train_idx» = tr x; «disp_node_idx» = y }) (t .ensures) (n .ensures)) (c .before .before .put-diverge .ensures),
+    )
+
+same-length : tie.Need-same-length Inv-loop μ-loop
+same-length c =
+    let l = c .before .loop in
+    let a = c .before .before .before .before .before .args in
+    ap length (l .inv .1) ∙ diverges-long (l .i) (divAt (now (a .dt)) (now (a .dn))) (now (a .image))
+
+returns : tie.Need-returns Inv-loop μ-loop
+returns c =
+    let l = c .before .loop in
+    let a = c .before .before .before .before .before .args in
+    let e : l .i ≡ a .m = omega arith in
+    l .inv .1 ∙ ap (λ (i : ℕ). putEach putDiverge 4 (listed i (divAt (now (a .dt)) (now (a .dn)))) (divergePlace (estCount (now (a .image))) 0) (now (a .image))) e
+
+pub put-diverges-spec : {M : Type 1} → statement M
+put-diverges-spec =
+    tie.close
+    (tie.spec
+    Inv-loop
+    μ-loop
+    loop-holds
+    cast-u16-of
+    u16-of-requires
+    cast-u16-of-2
+    u16-of-requires-2
+    put-diverge-requires
+    add-i
+    loop-less
+    loop-again
+    same-length
+    returns)
