@@ -1,0 +1,22 @@
+-- The start of a round: div_idx_split with its asserts, and a round with another limit. Assumes nothing.
+use Prim.Native.Nat.{ℕ}
+use mathlib.Core.List.{List}
+use lib.Dec.{ltb, leb}
+use Rattle.disp_structs.specs.declared.Metres.{Metres}
+use Rattle.disp_structs.specs.declared.DivergeNode.{DivergeNode}
+use Rattle.free_path.specs.Base.{Res, ok, _>>=_, need, at, before}
+use Rattle.free_path.specs.LinkOptType.{Sentinels}
+use Rattle.train_update.specs.State.{Round}
+use Rattle.train_update.specs.Update.{divPoint}
+
+-- the asserts on the diverge nodes before and at d (331-332)
+unfoldable pub partedAt : List DivergeNode → ℕ → ℕ → Res ℕ
+partedAt divs split d = before divs d >>= λ a. need (leb (a .«disp_node_idx») split) >>= λ _. at divs d >>= λ b. need (ltb split (b .«disp_node_idx»)) >>= λ _. ok d
+
+-- div_idx_split with its asserts (323-332)
+abbrev pub dividedAt : List DivergeNode → ℕ → ℕ → Sentinels → Res ℕ
+dividedAt divs split divSplit z = divPoint divs split divSplit z >>= λ d. partedAt divs split d
+
+-- a round with another offset_cancel
+abbrev pub withLimit : Round → Metres → Round
+withLimit r m = record { train = r .train; «links_blocked» = r .«links_blocked»; «train_idx_moved» = r .«train_idx_moved»; «offset_cancel» = m; «idx_split_save» = r .«idx_split_save» }

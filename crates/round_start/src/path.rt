@@ -1,0 +1,148 @@
+// The path of an image: link_idx_path as a column, is_on_path as flags, links_on_path asked for one link, and the save node.
+use free_path::link_opt_type::LinkOptType;
+use image::codec;
+use link_rules::link_idx::LinkIdx;
+use search::Index;
+use search::views;
+ghost use mathlib.Core.Path.{_≡_};
+ghost use mathlib.Core.Bool.{_&&_};
+ghost use Prim.Native.Nat.{ℕ, _<_, _≤_, _^_};
+ghost use lib.ListN.{length, replicate};
+ghost use Rattle.link_rules.specs.LinkIdx.{sameLink};
+ghost use Rattle.disp_structs.specs.Listed.{listed};
+ghost use Rattle.disp_structs.specs.Values.{isArrive, arriving};
+ghost use Rattle.image.specs.Image.{nodeAt};
+ghost use Rattle.free_path.specs.Base.{walkFrom};
+ghost use Rattle.free_path.specs.Columns.{answer, linkAt};
+ghost use Rattle.free_path.specs.LinkOptType.{linksOnPath, contains, linkIdxPath};
+ghost use Rattle.train_update.specs.Moves.{notFake};
+ghost use Rattle.train_update.specs.Update.{apart, savePoint};
+ghost use Rattle.search.specs.Read.{pathOf, Marked};
+
+// ---- link_idx_path
+
+// An entry of link_idx_path.
+fn arrive_link(img: &[u8], i: u32) -> LinkIdx
+    ensures { λ r. ⌜ r ≡ arriving (nodeAt (now (img .entry)) i) ⌝ }
+{
+    let e = codec::node_link_event(img, i);
+    let t = e.est_type;
+    if views::is_arrive(t) {
+        return e.link_idx;
+    }
+    LinkIdx(0)
+}
+
+// link_idx_path of the n nodes of the path, without its ending sentinel.
+pub fn link_path(img: &[u8], n: usize, col: &mut [u32])
+    requires { ⌜ (n < 2 ^ 32) × (n ≤ length (now col)) ⌝ }
+    ensures { λ _. ⌜ listed n (linkAt (now (col .exit))) ≡ linkIdxPath (pathOf (now (img .entry)) n) ⌝ }
+{
+    let mut i = 0;
+    while i < n {
+        let l = arrive_link(img, i as u32);
+        col[i] = l.0;
+        i += 1;
+    }
+}
+
+// ---- is_on_path
+
+pub fn clear_flags(on: &mut [u8])
+    ensures { λ _. ⌜ now (on .exit) ≡ replicate (length (now (on .entry))) 0 ⌝ }
+{
+    let mut i = 0;
+    while i < on.len() {
+        on[i] = 0;
+        i += 1;
+    }
+}
+
+// is_on_path of the n nodes of the path, whatever the flags were.
+pub fn mark_path(img: &[u8], n: usize, on: &mut [u8])
+    requires { ⌜ (n < 2 ^ 32) × ((i : ℕ) → i < n → nodeAt (now img) i .«est_idx» .0 < length (now on)) ⌝ }
+    ensures { λ _. ⌜ Marked (now (on .exit)) (pathOf (now (img .entry)) n) ⌝ }
+{
+    clear_flags(on);
+    let mut i = 0;
+    while i < n {
+        let e = codec::node_est_idx(img, i as u32);
+        on[e.0 as usize] = 1;
+        i += 1;
+    }
+}
+
+// ---- links_on_path
+
+// Is node i an Arrive node of the link?
+fn arrives_at(img: &[u8], i: u32, l: LinkIdx) -> bool
+    ensures { λ r. ⌜ r ≡ (isArrive (nodeAt (now (img .entry)) i .«link_event» .«est_type») && sameLink l (nodeAt (now (img .entry)) i .«link_event» .«link_idx»)) ⌝ }
+{
+    let e = codec::node_link_event(img, i);
+    let t = e.est_type;
+    if views::is_arrive(t) {
+        return l.0 == e.link_idx.0;
+    }
+    false
+}
+
+// links_on_path.contains(l)
+pub fn on_path(img: &[u8], n: usize, l: LinkIdx) -> bool
+    requires { ⌜ n < 2 ^ 32 ⌝ }
+    ensures { λ r. ⌜ r ≡ contains (linksOnPath (pathOf (now (img .entry)) n)) l ⌝ }
+{
+    let mut i = 0;
+    while i < n {
+        if arrives_at(img, i as u32, l) {
+            return true;
+        }
+        i += 1;
+    }
+    false
+}
+
+// The train cannot intersect with the moved train.
+pub fn is_apart(class: LinkOptType, img: &[u8], n: usize) -> bool
+    requires { ⌜ n < 2 ^ 32 ⌝ }
+    ensures { λ r. ⌜ r ≡ apart class (contains (linksOnPath (pathOf (now (img .entry)) n))) ⌝ }
+{
+    match class {
+        LinkOptType::None => true,
+        LinkOptType::Single(l) => !on_path(img, n, l),
+        LinkOptType::Range(a, b) => false,
+        LinkOptType::Check => false,
+    }
+}
+
+// ---- the save node
+
+// From i on the first node that is no Fake.
+fn walk_fakes(img: &[u8], n: usize, from: usize) -> Index
+    requires { ⌜ n < 2 ^ 32 ⌝ }
+    ensures { λ x. ⌜ (answer (x .code) (x .index) ≡ walkFrom notFake (pathOf (now (img .entry)) n) from) × (x .index ≤ n) ⌝ }
+{
+    let mut k = from;
+    while k < n {
+        let e = codec::node_link_event(img, k as u32);
+        let t = e.est_type;
+        if !views::is_fake(t) {
+            return Index { code: 0, index: k };
+        }
+        k += 1;
+    }
+    Index { code: 13, index: 0 }
+}
+
+// idx_save
+pub fn save_point(img: &[u8], n: usize, fixed: usize, split: usize) -> Index
+    requires { ⌜ (n ≤ 512) × (fixed ≤ 512) ⌝ }
+    ensures { λ x. ⌜ (answer (x .code) (x .index) ≡ savePoint (pathOf (now (img .entry)) n) fixed split) × (x .index ≤ 512) ⌝ }
+{
+    if fixed <= split {
+        return Index {
+            code: 0,
+            index: fixed,
+        };
+    }
+    walk_fakes(img, n, split)
+}
