@@ -4,12 +4,12 @@ use mathlib.Core.List.{List}
 use Rattle.disp_structs.specs.Listed.{listed}
 use Rattle.disp_structs.specs.declared.EstTime.{EstTime}
 use Rattle.disp_structs.specs.declared.DispNode.{DispNode}
-use Rattle.image.specs.Image.{estCount, pathCount, estAt, nodeAt}
+use Rattle.image.specs.Image.{estCount, estAt, nodeAt}
 
 -- est_times
 abbrev pub estsOf : List ℕ → List EstTime
 estsOf img = listed (estCount img) (estAt img)
 
--- disp_path
-abbrev pub pathOf : List ℕ → List DispNode
-pathOf img = listed (pathCount img) (nodeAt img)
+-- the first n nodes of disp_path
+abbrev pub pathOf : List ℕ → ℕ → List DispNode
+pathOf img n = listed n (nodeAt img)

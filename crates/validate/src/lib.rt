@@ -21,29 +21,28 @@ pub struct Errors {
     pub count: u64,
 }
 
-// The errors of the steps of the path, and the occupancy conflicts at or after free.
-pub fn validate_free_path(img: &[u8], occ: &[u16], free: u32) -> Errors
-    ensures { λ r. ⌜ answer (r .code) (r .count) ≡ validateFreePath (now (occ .entry)) (estsOf (now (img .entry))) free (pathOf (now (img .entry))) ⌝ }
+// The errors of the steps of the path, the first n nodes of the image, and the occupancy conflicts at or after free.
+pub fn validate_free_path(img: &[u8], n: u32, occ: &[u16], free: u32) -> Errors
+    ensures { λ r. ⌜ answer (r .code) (r .count) ≡ validateFreePath (now (occ .entry)) (estsOf (now (img .entry))) free (pathOf (now (img .entry)) n) ⌝ }
 {
-    let steps = step_errors(img);
+    let steps = step_errors(img, n);
     if steps.code != 0 {
         return steps;
     }
-    if codec::path_count(img) < free {
+    if n < free {
         return Errors { code: 13, count: 0 };
     }
     Errors {
         code: 0,
-        count: steps.count + conflicts(img, occ, free),
+        count: steps.count + conflicts(img, n, occ, free),
     }
 }
 
 // An est number past the records is 13.
-fn step_errors(img: &[u8]) -> Errors
-    ensures { λ r. ⌜ (answer (r .code) (r .count) ≡ badPath (estsOf (now (img .entry))) (pathOf (now (img .entry)))) × (r .count < 2 ^ 32) ⌝ }
+fn step_errors(img: &[u8], n: u32) -> Errors
+    ensures { λ r. ⌜ (answer (r .code) (r .count) ≡ badPath (estsOf (now (img .entry))) (pathOf (now (img .entry)) n)) × (r .count < 2 ^ 32) ⌝ }
 {
     let e = codec::est_count(img);
-    let n = codec::path_count(img);
     let mut k: u64 = 0;
     let mut i: u32 = 0;
     while (i as u64) + 1 < (n as u64) {
@@ -100,10 +99,9 @@ fn in_conflict(img: &[u8], occ: &[u16], i: u32) -> bool
     false
 }
 
-fn conflicts(img: &[u8], occ: &[u16], free: u32) -> u64
-    ensures { λ r. ⌜ (r ≡ count (inConflict (now (occ .entry))) (drop free (pathOf (now (img .entry))))) × (r < 2 ^ 32) ⌝ }
+fn conflicts(img: &[u8], n: u32, occ: &[u16], free: u32) -> u64
+    ensures { λ r. ⌜ (r ≡ count (inConflict (now (occ .entry))) (drop free (pathOf (now (img .entry)) n))) × (r < 2 ^ 32) ⌝ }
 {
-    let n = codec::path_count(img);
     let mut k: u64 = 0;
     let mut i = free;
     while i < n {

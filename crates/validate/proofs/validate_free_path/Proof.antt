@@ -3,7 +3,7 @@ use Prim.Native.Nat.{ℕ, _+_}
 use denote.Ref.{now}
 use native.Mathlib.Omega.{arith}
 use Rattle.disp_structs.proofs.ListedLaws.{listed-length}
-use Rattle.image.specs.Image.{pathCount, nodeAt}
+use Rattle.image.specs.Image.{nodeAt}
 use Rattle.free_path.specs.Base.{ok}
 use Rattle.validate.specs.Paths.{estsOf, pathOf}
 use Rattle.validate.proofs.ErrorLaws.{errors-refused, errors-beyond, errors-all}
@@ -18,17 +18,14 @@ returns : tie.Need-returns
 returns c =
     let a = c .before .before .before .before .before .args in
     let s = c .before .before .step-errors in
-    errors-refused (now (a .occ)) (estsOf (now (a .img))) (a .free) (pathOf (now (a .img))) (s .result .code) (s .result .count) (s .ensures .0) (c .if1 .taken)
-
-path-count-requires : tie.Need-path-count-requires
-path-count-requires c κs = search needs
+    errors-refused (now (a .occ)) (estsOf (now (a .img))) (a .free) (pathOf (now (a .img)) (a .n)) (s .result .code) (s .result .count) (s .ensures .0) (c .if1 .taken)
 
 returns-2 : tie.Need-returns-2
 returns-2 c =
-    let a = c .before .before .before .before .before .before .before .args in
-    let s = c .before .before .before .before .step-errors in
-    errors-beyond (now (a .occ)) (estsOf (now (a .img))) (a .free) (pathOf (now (a .img))) (s .result .code) (s .result .count) (s .ensures .0) (c .before .before .if1 .left)
-    (omega (arith, c .if2 .taken, c .before .path-count .ensures, listed-length (pathCount (now (a .img))) (nodeAt (now (a .img)))))
+    let a = c .before .before .before .before .before .before .args in
+    let s = c .before .before .before .step-errors in
+    errors-beyond (now (a .occ)) (estsOf (now (a .img))) (a .free) (pathOf (now (a .img)) (a .n)) (s .result .code) (s .result .count) (s .ensures .0) (c .before .if1 .left)
+    (omega (arith, c .if2 .taken, listed-length (a .n) (nodeAt (now (a .img)))))
 
 conflicts-requires : tie.Need-conflicts-requires
 conflicts-requires c κs = search needs
@@ -38,11 +35,11 @@ add-t8 c = search needs
 
 returns-3 : tie.Need-returns-3
 returns-3 c =
-    let a = c .before .before .before .before .before .before .before .before .before .args in
-    let s = c .before .before .before .before .before .before .step-errors in
+    let a = c .before .before .before .before .before .before .before .before .args in
+    let s = c .before .before .before .before .before .step-errors in
     ap (λ (n : ℕ). ok (s .result .count + n)) (c .before .conflicts .ensures .0)
-    ∙ errors-all (now (a .occ)) (estsOf (now (a .img))) (a .free) (pathOf (now (a .img))) (s .result .code) (s .result .count) (s .ensures .0) (c .before .before .before .before .if1 .left)
-    (omega (arith, c .before .before .if2 .left, c .before .before .before .path-count .ensures, listed-length (pathCount (now (a .img))) (nodeAt (now (a .img)))))
+    ∙ errors-all (now (a .occ)) (estsOf (now (a .img))) (a .free) (pathOf (now (a .img)) (a .n)) (s .result .code) (s .result .count) (s .ensures .0) (c .before .before .before .if1 .left)
+    (omega (arith, c .before .before .if2 .left, listed-length (a .n) (nodeAt (now (a .img)))))
 
 pub validate-free-path-spec : {M : Type 1} → statement M
 validate-free-path-spec =
@@ -50,7 +47,6 @@ validate-free-path-spec =
     (tie.spec
     step-errors-requires
     returns
-    path-count-requires
     returns-2
     conflicts-requires
     add-t8
