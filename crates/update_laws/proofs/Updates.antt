@@ -192,20 +192,24 @@ begun-fits links trains occ t g f held {e} w =
     })
     (w .searched)
 
+-- what a round ends with fits
+pub round-fits : (links trains : ℕ) (g : Given) (t : Train) (split k : ℕ) (e : Ended) → Accepted links t → Fits trains t → ((l : LinkIdx) → TrainFits trains (holder (g .«links_blocked») l)) → 1 ≤ split → 1 ≤ k → roundOf g t split k ≡ ok e
+    → EndsFit trains e
+round-fits links trains g t split k e a f held i d q =
+    ⊎-elim (λ z. subst (λ (y : Ended). EndsFit trains y) (sym z) tt) (λ b. begun-fits links trains (g .«links_blocked») t a f held b) (round-begun links g t a split k i d q)
+
 fit-hands : (links trains : ℕ) (g : Given) (was t : Train) (split k : ℕ) (e : Ended) → ((l : LinkIdx) → TrainFits trains (holder (g .«links_blocked») l)) → TopFits links trains was t split k → roundOf g t split k ≡ ok e
     → Hands g was (StaysFit links trains was) (TopFits links trains was) e
-fit-hands links trains g was t split k e held w q = go e (top-hands links g was t split k e (w .good) q) ended
+fit-hands links trains g was t split k e held w q =
+    go e (top-hands links g was t split k e (w .good) q) (round-fits links trains g t split k e (w .good .stays .accepted) (w .fit) held (w .good .split-low) (w .good .div-low) q)
   where
-    ended : EndsFit trains e
-    ended = ⊎-elim (λ z. subst (λ (y : Ended). EndsFit trains y) (sym z) tt) (λ b. begun-fits links trains (g .«links_blocked») t (w .good .stays .accepted) (w .fit) held b) (round-begun links g t (w .good .stays .accepted) split k (w .good .split-low) (w .good .div-low) q)
-
     go : (e : Ended) → Hands g was (StaysAccepted links was) (TopGood links was) e → EndsFit trains e → Hands g was (StaysFit links trains was) (TopFits links trains was) e
     go atEnd h f = tt
     go (blockedAt u) h f = record { stays = h; fit = f }
     go (again u i d) h f = record { good = h; fit = f }
 
 -- the sentinel takes the moved train
-adjusted-fits : (trains : ℕ) (moved : TrainIdx) (divs : List DivergeNode) → TrainFits trains moved → Each (DivFits trains) divs → Each (DivFits trains) (adjustSentinel moved divs)
+pub adjusted-fits : (trains : ℕ) (moved : TrainIdx) (divs : List DivergeNode) → TrainFits trains moved → Each (DivFits trains) divs → Each (DivFits trains) (adjustSentinel moved divs)
 unfolding adjustSentinel at
 adjusted-fits trains moved [] m f i d h = no-ok h
 adjusted-fits trains moved (x ∷ []) m f zero d h = subst (λ (y : DivergeNode). DivFits trains y) (ok-same h) m
