@@ -87,7 +87,7 @@ abbrev pub Answers : Move → Effect → State.Round → Look.Here → State.Sea
 Answers m e r h u s = (turnOf m e r h u ≡ searchStep r s) × (leaves m ≡ true → Looked r s h u)
 
 -- a move that is left to do
-turn-left : (m : Move) (e : Effect) (r : State.Round) (h : Look.Here) (u : State.Search) → leaves m ≡ true → turnOf m e r h u ≡ doMove m r h u
+pub turn-left : (m : Move) (e : Effect) (r : State.Round) (h : Look.Here) (u : State.Search) → leaves m ≡ true → turnOf m e r h u ≡ doMove m r h u
 turn-left Rewind e r h u l = clash false l refl
 turn-left Alternate e r h u l = clash false l refl
 turn-left ChangeDiverge e r h u l = refl
@@ -97,7 +97,7 @@ turn-left Advance e r h u l = clash false l refl
 turn-left Join e r h u l = refl
 
 -- a move that the turn has done
-turn-done : (m : Move) (e : Effect) (r : State.Round) (h : Look.Here) (u : State.Search) → leaves m ≡ false → turnOf m e r h u ≡ effectOf r u e
+pub turn-done : (m : Move) (e : Effect) (r : State.Round) (h : Look.Here) (u : State.Search) → leaves m ≡ false → turnOf m e r h u ≡ effectOf r u e
 turn-done Rewind e r h u l = refl
 turn-done Alternate e r h u l = refl
 turn-done ChangeDiverge e r h u l = clash true refl l
