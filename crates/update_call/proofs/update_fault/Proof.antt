@@ -1,0 +1,35 @@
+use mathlib.Core.Path.{sym, ap, _∙_}
+use native.Mathlib.Omega.{arith}
+use denote.Ref.{now}
+use borrow.Author.Needs.{needs}
+use borrow.Author.Tests.{eq-eqb, ne-eqb}
+use Rattle.image_fault.specs.declared.Fault.{Fault}
+use Rattle.update_image.specs.UpdateImage.{updateFault}
+use Rattle.update_call.proofs.CallLaws.{call-links}
+use Rattle.update_call.proofs.update_fault.Statement.{statement}
+use Rattle.update_call.proofs.update_fault.Tie as tie
+
+call-fault-requires : tie.Need-call-fault-requires
+call-fault-requires c κs = search needs
+
+returns : tie.Need-returns
+unfolding updateFault
+returns c = let f = c .before .before .call-fault in rw (← f .ensures, ne-eqb (f .result .number) 0 (c .if1 .taken))
+
+cast-image-fault : tie.Need-cast-image-fault
+cast-image-fault c =
+    let f = c .before .before .call-fault in
+    let a = c .before .before .before .before .before .before .args in
+    omega (arith, call-links (now (a .occ)) (now (a .blocking)) (a .moved .0) (a .limit) (ap (λ (x : Fault). x .number) (sym (f .ensures)) ∙ c .if1 .left) .1)
+
+image-fault-requires : tie.Need-image-fault-requires
+image-fault-requires c κs = search needs
+
+returns-2 : tie.Need-returns-2
+unfolding updateFault
+returns-2 c = let f = c .before .before .before .call-fault in rw (← f .ensures, eq-eqb (f .result .number) 0 (c .before .if1 .left)) (c .image-fault .ensures)
+
+pub update-fault-spec : {M : Type 1} → statement M
+update-fault-spec =
+    tie.close
+    (tie.spec call-fault-requires returns cast-image-fault image-fault-requires returns-2)
