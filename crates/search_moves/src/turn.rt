@@ -32,7 +32,7 @@ pub struct Turned {
 }
 
 // ChangeDiverge and Join are left to the caller.
-fn is_left(go: Move) -> bool
+pub fn is_left(go: Move) -> bool
     ensures { λ b. ⌜ b ≡ leaves go ⌝ }
 {
     match go {
