@@ -125,7 +125,7 @@ module _ (bs : List ℕ) (o : Float) (i : ℕ) where
       ap (λ (e : ℕ). nodeFrom (putOffset o i bs) (nodePlace e i)) (kept-count (putOffset o i bs) bs offset-kept)
       ∙ offset-read bs o (nodePlace (estCount bs) i) (omega arith) f n
 
-reach-number : (x : Float) → inReach x ≡ true → T (not (isNan x))
+pub reach-number : (x : Float) → inReach x ≡ true → T (not (isNan x))
 unfolding inReach isNan le
 reach-number nan h = let z : _≡_ {A = ℕ} 0 1 = cc in absurd (omega arith)
 reach-number (inf s) h = tt

@@ -1,0 +1,180 @@
+// The search of a round of update_free_path (free_path.rs 345-633): turn after turn, up to the one that ends it, proved equal to
+// searchFrom of train_update. The new path is an array of 512 path nodes; at the end it goes to a buffer of an image's layout,
+// for the join. The crate assumes nothing of its own.
+use disp_structs::DispNode;
+use image::codec;
+use search::Place;
+use search::Round;
+use search::look;
+use search::look::Here;
+use search_moves::Effect;
+use search_moves::turn;
+use splice::path;
+use train_update::Move;
+ghost use mathlib.Core.Path.{_≡_};
+ghost use mathlib.Core.Bool.{true, false, cond};
+ghost use mathlib.Core.List.{[], _∷_, _++_};
+ghost use Prim.Native.Nat.{ℕ, _+_, _-_, _≤_, _<_};
+ghost use lib.Dec.{eqb};
+ghost use lib.ListN.{length, take};
+ghost use Rattle.disp_structs.specs.Listed.{listed};
+ghost use Rattle.disp_structs.specs.Train.{Train};
+ghost use Rattle.image.specs.Image.{nodeAt};
+ghost use Rattle.free_path.specs.Base.{ok};
+ghost use Rattle.train_update.specs.State as State;
+ghost use Rattle.train_update.specs.Look as Look;
+ghost use Rattle.search.specs.Read.{divsOf, roundOf, hereOf, searchIn, arrays};
+ghost use Rattle.search_moves.specs.Effects.{leaves, turnOf, onward};
+ghost use Rattle.splice.specs.Read.{Kept};
+ghost use Rattle.search_loop.specs.Runs.{Follows, FollowsTurn, Ready, Begins, Ran, counted};
+
+// How the search ended: the move that is left to do or its effect, where it stood and stands, and how many nodes the new path has.
+pub struct Searched {
+    pub go: Move,
+    pub effect: Effect,
+    pub here: Here,
+    pub place: Place,
+    pub new_count: usize,
+}
+
+// Does the search go on? Then the node that is written behind the new path, and how many nodes of it count.
+pub struct Next {
+    pub goes: bool,
+    pub node: DispNode,
+    pub count: usize,
+}
+
+fn one_less(k: usize) -> usize
+    ensures { λ r. ⌜ r ≡ k - 1 ⌝ }
+{
+    if k == 0 {
+        return 0;
+    }
+    k - 1
+}
+
+// disp_path_new.last(), else disp_path[idx_split - 1].
+fn current(img: &[u8], split: usize, k: usize, top: DispNode) -> DispNode
+    requires { ⌜ split ≤ 512 ⌝ }
+    ensures { λ r. ⌜ r ≡ cond (eqb k 0) (nodeAt (now (img .entry)) (split - 1)) top ⌝ }
+{
+    if k == 0 {
+        return codec::node_at(img, one_less(split) as u32);
+    }
+    top
+}
+
+fn goes_on(n: DispNode, count: usize) -> Next
+    ensures { λ r. ⌜ r ≡ record { goes = true; node = n; count = count } ⌝ }
+{
+    Next {
+        goes: true,
+        node: n,
+        count: count,
+    }
+}
+
+fn stops(n: DispNode) -> Next
+    ensures { λ r. ⌜ r ≡ record { goes = false; node = n; count = 0 } ⌝ }
+{
+    Next {
+        goes: false,
+        node: n,
+        count: 0,
+    }
+}
+
+// After an effect with k nodes on the new path.
+fn next_of(effect: Effect, curr: DispNode, k: usize) -> Next
+    requires { ⌜ k < 512 ⌝ }
+    ensures { λ x. ⌜ Follows effect k x ⌝ }
+{
+    match effect {
+        Effect::Refused(c) => stops(curr),
+        Effect::Push(n) => goes_on(n, k + 1),
+        Effect::Pop => goes_on(curr, one_less(k)),
+        Effect::Stay => goes_on(curr, k),
+        Effect::GiveUp => stops(curr),
+    }
+}
+
+fn after(go: Move, effect: Effect, curr: DispNode, k: usize) -> Next
+    requires { ⌜ k < 512 ⌝ }
+    ensures { λ x. ⌜ FollowsTurn go effect k x ⌝ }
+{
+    if turn::is_left(go) {
+        return stops(curr);
+    }
+    next_of(effect, curr, k)
+}
+
+fn at_count(p: Place, k: usize) -> Place
+    ensures { λ r. ⌜ r ≡ counted p k ⌝ }
+{
+    let mut q = p;
+    q.new_count = k;
+    q
+}
+
+// The turns are at an end, which no search of an accepted train meets.
+fn out_of_turns(here: Here, p: Place) -> Searched
+    ensures { λ x. ⌜ (x .go ≡ Move.Advance) × (x .effect ≡ Effect.Refused 13) × (x .place ≡ p) × (x .«new_count» ≡ 0) ⌝ }
+{
+    Searched {
+        go: Move::Advance,
+        effect: Effect::Refused(13),
+        here: here,
+        place: p,
+        new_count: 0,
+    }
+}
+
+// The search from start, its new path to the buffer fresh.
+pub fn run(
+    img: &[u8],
+    occ: &[u16],
+    on: &[u8],
+    dt: &[u16],
+    dn: &[u16],
+    r: Round,
+    start: Place,
+    fresh: &mut [u8],
+    pool: &mut [u16],
+    begins: &mut [u32],
+    ends: &mut [u32],
+    nt: &mut [u16],
+    nn: &mut [u16],
+) -> Searched
+    requires { ⌜ Ready (now img) (now occ) (now on) (now dt) (now dn) r start (now fresh) (arrays (now pool) (now begins) (now ends)) (now nt) (now nn) ⌝ }
+    ensures { λ x. ⌜ ((t : Train) → Begins (length (now (occ .entry))) (roundOf t (now (occ .entry)) (now (img .entry)) (now (dt .entry)) (now (dn .entry)) r) (searchIn (r .«est_count») start [] (divsOf (start .«div_count») (now (nt .entry)) (now (nn .entry))) (arrays (now (pool .entry)) (now (begins .entry)) (now (ends .entry)))) → Ran (length (now (occ .entry))) (roundOf t (now (occ .entry)) (now (img .entry)) (now (dt .entry)) (now (dn .entry)) r) (searchIn (r .«est_count») start [] (divsOf (start .«div_count») (now (nt .entry)) (now (nn .entry))) (arrays (now (pool .entry)) (now (begins .entry)) (now (ends .entry)))) (x .go) (x .effect) (hereOf (x .here)) (searchIn (r .«est_count») (x .place) (listed (x .«new_count») (nodeAt (now (fresh .exit)))) (divsOf (x .place .«div_count») (now (nt .exit)) (now (nn .exit))) (arrays (now (pool .exit)) (now (begins .exit)) (now (ends .exit))))) × Kept (now (fresh .exit)) (now (fresh .entry)) × (x .place .«pool_count» ≤ 2048) ⌝ }
+{
+    let none = codec::node_at(img, 0);
+    let mut new = [none; 512];
+    let mut p = start;
+    let mut left = 3 * r.est_count + 1;
+    while 0 < left {
+        let k = p.new_count;
+        let curr = current(img, p.idx_split, k, new[one_less(k)]);
+        let t = turn::turn(img, occ, on, dt, dn, r, p, curr, pool, begins, ends, nt, nn);
+        let go = t.go;
+        let effect = t.effect;
+        let here = t.here;
+        let place = t.place;
+        let a = after(go, effect, curr, k);
+        if !a.goes {
+            path::write_new(fresh, new, k as u32);
+            return Searched {
+                go: go,
+                effect: effect,
+                here: here,
+                place: place,
+                new_count: k,
+            };
+        }
+        let n = a.node;
+        new[k] = n;
+        p = at_count(place, a.count);
+        left -= 1;
+    }
+    out_of_turns(look::look_here(img, r, p, none, ends, dn), p)
+}
