@@ -25,7 +25,7 @@ use Rattle.free_path.proofs.CountLaws.{bind-stop, bind-go, part-take, length-pa
 use Rattle.train_update.specs.State.{Round, Search, Turn, ends, again, withDivNodes, withFree, viewOf, diverging}
 use Rattle.train_update.specs.Look.{Here}
 use Rattle.train_update.specs.Moves.{trainsOf, changeDiverge}
-use Rattle.splice.specs.Read.{trainOf, Stands, Changes, atSplit, baseEnd}
+use Rattle.splice.specs.Read.{trainOf, Stands, Changes, atSplit, baseEnd, changeAt}
 use Rattle.splice.specs.Parts.{filled}
 use Rattle.splice.specs.declared.Reached.{Reached}
 use Rattle.splice.proofs.ListLaws.{listed-same, need-and, at-need, paste-in, walk-found}
@@ -82,11 +82,8 @@ module _ (t : Train) (empty : Bool) (dc jn split ds : ℕ) (alt : EstIdx) (taken
       room (leb (length (take ds (t .«div_nodes») ++ diverging split ts ++ drop k (t .«div_nodes»))) (t .divergeRoom)) >>
       ok (ends (again (withFree (withDivNodes t (take ds (t .«div_nodes») ++ diverging split ts ++ drop k (t .«div_nodes»))) (t .«disp_node_idx_fixed»)) split (ds + length ts)))
 
-  after : ℕ → Res Turn
-  after k = taken >>= changed k
-
   past : Res Turn
-  past = walkFrom (λ x. not (eqb (x .«disp_node_idx») split)) (t .«div_nodes») (ds + 1) >>= after
+  past = walkFrom (λ x. not (eqb (x .«disp_node_idx») split)) (t .«div_nodes») (ds + 1) >>= λ k. taken >>= changed k
 
   changeFrom : Res Turn
   changeFrom =
@@ -94,7 +91,7 @@ module _ (t : Train) (empty : Bool) (dc jn split ds : ℕ) (alt : EstIdx) (taken
       (at (t .«disp_path») split >>= λ n. need (sameEst alt (n .«est_idx»)) >> (at (t .«div_nodes») ds >>= λ d. need (eqb split (d .«disp_node_idx»)) >> past))))
 
 change-is : (r : Round) (here : Here) (s : Search) → changeDiverge r here s ≡ changeFrom (r .train) (isEmpty (s .«disp_path_new»)) (length (s .«div_nodes_new»)) (here .«idx_join_new») (s .«idx_split») (s .«div_idx_split») (here .«est_curr» .«idx_next_alt») (trainsOf (s .«train_idxs_blocking») (viewOf (s .views) (here .«est_curr» .«idx_next»)))
-unfolding changeDiverge changeFrom past after changed
+unfolding changeDiverge changeFrom past changed
 change-is r here s = refl
 
 empty-is : {A : Type 0} (xs : List A) → isEmpty xs ≡ eqb (length xs) 0
@@ -114,11 +111,8 @@ module _ (img dt dn : List ℕ) (h : PathHeader) (p : Reached) (alt : EstIdx) (t
   abbrev whole : Res Turn
   whole = changeFrom train (eqb (p .«new_count») 0) (p .«div_count») (p .join) (p .split) (p .«div_split») alt taken
 
-  abbrev onward : ℕ → Res Turn
-  onward = after train (eqb (p .«new_count») 0) (p .«div_count») (p .join) (p .split) (p .«div_split») alt taken
-
-  opened : whole ≡ (baseEnd img (h .«path_count») p alt dt dn (h .«diverge_count») >>= onward)
-  unfolding changeFrom past baseEnd atSplit trainOf
+  opened : whole ≡ (baseEnd img (h .«path_count») p alt dt dn (h .«diverge_count») >>= changeAt train p taken)
+  unfolding changeFrom past changed changeAt baseEnd atSplit trainOf
   opened =
       let N = h .«path_count» in
       let M = h .«diverge_count» in
@@ -143,7 +137,7 @@ module _ (img dt dn : List ℕ) (h : PathHeader) (p : Reached) (alt : EstIdx) (t
       ∙ ap (λ (r : Res Turn). need a3 >> r)
       (need-and a4 (a5 && (a6 && a7)) R
       ∙ ap (λ (r : Res Turn). need a4 >> r) (need-and a5 (a6 && a7) R ∙ ap (λ (r : Res Turn). need a5 >> r) (need-and a6 a7 R))))))
-      ∙ need-then (a1 && (a2 && (a3 && (a4 && (a5 && (a6 && a7)))))) (walkFrom (λ x. not (eqb (x .«disp_node_idx») (p .split))) (listed M (divAt dt dn)) (p .«div_split» + 1)) onward
+      ∙ need-then (a1 && (a2 && (a3 && (a4 && (a5 && (a6 && a7)))))) (walkFrom (λ x. not (eqb (x .«disp_node_idx») (p .split))) (listed M (divAt dt dn)) (p .«div_split» + 1)) (changeAt train p taken)
 
 -- ---- &pool[b..e]
 
@@ -172,63 +166,68 @@ base-found img n p alt dt dn m c k w z = go (atSplit img n p alt dn m) (ap (λ (
     go true e = walk-found (λ d. not (eqb (d .«disp_node_idx») (p .split))) m (divAt dt dn) (p .«div_split» + 1) k (sym e)
     go false e = let y : _≡_ {A = ℕ} 0 1 = cc in absurd (omega arith)
 
-module _ (img dt dn pool : List ℕ) (h : PathHeader) (p : Reached) (alt : EstIdx) (v : TrainIdxsView) (count : ℕ) (m : count ≤ length pool) (r : Round) (here : Here) (s : Search) (st : Stands img dt dn h p (here .«est_curr») r here s) (ch : Changes pool count alt v p here s) where
+module _ (img dt dn pool : List ℕ) (h : PathHeader) (p : Reached) (alt : EstIdx) (v : TrainIdxsView) (count : ℕ) (r : Round) (here : Here) (s : Search) (st : Stands img dt dn h p (here .«est_curr») r here s) (ch : Changes pool count alt v p here s) where
+  abbrev taken : Res (List TrainIdx)
+  taken = trainsOf (take count (trains pool)) v
+
+  from : whole img dt dn h p alt taken ≡ changeDiverge r here s
+  from = sym (change-is r here s ∙ rw (st .train, empty-is (s .«disp_path_new»), ch .path, ch .divs, st .join, st .split, st .divSplit, ch .alt, ch .trainIdxs, ch .view))
+
+  module _ (c k : ℕ) (w : answer c k ≡ baseEnd img (h .«path_count») p alt dt dn (h .«diverge_count»)) where
+    pub change-base : (c ≡ 0 → ⊥) → (x : Turn) → answer c x ≡ changeDiverge r here s
+    change-base q x = bind-stop c k (changeAt (trainOf img dt dn h) p taken) w q x ∙ sym (opened img dt dn h p alt taken) ∙ from
+
+    pub change-found : c ≡ 0 → changeAt (trainOf img dt dn h) p taken k ≡ changeDiverge r here s
+    change-found z = bind-go c k (changeAt (trainOf img dt dn h) p taken) w z ∙ sym (opened img dt dn h p alt taken) ∙ from
+
+-- ---- the trains of the view in place of the diverge nodes up to k
+
+module _ (img dt dn pool : List ℕ) (h : PathHeader) (p : Reached) (v : TrainIdxsView) (count : ℕ) (m : count ≤ length pool) (k : ℕ) where
   abbrev kept : List TrainIdx
   kept = take count (trains pool)
 
-  from : whole img dt dn h p alt (trainsOf kept v) ≡ changeDiverge r here s
-  from = sym (change-is r here s ∙ rw (st .train, empty-is (s .«disp_path_new»), ch .path, ch .divs, st .join, st .split, st .divSplit, ch .alt, ch .trainIdxs, ch .view))
+  abbrev answered : Res Turn
+  answered = changeAt (trainOf img dt dn h) p (trainsOf kept v) k
 
   kept-length : length kept ≡ count
   kept-length = length-take-le count (trains pool) (simp length-map m)
 
-  module _ (c k : ℕ) (w : answer c k ≡ baseEnd img (h .«path_count») p alt dt dn (h .«diverge_count»)) where
-    pub change-base : (c ≡ 0 → ⊥) → (x : Turn) → answer c x ≡ changeDiverge r here s
-    change-base q x = bind-stop c k (onward img dt dn h p alt (trainsOf kept v)) w q x ∙ sym (opened img dt dn h p alt (trainsOf kept v)) ∙ from
+  pub change-order : v .«idx_end» < v .«idx_begin» → no 13 ≡ answered
+  unfolding changeAt
+  change-order q = rw (short (v .«idx_begin») (v .«idx_end») kept q)
 
-    module _ (z : c ≡ 0) where
-      entered : onward img dt dn h p alt (trainsOf kept v) k ≡ changeDiverge r here s
-      entered = bind-go c k (onward img dt dn h p alt (trainsOf kept v)) w z ∙ sym (opened img dt dn h p alt (trainsOf kept v)) ∙ from
+  pub change-past : count < v .«idx_end» → no 13 ≡ answered
+  unfolding changeAt
+  change-past q = rw (long (v .«idx_begin») (v .«idx_end») kept (omega (arith, kept-length)))
 
-      refused : trainsOf kept v ≡ no 13 → no 13 ≡ changeDiverge r here s
-      unfolding after
-      refused e = ap (λ x. x >>= changed (train img dt dn h p alt (trainsOf kept v)) (eqb (p .«new_count») 0) (p .«div_count») (p .join) (p .split) (p .«div_split») alt (trainsOf kept v) k) (sym e) ∙ entered
+  module _ (a : v .«idx_begin» ≤ v .«idx_end») (b : v .«idx_end» ≤ count) (i : p .«div_split» ≤ h .«diverge_count») where
+    abbrev ts : List TrainIdx
+    ts = part (v .«idx_begin») (v .«idx_end») kept
 
-      pub change-order : v .«idx_end» < v .«idx_begin» → no 13 ≡ changeDiverge r here s
-      change-order q = refused (short (v .«idx_begin») (v .«idx_end») kept q)
+    abbrev all : List DivergeNode
+    all = take (p .«div_split») (listed (h .«diverge_count») (divAt dt dn)) ++ diverging (p .split) ts ++ drop k (listed (h .«diverge_count») (divAt dt dn))
 
-      pub change-past : count < v .«idx_end» → no 13 ≡ changeDiverge r here s
-      change-past q = refused (long (v .«idx_begin») (v .«idx_end») kept (omega (arith, kept-length)))
+    abbrev left : Res Turn
+    left = ok (ends (again (withFree (withDivNodes (trainOf img dt dn h) all) (h .fixed)) (p .split) (p .«div_split» + length ts)))
 
-      module _ (a : v .«idx_begin» ≤ v .«idx_end») (b : v .«idx_end» ≤ count) (i : p .«div_split» ≤ h .«diverge_count») where
-        abbrev ts : List TrainIdx
-        ts = part (v .«idx_begin») (v .«idx_end») kept
+    many : length ts ≡ v .«idx_end» - v .«idx_begin»
+    many = length-part kept (v .«idx_begin») (v .«idx_end») (omega (arith, kept-length))
 
-        abbrev all : List DivergeNode
-        all = take (p .«div_split») (listed (h .«diverge_count») (divAt dt dn)) ++ diverging (p .split) ts ++ drop k (listed (h .«diverge_count») (divAt dt dn))
+    size : length all ≡ p .«div_split» + (v .«idx_end» - v .«idx_begin») + (h .«diverge_count» - k)
+    unfolding diverging
+    size = simp (length-append, length-map, length-drop) (omega (arith, many, listed-length (h .«diverge_count») (divAt dt dn), length-take-le (p .«div_split») (listed (h .«diverge_count») (divAt dt dn)) (omega (arith, listed-length (h .«diverge_count») (divAt dt dn)))))
 
-        got : trainsOf kept v ≡ ok ts
-        got = both (v .«idx_begin») (v .«idx_end») kept a (omega (arith, kept-length))
+    last : (room (leb (length all) (divergeRoom img)) >> left) ≡ answered
+    unfolding changeAt trainOf
+    last = rw (both (v .«idx_begin») (v .«idx_end») kept a (omega (arith, kept-length)))
 
-        many : length ts ≡ v .«idx_end» - v .«idx_begin»
-        many = length-part kept (v .«idx_begin») (v .«idx_end») (omega (arith, kept-length))
+    pub change-full : divergeRoom img < p .«div_split» + (v .«idx_end» - v .«idx_begin») + (h .«diverge_count» - k) → no 11 ≡ answered
+    change-full q = ap (λ (t : Bool). room t >> left) (sym (ap (λ (n : ℕ). leb n (divergeRoom img)) size ∙ lt-leb _ (divergeRoom img) q)) ∙ last
 
-        size : length all ≡ p .«div_split» + (v .«idx_end» - v .«idx_begin») + (h .«diverge_count» - k)
-        unfolding diverging
-        size = simp (length-append, length-map, length-drop) (omega (arith, many, listed-length (h .«diverge_count») (divAt dt dn), length-take-le (p .«div_split») (listed (h .«diverge_count») (divAt dt dn)) (omega (arith, listed-length (h .«diverge_count») (divAt dt dn)))))
-
-        last : changed (train img dt dn h p alt (trainsOf kept v)) (eqb (p .«new_count») 0) (p .«div_count») (p .join) (p .split) (p .«div_split») alt (trainsOf kept v) k ts ≡ changeDiverge r here s
-        unfolding after
-        last = ap (λ x. x >>= changed (train img dt dn h p alt (trainsOf kept v)) (eqb (p .«new_count») 0) (p .«div_count») (p .join) (p .split) (p .«div_split») alt (trainsOf kept v) k) (sym got) ∙ entered
-
-        pub change-full : divergeRoom img < p .«div_split» + (v .«idx_end» - v .«idx_begin») + (h .«diverge_count» - k) → no 11 ≡ changeDiverge r here s
-        unfolding changed trainOf
-        change-full q = ap (λ (t : Bool). room t >> ok (ends (again (withFree (withDivNodes (trainOf img dt dn h) all) (h .fixed)) (p .split) (p .«div_split» + length ts)))) (sym (ap (λ (n : ℕ). leb n (divergeRoom img)) size ∙ lt-leb _ (divergeRoom img) q)) ∙ last
-
-        pub change-done : p .«div_split» + (v .«idx_end» - v .«idx_begin») + (h .«diverge_count» - k) ≤ divergeRoom img → (dt1 dn1 : List ℕ) (total : ℕ) → listed total (divAt dt1 dn1) ≡ all
-            → ok (ends (again (trainOf img dt1 dn1 (record { «path_count» = h .«path_count»; «diverge_count» = total; fixed = h .fixed; free = h .fixed; front = h .front; back = h .back })) (p .split) (p .«div_split» + (v .«idx_end» - v .«idx_begin»)))) ≡ changeDiverge r here s
-        unfolding changed trainOf
-        change-done q dt1 dn1 total e =
-            ap₂ (λ (x : List DivergeNode) (n : ℕ). ok (ends (again (withFree (withDivNodes (trainOf img dt dn h) x) (h .fixed)) (p .split) (p .«div_split» + n)))) e (sym many)
-            ∙ ap (λ (t : Bool). room t >> ok (ends (again (withFree (withDivNodes (trainOf img dt dn h) all) (h .fixed)) (p .split) (p .«div_split» + length ts)))) (sym (ap (λ (n : ℕ). leb n (divergeRoom img)) size ∙ le-leb _ (divergeRoom img) q))
-            ∙ last
+    pub change-done : p .«div_split» + (v .«idx_end» - v .«idx_begin») + (h .«diverge_count» - k) ≤ divergeRoom img → (dt1 dn1 : List ℕ) (total : ℕ) → listed total (divAt dt1 dn1) ≡ all
+        → ok (ends (again (trainOf img dt1 dn1 (record { «path_count» = h .«path_count»; «diverge_count» = total; fixed = h .fixed; free = h .fixed; front = h .front; back = h .back })) (p .split) (p .«div_split» + (v .«idx_end» - v .«idx_begin»)))) ≡ answered
+    unfolding trainOf
+    change-done q dt1 dn1 total e =
+        ap₂ (λ (x : List DivergeNode) (n : ℕ). ok (ends (again (withFree (withDivNodes (trainOf img dt dn h) x) (h .fixed)) (p .split) (p .«div_split» + n)))) e (sym many)
+        ∙ ap (λ (t : Bool). room t >> left) (sym (ap (λ (n : ℕ). leb n (divergeRoom img)) size ∙ le-leb _ (divergeRoom img) q))
+        ∙ last

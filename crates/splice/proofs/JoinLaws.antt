@@ -20,14 +20,14 @@ use Rattle.free_path.specs.LinkOptType.{linksOnPath}
 use Rattle.free_path.specs.Columns.{answer, divAt}
 use Rattle.disp_structs.specs.Listed.{listed}
 use Rattle.free_path.proofs.CountLaws.{bind-stop, bind-go, answer-no}
-use Rattle.train_update.specs.State.{Round, Search, Turn, ends, again, withPath, withDivNodes, withFrontBack, withFixed}
+use Rattle.train_update.specs.State.{Round, Search, Turn, ends, again, withPath, withDivNodes, withFrontBack, withFixed, withFree}
 use Rattle.train_update.specs.Look.{Here}
 use Rattle.train_update.specs.Join.{Ends, Divs, removeLinks, insertLinks, shiftOffsets, newEnds, moveFrontBack, updateFreePathHelpers, updateDivNodes, freeIsCorrect, spliceAt, join}
-use Rattle.splice.specs.Read.{trainOf, Kept, Stands, Joins}
+use Rattle.splice.specs.Read.{trainOf, Kept, Stands, Joins, finishAt}
 use Rattle.splice.specs.Parts.{fromOn}
 use Rattle.splice.specs.Flags.{exchangeLinks}
 use Rattle.splice.specs.declared.Reached.{Reached}
-use Rattle.splice.proofs.ListLaws.{listed-same, found-at, read-in}
+use Rattle.splice.proofs.ListLaws.{listed-same, read-in}
 use Rattle.splice.proofs.NodeLaws.{kept-le, kept-count, kept-est}
 
 -- ---- answers handed on
@@ -38,6 +38,9 @@ handed c a g m e = go c ∙ ap (λ r. r >>= λ x. ok (g x)) e
     go : (c : ℕ) → answer c (g a) ≡ (answer c a >>= λ x. ok (g x))
     go zero = refl
     go (suc n) = refl
+
+pub told : {A : Type 0} {m : Res A} (c d : ℕ) (x : A) → c ≡ d → answer d x ≡ m → answer c x ≡ m
+told c d x e r = ap (λ (n : ℕ). answer n x) e ∙ r
 
 module _ {A B : Type 0} (c : ℕ) (a : A) {m : Res A} (k : Res B) (e : answer c a ≡ m) where
   then-stop : (c ≡ 0 → ⊥) → (b : B) → answer c b ≡ (m >> k)
@@ -129,76 +132,48 @@ module _ (t : Train) (new : List DispNode) (split base : ℕ) (change : Metres) 
       unfolding moved sided
       helped-sides h d u g = g ∙ bind-go s path1 sided offsets h ∙ bind-go c (tt {0}) moved links z ∙ sym helpers-is
 
--- ---- the join, over what it reads of a round, of where the search stands and of the search
+-- ---- a join at base, over what it reads of a round, of where the search stands and of the search
 
-module _ (t : Train) (new : List DispNode) (news : List DivergeNode) (save split ds free jn : ℕ) (curr : DispNode) (est : EstTime) where
-  finish : ℕ → Train → Divs → Res Turn
-  finish base u d =
+module _ (t : Train) (new : List DispNode) (news : List DivergeNode) (split ds free jn : ℕ) (curr : DispNode) (est : EstTime) (base : ℕ) where
+  finish : Train → Divs → Res Turn
+  finish u d =
       freeIsCorrect (take split (u .«disp_path») ++ new ++ drop base (u .«disp_path»)) free >>
       ok (ends (again (withFixed (withPath (withDivNodes u (d .«div_nodes»)) (take split (u .«disp_path») ++ new ++ drop base (u .«disp_path»))) free) jn (d .«div_idx_split»)))
 
-  divided : ℕ → Train → Res Turn
-  divided base u = updateDivNodes (u .divergeRoom) (u .«div_nodes») news ds base jn >>= finish base u
+  divided : Train → Res Turn
+  divided u = updateDivNodes (u .divergeRoom) (u .«div_nodes») news ds base jn >>= finish u
 
-  helped : ℕ → DispNode → Res Turn
-  helped base n = updateFreePathHelpers t new split base (minus (plus (curr .offset) (est .«dist_to_next»)) (n .offset)) >>= divided base
+  helped : DispNode → Res Turn
+  helped n = updateFreePathHelpers t new split base (minus (plus (curr .offset) (est .«dist_to_next»)) (n .offset)) >>= divided
 
-  spliced : ℕ → Res Turn
-  spliced base = at (t .«disp_path») base >>= helped base
+  spliced : Res Turn
+  spliced = at (t .«disp_path») base >>= helped
 
-  joinFrom : Res Turn
-  joinFrom = walkFrom (λ n. sameEst (est .«idx_next») (n .«est_idx»)) (t .«disp_path») save >>= spliced
+  module _ (n : ℕ) (f : ℕ → DispNode) (p : t .«disp_path» ≡ listed n f) (l : base < n) (xc : ℕ) (u : Train) (e : answer xc u ≡ updateFreePathHelpers t new split base (minus (plus (curr .offset) (est .«dist_to_next»)) (f base .offset))) where
+    opened : helped (f base) ≡ spliced
+    unfolding spliced
+    opened = read-in n f base helped l ∙ ap (λ (l : List DispNode). at l base >>= helped) (sym p)
 
-  module _ (n : ℕ) (f : ℕ → DispNode) (p : t .«disp_path» ≡ listed n f) (c b : ℕ) (w : answer c b ≡ walkFrom (λ n. sameEst (est .«idx_next») (n .«est_idx»)) (listed n f) save) where
-    walked : answer c b ≡ walkFrom (λ n. sameEst (est .«idx_next») (n .«est_idx»)) (t .«disp_path») save
-    walked = w ∙ ap (λ (l : List DispNode). walkFrom (λ n. sameEst (est .«idx_next») (n .«est_idx»)) l save) (sym p)
+    stop-helpers : (xc ≡ 0 → ⊥) → (x : Turn) → answer xc x ≡ spliced
+    unfolding helped
+    stop-helpers h x = bind-stop xc u divided e h x ∙ opened
 
-    stop-walk : (c ≡ 0 → ⊥) → (x : Turn) → answer c x ≡ joinFrom
-    unfolding joinFrom
-    stop-walk h x = bind-stop c b spliced walked h x
-
-    module _ (z : c ≡ 0) (xc : ℕ) (u : Train) (e : answer xc u ≡ updateFreePathHelpers t new split b (minus (plus (curr .offset) (est .«dist_to_next»)) (f b .offset))) where
-      opened : helped b (f b) ≡ joinFrom
-      unfolding joinFrom spliced
-      opened =
-          read-in n f b (helped b) (found-at (λ n. sameEst (est .«idx_next») (n .«est_idx»)) n f save c b w z .1)
-          ∙ ap (λ (l : List DispNode). at l b >>= helped b) (sym p)
-          ∙ bind-go c b spliced walked z
-
-      stop-helpers : (xc ≡ 0 → ⊥) → (x : Turn) → answer xc x ≡ joinFrom
+    module _ (y : xc ≡ 0) (dc : ℕ) (d : Divs) (g : answer dc d ≡ updateDivNodes (u .divergeRoom) (u .«div_nodes») news ds base jn) where
+      entered : divided u ≡ spliced
       unfolding helped
-      stop-helpers h x = bind-stop xc u (divided b) e h x ∙ opened
+      entered = bind-go xc u divided e y ∙ opened
 
-      module _ (y : xc ≡ 0) (dc : ℕ) (d : Divs) (g : answer dc d ≡ updateDivNodes (u .divergeRoom) (u .«div_nodes») news ds b jn) where
-        entered : divided b u ≡ joinFrom
-        unfolding helped
-        entered = bind-go xc u (divided b) e y ∙ opened
+      stop-divs : (dc ≡ 0 → ⊥) → (x : Turn) → answer dc x ≡ spliced
+      unfolding divided
+      stop-divs h x = bind-stop dc d (finish u) g h x ∙ entered
 
-        stop-divs : (dc ≡ 0 → ⊥) → (x : Turn) → answer dc x ≡ joinFrom
-        unfolding divided
-        stop-divs h x = bind-stop dc d (finish b u) g h x ∙ entered
+      ended : dc ≡ 0 → finish u d ≡ spliced
+      unfolding divided
+      ended q = bind-go dc d (finish u) g q ∙ entered
 
-        module _ (q : dc ≡ 0) (fc : ℕ) (path : List DispNode) (o : path ≡ take split (u .«disp_path») ++ new ++ drop b (u .«disp_path»)) (r : answer fc (tt {0}) ≡ freeIsCorrect path free) where
-          ended : finish b u d ≡ joinFrom
-          unfolding divided
-          ended = bind-go dc d (finish b u) g q ∙ entered
-
-          right : answer fc (tt {0}) ≡ freeIsCorrect (take split (u .«disp_path») ++ new ++ drop b (u .«disp_path»)) free
-          right = r ∙ ap (λ (l : List DispNode). freeIsCorrect l free) o
-
-          stop-free : (fc ≡ 0 → ⊥) → (x : Turn) → answer fc x ≡ joinFrom
-          unfolding finish
-          stop-free h x = then-stop fc (tt {0}) _ right h x ∙ ended
-
-          all-done : fc ≡ 0 → (v : Train) → v ≡ withFixed (withPath (withDivNodes u (d .«div_nodes»)) path) free → ok (ends (again v jn (d .«div_idx_split»))) ≡ joinFrom
-          unfolding finish
-          all-done h v k =
-              ap (λ (v : Train). ok (ends (again v jn (d .«div_idx_split»)))) (k ∙ ap (λ (l : List DispNode). withFixed (withPath (withDivNodes u (d .«div_nodes»)) l) free) o)
-              ∙ then-go fc (tt {0}) _ right h ∙ ended
-
-join-is : (r : Round) (here : Here) (s : Search) → join r here s ≡ joinFrom (r .train) (s .«disp_path_new») (s .«div_nodes_new») (r .«idx_split_save») (s .«idx_split») (s .«div_idx_split») (s .«disp_node_idx_free») (here .«idx_join_new») (here .«disp_node_curr») (here .«est_curr»)
-unfolding join spliceAt joinFrom spliced helped divided finish
-join-is r here s = refl
+splice-is : (r : Round) (here : Here) (s : Search) (base : ℕ) → spliceAt r here s base ≡ spliced (r .train) (s .«disp_path_new») (s .«div_nodes_new») (s .«idx_split») (s .«div_idx_split») (s .«disp_node_idx_free») (here .«idx_join_new») (here .«disp_node_curr») (here .«est_curr») base
+unfolding spliceAt spliced helped divided finish
+splice-is r here s base = refl
 
 -- ---- the same over an image, columns and a header's numbers
 
@@ -215,52 +190,80 @@ unfolding trainOf
 back-is img dt dn h = refl
 
 -- the train of an image whose header and est records are those of another
-train-left : (img2 img path1 dt dn dt1 dn1 : List ℕ) (h : PathHeader) (total count free front back : ℕ) → Kept img2 img
-    → trainOf img2 dt1 dn1 (record { «path_count» = total; «diverge_count» = count; fixed = free; free = free; front = front; back = back })
-    ≡ withFixed (withPath (withDivNodes (withFrontBack (withPath (trainOf img dt dn h) (listed (h .«path_count») (nodeAt path1))) front back) (listed count (divAt dt1 dn1))) (listed total (nodeAt img2))) free
+train-left : (img2 img dt dn dt1 dn1 : List ℕ) (h k : PathHeader) → Kept img2 img
+    → trainOf img2 dt1 dn1 k
+    ≡ withFree (withFixed (withPath (withDivNodes (withFrontBack (trainOf img dt dn h) (k .front) (k .back)) (listed (k .«diverge_count») (divAt dt1 dn1))) (listed (k .«path_count») (nodeAt img2))) (k .fixed)) (k .free)
 unfolding trainOf
-train-left img2 img path1 dt dn dt1 dn1 h total count free front back k =
-    let ests : listed (estCount img2) (estAt img2) ≡ listed (estCount img) (estAt img) = ap (λ (m : ℕ). listed m (estAt img2)) (kept-count img2 img k) ∙ listed-same (estCount img) (estAt img) (estAt img2) (kept-est img2 img k) in
-    rw (ests, kept-le img2 img k 8 48 (omega arith), kept-le img2 img k 8 56 (omega arith), kept-le img2 img k 2 32 (omega arith), kept-le img2 img k 4 16 (omega arith))
+train-left img2 img dt dn dt1 dn1 h k l =
+    let ests : listed (estCount img2) (estAt img2) ≡ listed (estCount img) (estAt img) = ap (λ (m : ℕ). listed m (estAt img2)) (kept-count img2 img l) ∙ listed-same (estCount img) (estAt img) (estAt img2) (kept-est img2 img l) in
+    rw (ests, kept-le img2 img l 8 48 (omega arith), kept-le img2 img l 8 56 (omega arith), kept-le img2 img l 2 32 (omega arith), kept-le img2 img l 4 16 (omega arith))
 
-module _ (img fresh dt dn nt nn : List ℕ) (h : PathHeader) (p : Reached) (curr : DispNode) (est : EstTime) (r : Round) (here : Here) (s : Search) (st : Stands img dt dn h p est r here s) (jo : Joins fresh nt nn p curr here s) where
-  abbrev new : List DispNode
-  new = listed (p .«new_count») (nodeAt fresh)
+-- ---- the end of a join
 
-  abbrev news : List DivergeNode
-  news = listed (p .«div_count») (divAt nt nn)
+module _ (img fresh dt dn : List ℕ) (h : PathHeader) (p : Reached) (base d : ℕ) (img2 : List ℕ) (total : ℕ)
+    (o : listed total (nodeAt img2) ≡ take (p .split) (listed (h .«path_count») (nodeAt img)) ++ listed (p .«new_count») (nodeAt fresh) ++ drop base (listed (h .«path_count») (nodeAt img)))
+    (fc : ℕ) (k : answer fc (tt {0}) ≡ freeIsCorrect (listed total (nodeAt img2)) (p .free)) where
+  right : answer fc (tt {0}) ≡ freeIsCorrect (take (p .split) (listed (h .«path_count») (nodeAt img)) ++ listed (p .«new_count») (nodeAt fresh) ++ drop base (listed (h .«path_count») (nodeAt img))) (p .free)
+  right = k ∙ ap (λ (l : List DispNode). freeIsCorrect l (p .free)) o
 
-  from : joinFrom (trainOf img dt dn h) new news (p .«split_save») (p .split) (p .«div_split») (p .free) (p .join) curr est ≡ join r here s
-  from = sym (join-is r here s ∙ rw (st .train, jo .path, jo .divs, st .save, st .split, st .divSplit, st .free, st .join, jo .curr, st .est))
+  pub finish-free : (fc ≡ 0 → ⊥) → (x : Turn) → answer fc x ≡ finishAt (trainOf img dt dn h) (listed (p .«new_count») (nodeAt fresh)) p base d
+  unfolding finishAt trainOf
+  finish-free q x = then-stop fc (tt {0}) _ right q x
 
+  pub finish-done : fc ≡ 0 → Kept img2 img
+      → ok (ends (again (trainOf img2 dt dn (record { «path_count» = total; «diverge_count» = h .«diverge_count»; fixed = p .free; free = p .free; front = h .front; back = h .back })) (p .join) d))
+      ≡ finishAt (trainOf img dt dn h) (listed (p .«new_count») (nodeAt fresh)) p base d
+  unfolding finishAt trainOf
+  finish-done q l =
+      ap (λ (v : Train). ok (ends (again v (p .join) d)))
+      (train-left img2 img dt dn dt dn h (record { «path_count» = total; «diverge_count» = h .«diverge_count»; fixed = p .free; free = p .free; front = h .front; back = h .back }) l
+      ∙ ap (λ (x : List DispNode). withFixed (withPath (trainOf img dt dn h) x) (p .free)) o)
+      ∙ then-go fc (tt {0}) _ right q
+
+-- ---- a join
+
+module _ (img dt dn : List ℕ) (h : PathHeader) (p : Reached) (est : EstTime) (r : Round) (here : Here) (s : Search) (st : Stands img dt dn h p est r here s) where
   module _ (c b : ℕ) (w : answer c b ≡ walkFrom (λ x. sameEst (est .«idx_next») (x .«est_idx»)) (listed (h .«path_count») (nodeAt img)) (p .«split_save»)) where
-    pub join-walk : (c ≡ 0 → ⊥) → (x : Turn) → answer c x ≡ join r here s
-    join-walk q x = stop-walk (trainOf img dt dn h) new news (p .«split_save») (p .split) (p .«div_split») (p .free) (p .join) curr est (h .«path_count») (nodeAt img) (path-is img dt dn h) c b w q x ∙ from
+    walked : answer c b ≡ walkFrom (λ x. sameEst (here .«est_curr» .«idx_next») (x .«est_idx»)) (r .train .«disp_path») (r .«idx_split_save»)
+    walked = w ∙ sym (rw (st .train, st .save, st .est) (ap (λ (l : List DispNode). walkFrom (λ x. sameEst (est .«idx_next») (x .«est_idx»)) l (p .«split_save»)) (path-is img dt dn h)))
 
-    module _ (z : c ≡ 0) (img1 : List ℕ) (xc front back : ℕ) (e : answer xc (withFrontBack (withPath (trainOf img dt dn h) (listed (h .«path_count») (nodeAt img1))) front back) ≡ updateFreePathHelpers (trainOf img dt dn h) new (p .split) b (minus (plus (curr .offset) (est .«dist_to_next»)) (nodeAt img b .offset))) where
+    pub join-walk : (c ≡ 0 → ⊥) → (x : Turn) → answer c x ≡ join r here s
+    unfolding join
+    join-walk q x = bind-stop c b (spliceAt r here s) walked q x
+
+    pub join-found : c ≡ 0 → spliceAt r here s b ≡ join r here s
+    unfolding join
+    join-found q = bind-go c b (spliceAt r here s) walked q
+
+  module _ (fresh nt nn : List ℕ) (curr : DispNode) (jo : Joins fresh nt nn p curr here s) (base : ℕ) where
+    abbrev new : List DispNode
+    new = listed (p .«new_count») (nodeAt fresh)
+
+    abbrev news : List DivergeNode
+    news = listed (p .«div_count») (divAt nt nn)
+
+    from : spliced (trainOf img dt dn h) new news (p .split) (p .«div_split») (p .free) (p .join) curr est base ≡ spliceAt r here s base
+    from = sym (splice-is r here s base ∙ rw (st .train, jo .path, jo .divs, st .split, st .divSplit, st .free, st .join, jo .curr, st .est))
+
+    module _ (l : base < h .«path_count») (img1 : List ℕ) (xc front back : ℕ) (e : answer xc (withFrontBack (withPath (trainOf img dt dn h) (listed (h .«path_count») (nodeAt img1))) front back) ≡ updateFreePathHelpers (trainOf img dt dn h) new (p .split) base (minus (plus (curr .offset) (est .«dist_to_next»)) (nodeAt img base .offset))) where
       abbrev moved-train : Train
       moved-train = withFrontBack (withPath (trainOf img dt dn h) (listed (h .«path_count») (nodeAt img1))) front back
 
-      pub join-helpers : (xc ≡ 0 → ⊥) → (x : Turn) → answer xc x ≡ join r here s
-      join-helpers q x = stop-helpers (trainOf img dt dn h) new news (p .«split_save») (p .split) (p .«div_split») (p .free) (p .join) curr est (h .«path_count») (nodeAt img) (path-is img dt dn h) c b w z xc moved-train e q x ∙ from
+      pub splice-helpers : (xc ≡ 0 → ⊥) → (x : Turn) → answer xc x ≡ spliceAt r here s base
+      splice-helpers q x = stop-helpers (trainOf img dt dn h) new news (p .split) (p .«div_split») (p .free) (p .join) curr est base (h .«path_count») (nodeAt img) (path-is img dt dn h) l xc moved-train e q x ∙ from
 
-      module _ (y : xc ≡ 0) (dt1 dn1 : List ℕ) (dc count split1 : ℕ) (g : answer dc (record { «div_nodes» = listed count (divAt dt1 dn1); «div_idx_split» = split1 }) ≡ updateDivNodes (divergeRoom img) (listed (h .«diverge_count») (divAt dt dn)) news (p .«div_split») b (p .join)) where
+      module _ (y : xc ≡ 0) (dt1 dn1 : List ℕ) (dc count split1 : ℕ) (g : answer dc (record { «div_nodes» = listed count (divAt dt1 dn1); «div_idx_split» = split1 }) ≡ updateDivNodes (divergeRoom img) (listed (h .«diverge_count») (divAt dt dn)) news (p .«div_split») base (p .join)) where
         abbrev left : Divs
         left = record { «div_nodes» = listed count (divAt dt1 dn1); «div_idx_split» = split1 }
 
-        pub join-divs : (dc ≡ 0 → ⊥) → (x : Turn) → answer dc x ≡ join r here s
+        pub splice-divs : (dc ≡ 0 → ⊥) → (x : Turn) → answer dc x ≡ spliceAt r here s base
         unfolding trainOf
-        join-divs q x = stop-divs (trainOf img dt dn h) new news (p .«split_save») (p .split) (p .«div_split») (p .free) (p .join) curr est (h .«path_count») (nodeAt img) (path-is img dt dn h) c b w z xc moved-train e y dc left g q x ∙ from
+        splice-divs q x = stop-divs (trainOf img dt dn h) new news (p .split) (p .«div_split») (p .free) (p .join) curr est base (h .«path_count») (nodeAt img) (path-is img dt dn h) l xc moved-train e y dc left g q x ∙ from
 
-        module _ (q : dc ≡ 0) (img2 : List ℕ) (fc total : ℕ) (o : listed total (nodeAt img2) ≡ take (p .split) (listed (h .«path_count») (nodeAt img1)) ++ new ++ drop b (listed (h .«path_count») (nodeAt img1))) (k : answer fc (tt {0}) ≡ freeIsCorrect (listed total (nodeAt img2)) (p .free)) where
-          pub join-free : (fc ≡ 0 → ⊥) → (x : Turn) → answer fc x ≡ join r here s
-          unfolding trainOf
-          join-free v x = stop-free (trainOf img dt dn h) new news (p .«split_save») (p .split) (p .«div_split») (p .free) (p .join) curr est (h .«path_count») (nodeAt img) (path-is img dt dn h) c b w z xc moved-train e y dc left g q fc (listed total (nodeAt img2)) o k v x ∙ from
-
-          pub join-done : fc ≡ 0 → Kept img2 img
-              → ok (ends (again (trainOf img2 dt1 dn1 (record { «path_count» = total; «diverge_count» = count; fixed = p .free; free = p .free; front = front; back = back })) (p .join) split1)) ≡ join r here s
-          unfolding trainOf
-          join-done v l =
-              all-done (trainOf img dt dn h) new news (p .«split_save») (p .split) (p .«div_split») (p .free) (p .join) curr est (h .«path_count») (nodeAt img) (path-is img dt dn h) c b w z xc moved-train e y dc left g q fc (listed total (nodeAt img2)) o k v _
-              (train-left img2 img img1 dt dn dt1 dn1 h total count (p .free) front back l)
-              ∙ from
+        pub splice-end : dc ≡ 0 → Kept img1 img
+            → finishAt (trainOf img1 dt1 dn1 (record { «path_count» = h .«path_count»; «diverge_count» = count; fixed = h .fixed; free = h .free; front = front; back = back })) new p base split1 ≡ spliceAt r here s base
+        unfolding trainOf finishAt finish
+        splice-end q k =
+            ap (λ (v : Train). finishAt v new p base split1)
+            (train-left img1 img dt dn dt1 dn1 h (record { «path_count» = h .«path_count»; «diverge_count» = count; fixed = h .fixed; free = h .free; front = front; back = back }) k)
+            ∙ ended (trainOf img dt dn h) new news (p .split) (p .«div_split») (p .free) (p .join) curr est base (h .«path_count») (nodeAt img) (path-is img dt dn h) l xc moved-train e y dc left g q ∙ from

@@ -2,9 +2,10 @@
 use Prim.Native.Nat.{ℕ, _+_, _-_, _^_, _≤_, _<_}
 use mathlib.Core.Path.{_≡_}
 use mathlib.Core.Bool.{Bool, not, _&&_}
-use mathlib.Core.List.{List}
-use lib.Dec.{ltb, eqb}
-use lib.ListN.{length, getD, take}
+use mathlib.Core.List.{List, _++_}
+use lib.Dec.{ltb, leb, eqb}
+use lib.ListN.{length, getD, take, drop}
+use Rattle.link_rules.specs.declared.link_idx.TrainIdx.{TrainIdx}
 use Rattle.disp_structs.specs.Train.{Train}
 use Rattle.disp_structs.specs.Values.{sameEst}
 use Rattle.disp_structs.specs.declared.EstIdx.{EstIdx}
@@ -13,11 +14,12 @@ use Rattle.disp_structs.specs.declared.DispNode.{DispNode}
 use Rattle.image.specs.Image.{estCount, divergeRoom, trainIdx, distDispPathSearch, distFixedMax, estAt, nodeAt, nodePlace}
 use Rattle.image.specs.declared.codec.PathHeader.{PathHeader}
 use Rattle.disp_structs.specs.declared.TrainIdxsView.{TrainIdxsView}
-use Rattle.free_path.specs.Base.{Res, ok, _>>_, need, walkFrom}
+use Rattle.free_path.specs.Base.{Res, ok, _>>=_, _>>_, need, room, walkFrom}
 use Rattle.free_path.specs.Columns.{divAt, trains}
 use Rattle.disp_structs.specs.Listed.{listed}
-use Rattle.train_update.specs.State.{Round, Search, viewOf}
+use Rattle.train_update.specs.State.{Round, Search, Turn, ends, again, viewOf, diverging, withPath, withDivNodes, withFixed, withFree}
 use Rattle.train_update.specs.Look.{Here}
+use Rattle.train_update.specs.Join.{freeIsCorrect}
 use Rattle.splice.specs.Parts.{DivsFit}
 use Rattle.splice.specs.Flags.{Below}
 use Rattle.splice.specs.declared.Reached.{Reached}
@@ -74,6 +76,23 @@ pub record JoinFits (img fresh dt dn nt nn : List ℕ) (h : PathHeader) (p : Rea
   pub newLinks : (i : ℕ) → i < p .«new_count» → Below (nodeAt fresh i .«link_event»)
   pub divs : DivsFit dt dn nt nn (h .«diverge_count») (p .«div_count») (divergeRoom img) (p .«div_split») (p .join)
 
+-- what a splice of the path at base may rely on
+pub record PathFits (img fresh : List ℕ) (h : PathHeader) (p : Reached) (base : ℕ) : Type 0 where
+  pub small : estCount img < 2 ^ 16
+  pub path : h .«path_count» ≤ estCount img
+  pub size : nodePlace (estCount img) (estCount img) ≤ length img
+  pub room : nodePlace (estCount fresh) (estCount img) ≤ length fresh
+  pub first : p .split ≤ base
+  pub inside : base ≤ h .«path_count»
+  pub rest : p .split + p .«new_count» + (h .«path_count» - base) ≤ estCount img
+
+-- the end of a join at base (600-631), for a train that has its offsets, its ends and its diverge nodes; d is the div_idx_split that is returned
+unfoldable pub finishAt : Train → List DispNode → Reached → ℕ → ℕ → Res Turn
+finishAt t new p base d = do
+  let path = take (p .split) (t .«disp_path») ++ new ++ drop base (t .«disp_path»)
+  freeIsCorrect path (p .free)
+  ok (ends (again (withFixed (withPath t path) (p .free)) (p .join) d))
+
 -- ---- a change of diverge nodes
 
 -- the asserts (503-507): nothing new, and the old path and a diverge node at the split node
@@ -87,6 +106,14 @@ atSplit img n p alt dn m =
 -- where the old diverge nodes of the split node end (508-514)
 unfoldable pub baseEnd : List ℕ → ℕ → Reached → EstIdx → List ℕ → List ℕ → ℕ → Res ℕ
 baseEnd img n p alt dt dn m = need (atSplit img n p alt dn m) >> walkFrom (λ d. not (eqb (d .«disp_node_idx») (p .split))) (listed m (divAt dt dn)) (p .«div_split» + 1)
+
+-- the trains that are taken, in place of the diverge nodes up to k (518-532)
+unfoldable pub changeAt : Train → Reached → Res (List TrainIdx) → ℕ → Res Turn
+changeAt t p taken k = do
+  ts ← taken
+  let ds = take (p .«div_split») (t .«div_nodes») ++ diverging (p .split) ts ++ drop k (t .«div_nodes»)
+  room (leb (length ds) (t .divergeRoom))
+  ok (ends (again (withFree (withDivNodes t ds) (t .«disp_node_idx_fixed»)) (p .split) (p .«div_split» + length ts)))
 
 -- the pool, the view of the next est, the alternate, and how much is new
 pub record Changes (pool : List ℕ) (count : ℕ) (other : EstIdx) (v : TrainIdxsView) (p : Reached) (here : Here) (s : Search) : Type 0 where

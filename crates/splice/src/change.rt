@@ -2,11 +2,12 @@
 ghost use mathlib.Core.Path.{_≡_};
 ghost use mathlib.Core.List.{List};
 ghost use Prim.Native.Nat.{ℕ, _<_};
-ghost use Rattle.free_path.specs.Columns.{answer};
+ghost use lib.ListN.{take};
+ghost use Rattle.free_path.specs.Columns.{answer, trains};
 ghost use Rattle.train_update.specs.State.{Round, Search, ends, again};
 ghost use Rattle.train_update.specs.Look.{Here};
-ghost use Rattle.train_update.specs.Moves.{changeDiverge};
-ghost use Rattle.splice.specs.Read.{trainOf, Stands, Changes, ChangeFits, atSplit, baseEnd};
+ghost use Rattle.train_update.specs.Moves.{trainsOf, changeDiverge};
+ghost use Rattle.splice.specs.Read.{trainOf, Stands, Changes, ChangeFits, atSplit, baseEnd, changeAt};
 use crate::Again;
 use crate::Reached;
 use crate::copies;
@@ -56,6 +57,63 @@ fn base_end(img: &[u8], n: u32, r: Reached, alt: EstIdx, dn: &[u16], m: usize) -
     diverge::walk_past(dn, m, r.div_split + 1, r.split)
 }
 
+// A header with total diverge nodes, and the next idx_split and div_idx_split.
+fn changed(h: PathHeader, total: u32, split: u32, div_split: usize) -> Again
+    ensures { λ a. ⌜ a ≡ record { code = 0; header = record { «path_count» = h .«path_count»; «diverge_count» = total; fixed = h .fixed; free = h .fixed; front = h .front; back = h .back }; split = split; «div_split» = «div_split» } ⌝ }
+{
+    let out = PathHeader {
+        path_count: h.path_count,
+        diverge_count: total,
+        fixed: h.fixed,
+        free: h.fixed,
+        front: h.front,
+        back: h.back,
+    };
+    Again {
+        code: 0,
+        header: out,
+        split: split,
+        div_split: div_split,
+    }
+}
+
+// The view's trains take the place of the diverge nodes up to k (518-532).
+fn change_at(
+    img: &[u8],
+    h: PathHeader,
+    r: Reached,
+    v: TrainIdxsView,
+    pool: &[u16],
+    count: usize,
+    dt: &mut [u16],
+    dn: &mut [u16],
+    nt: &mut [u16],
+    nn: &mut [u16],
+    k: usize,
+) -> Again
+    requires { ⌜ ChangeFits (now img) (now dt) (now dn) (now nt) (now nn) (now pool) count h r × (r .«div_split» < k) × (k < h .«diverge_count») ⌝ }
+    ensures { λ a. ⌜ answer (a .code) (ends (again (trainOf (now (img .entry)) (now (dt .exit)) (now (dn .exit)) (a .header)) (a .split) (a .«div_split»))) ≡ changeAt (trainOf (now (img .entry)) (now (dt .entry)) (now (dn .entry)) h) r (trainsOf (take count (trains (now (pool .entry)))) v) k ⌝ }
+{
+    let m = h.diverge_count as usize;
+    let b = v.idx_begin as usize;
+    let e = v.idx_end as usize;
+    if e < b {
+        return crate::stopped(13, h);
+    }
+    if count < e {
+        return crate::stopped(13, h);
+    }
+    let room = codec::diverge_room(img) as usize;
+    let total = r.div_split + (e - b) + (m - k);
+    if room < total {
+        return crate::stopped(11, h);
+    }
+    copies::copy_entries(pool, b, nt, 1, e - b);
+    diverge::fill_entries(nn, 1, e - b, r.split as u16);
+    diverge::splice_divs(dt, dn, nt, nn, e - b, r.div_split, k, m);
+    changed(h, total as u32, r.split, r.div_split + (e - b))
+}
+
 // The diverge nodes of the split node become those of the view's trains.
 pub fn change_diverge(
     img: &[u8],
@@ -76,56 +134,7 @@ pub fn change_diverge(
     let m = h.diverge_count as usize;
     let k = base_end(img, h.path_count, r, alt, dn, m);
     if k.code != 0 {
-        return Again {
-            code: k.code,
-            header: h,
-            split: 0,
-            div_split: 0,
-        };
+        return crate::stopped(k.code, h);
     }
-    let b = v.idx_begin as usize;
-    let e = v.idx_end as usize;
-    if e < b {
-        return Again {
-            code: 13,
-            header: h,
-            split: 0,
-            div_split: 0,
-        };
-    }
-    if count < e {
-        return Again {
-            code: 13,
-            header: h,
-            split: 0,
-            div_split: 0,
-        };
-    }
-    let room = codec::diverge_room(img) as usize;
-    let total = r.div_split + (e - b) + (m - k.at);
-    if room < total {
-        return Again {
-            code: 11,
-            header: h,
-            split: 0,
-            div_split: 0,
-        };
-    }
-    copies::copy_entries(pool, b, nt, 1, e - b);
-    diverge::fill_entries(nn, 1, e - b, r.split as u16);
-    diverge::splice_divs(dt, dn, nt, nn, e - b, r.div_split, k.at, m);
-    let out = PathHeader {
-        path_count: h.path_count,
-        diverge_count: total as u32,
-        fixed: h.fixed,
-        free: h.fixed,
-        front: h.front,
-        back: h.back,
-    };
-    Again {
-        code: 0,
-        header: out,
-        split: r.split,
-        div_split: r.div_split + (e - b),
-    }
+    change_at(img, h, r, v, pool, count, dt, dn, nt, nn, k.at)
 }

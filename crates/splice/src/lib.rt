@@ -8,6 +8,7 @@ pub mod join;
 pub mod links;
 pub mod path;
 
+ghost use mathlib.Core.Path.{_≡_};
 use image::codec::PathHeader;
 
 // Where the search of a round ended: idx_split_save, idx_split, div_idx_split, disp_node_idx_free, idx_join_new, and the counts of
@@ -28,4 +29,16 @@ pub struct Again {
     pub header: PathHeader,
     pub split: u32,
     pub div_split: usize,
+}
+
+// A round that stops with a refusal.
+fn stopped(code: u32, h: PathHeader) -> Again
+    ensures { λ a. ⌜ a .code ≡ code ⌝ }
+{
+    Again {
+        code: code,
+        header: h,
+        split: 0,
+        div_split: 0,
+    }
 }

@@ -18,7 +18,7 @@ same-length c = search needs
 returns : tie.Need-returns
 returns c =
     let a = c .before .before .before .before .before .args in (
-      (λ t p f b. helped-links t (listed (a .k) (nodeAt (now (a .fresh)))) (a .split) (a .base) (a .change) (listed (a .n) (nodeAt (now (a .img)))) (listed (a .n) (nodeAt (now (a .img)))) p _ (c .before .exchange-links .ensures .0) (c .if1 .taken) _),
+      (λ t p f b. helped-links t (listed (a .r .«new_count») (nodeAt (now (a .fresh)))) (a .r .split) (a .base) (a .change) (listed (a .h .«path_count») (nodeAt (now (a .img)))) (listed (a .h .«path_count») (nodeAt (now (a .img)))) p _ (c .before .exchange-links .ensures .0) (c .if1 .taken) _),
       record { size = refl; below = λ i h. refl },
       (λ z. absurd (c .if1 .taken z)),
     )
@@ -32,7 +32,7 @@ same-length-2 c = search needs
 returns-2 : tie.Need-returns-2
 returns-2 c =
     let a = c .before .before .before .before .before .before .before .before .before .before .args in (
-      (λ t p f b. helped-offsets t (listed (a .k) (nodeAt (now (a .fresh)))) (a .split) (a .base) (a .change) (listed (a .n) (nodeAt (now (a .img)))) _ p _ (c .before .before .before .before .before .before .exchange-links .ensures .0) (c .before .before .before .before .before .if1 .left) _ (c .before .before .before .update-offsets .ensures .0) (c .if2 .taken) _),
+      (λ t p f b. helped-offsets t (listed (a .r .«new_count») (nodeAt (now (a .fresh)))) (a .r .split) (a .base) (a .change) (listed (a .h .«path_count») (nodeAt (now (a .img)))) _ p _ (c .before .before .before .before .before .before .exchange-links .ensures .0) (c .before .before .before .before .before .if1 .left) _ (c .before .before .before .update-offsets .ensures .0) (c .if2 .taken) _),
       c .before .before .before .update-offsets .ensures .1,
       (λ z. absurd (c .if2 .taken z)),
     )
@@ -46,8 +46,8 @@ same-length-3 c = search needs
 returns-3 : tie.Need-returns-3
 returns-3 c =
     let a = c .before .before .before .before .before .before .before .before .before .before .before .before .args in
-    let x = listed (a .n) (nodeAt (c .before .before .before .before .before .update-offsets .last .0)) in (
-      (λ t p f b. helped-sides t (listed (a .k) (nodeAt (now (a .fresh)))) (a .split) (a .base) (a .change) (listed (a .n) (nodeAt (now (a .img)))) x p (c .before .before .before .before .before .before .before .before .exchange-links .result) (c .before .before .before .before .before .before .before .before .exchange-links .ensures .0) (c .before .before .before .before .before .before .before .if1 .left) (c .before .before .before .before .before .update-offsets .result) (c .before .before .before .before .before .update-offsets .ensures .0) (c .before .before .if2 .left) (c .front-back .result .code) (withFrontBack (withPath t x) (c .front-back .result .front) (c .front-back .result .back)) (c .front-back .ensures (withPath t x) refl f b)),
+    let x = listed (a .h .«path_count») (nodeAt (c .before .before .before .before .before .update-offsets .last .0)) in (
+      (λ t p f b. helped-sides t (listed (a .r .«new_count») (nodeAt (now (a .fresh)))) (a .r .split) (a .base) (a .change) (listed (a .h .«path_count») (nodeAt (now (a .img)))) x p (c .before .before .before .before .before .before .before .before .exchange-links .result) (c .before .before .before .before .before .before .before .before .exchange-links .ensures .0) (c .before .before .before .before .before .before .before .if1 .left) (c .before .before .before .before .before .update-offsets .result) (c .before .before .before .before .before .update-offsets .ensures .0) (c .before .before .if2 .left) (c .front-back .result .code) (withFrontBack (withPath t x) (c .front-back .result .front) (c .front-back .result .back)) (c .front-back .ensures (withPath t x) refl f b)),
       c .before .before .before .before .before .update-offsets .ensures .1,
       (λ z. c .before .before .before .before .before .before .before .before .exchange-links .ensures .1 (c .before .before .before .before .before .before .before .if1 .left)),
     )
