@@ -1,5 +1,5 @@
 -- div_idx_split over diverge nodes in columns, test by test as the code has them. Assumes nothing.
-use mathlib.Core.Path.{_≡_, refl, sym, ap, _∙_}
+use mathlib.Core.Path.{_≡_, refl, sym, ap, fun-ext, _∙_}
 use mathlib.Core.Logic.{_⊎_, inl, inr}
 use mathlib.Core.Bool.{Bool, true, false}
 use mathlib.Core.List.{List}
@@ -10,14 +10,18 @@ use lib.Dec.{ltb, leb, eqb}
 use lib.ListN.{getD}
 use borrow.Author.Tests.{eq-eqb, ne-eqb, lt-ltb, le-ltb, le-leb, lt-leb}
 use Rattle.disp_structs.specs.Listed.{listed}
+use Rattle.disp_structs.specs.Train.{Train}
+use Rattle.disp_structs.specs.declared.DispNode.{DispNode}
 use Rattle.disp_structs.specs.declared.DivergeNode.{DivergeNode}
-use Rattle.free_path.specs.Base.{Res, ok, no, _>>=_, need, at, before}
+use Rattle.free_path.specs.Base.{Res, ok, no, _>>=_, _>>_, need, at, before}
 use Rattle.free_path.specs.Columns.{divAt}
+use Rattle.free_path.specs.LinkOptType.{Sentinels}
 use Rattle.free_path.proofs.ColumnLaws.{listed-out}
 use Rattle.splice.proofs.ListLaws.{read-in, read-out, read-before}
-use Rattle.train_update.specs.Update.{atSentinel}
+use Rattle.train_update.specs.State.{Ended}
+use Rattle.train_update.specs.Update.{Given, atSentinel, divPoint, savePoint, searchAt, roundAt, searchRound, searchFrom, turnLimit}
 use Rattle.search.specs.Read.{divsOf}
-use Rattle.round_start.specs.Start.{partedAt}
+use Rattle.round_start.specs.Start.{partedAt, dividedAt}
 
 module _ {A : Type 0} (n : ℕ) (f : ℕ → A) where
   none-before : (i : ℕ) → i ≡ 0 → before (listed n f) i ≡ no 13
@@ -85,3 +89,43 @@ module _ (m : ℕ) (ts dn : List ℕ) (split k : ℕ) where
 
       pub parted-here : split < y → ok k ≡ partedAt (divsOf m ts dn) split k
       parted-here q = rw (le-leb x split l, ← r, lt-ltb split y q) at parted-reads
+
+-- ---- the search of a round, with these parts of it
+
+parted-then : {B : Type 0} (divs : List DivergeNode) (split d : ℕ) (k : ℕ → Res B)
+    → (before divs d >>= λ a. need (leb (a .«disp_node_idx») split) >> (at divs d >>= λ b. need (ltb split (b .«disp_node_idx»)) >> k d)) ≡ (partedAt divs split d >>= k)
+unfolding partedAt
+parted-then divs split d k = go (before divs d) (at divs d)
+  where
+    last : (t : Bool) → (need t >> k d) ≡ ((need t >>= λ _. ok d) >>= k)
+    last true = refl
+    last false = refl
+
+    behind : (y : Res DivergeNode) → (y >>= λ b. need (ltb split (b .«disp_node_idx»)) >> k d) ≡ ((y >>= λ b. need (ltb split (b .«disp_node_idx»)) >>= λ _. ok d) >>= k)
+    behind (ok b) = last (ltb split (b .«disp_node_idx»))
+    behind (no j) = refl
+
+    ahead : (t : Bool) (y : Res DivergeNode) → (need t >> (y >>= λ b. need (ltb split (b .«disp_node_idx»)) >> k d)) ≡ ((need t >>= λ _. y >>= λ b. need (ltb split (b .«disp_node_idx»)) >>= λ _. ok d) >>= k)
+    ahead true y = behind y
+    ahead false y = refl
+
+    go : (x y : Res DivergeNode)
+        → (x >>= λ a. need (leb (a .«disp_node_idx») split) >> (y >>= λ b. need (ltb split (b .«disp_node_idx»)) >> k d))
+        ≡ ((x >>= λ a. need (leb (a .«disp_node_idx») split) >>= λ _. y >>= λ b. need (ltb split (b .«disp_node_idx»)) >>= λ _. ok d) >>= k)
+    go (ok a) y = ahead (leb (a .«disp_node_idx») split) y
+    go (no j) y = refl
+
+module _ (g : Given) (t : Train) (split divSplit : ℕ) (z : Sentinels) where
+  pub round-is : searchRound g t split divSplit z
+      ≡ (at (t .«disp_path») split >>= λ n. dividedAt (t .«div_nodes») split divSplit z >>= λ d. savePoint (t .«disp_path») (t .«disp_node_idx_fixed») split >>= λ save. searchFrom (turnLimit t) (roundAt g t n split) (searchAt t split d save))
+  unfolding searchRound
+  round-is = ap (λ (f : DispNode → Res Ended). at (t .«disp_path») split >>= f) (fun-ext (λ n. each n (divPoint (t .«div_nodes») split divSplit z)))
+    where
+      searched : DispNode → ℕ → Res Ended
+      searched n d = savePoint (t .«disp_path») (t .«disp_node_idx_fixed») split >>= λ save. searchFrom (turnLimit t) (roundAt g t n split) (searchAt t split d save)
+
+      each : (n : DispNode) (x : Res ℕ)
+          → (x >>= λ d. before (t .«div_nodes») d >>= λ a. need (leb (a .«disp_node_idx») split) >> (at (t .«div_nodes») d >>= λ b. need (ltb split (b .«disp_node_idx»)) >> searched n d))
+          ≡ ((x >>= λ d. partedAt (t .«div_nodes») split d) >>= λ d. searched n d)
+      each n (ok d) = parted-then (t .«div_nodes») split d (searched n)
+      each n (no j) = refl

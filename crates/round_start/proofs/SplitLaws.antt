@@ -1,15 +1,18 @@
 -- The split point, test by test as the code has them. Assumes nothing.
 use mathlib.Core.Path.{_≡_}
+use mathlib.Core.Bool.{cond}
 use mathlib.Core.List.{List}
 use Prim.Native.Nat.{ℕ, _≤_, _<_}
 use borrow.Author.Tests.{lt-ltb, le-ltb, le-leb, lt-leb}
-use Rattle.free_path.specs.Base.{no}
+use Rattle.free_path.specs.Base.{ok, no}
+use Rattle.link_rules.specs.declared.link_idx.LinkIdx.{LinkIdx}
 use Rattle.disp_structs.specs.Listed.{listed}
+use Rattle.disp_structs.specs.Train.{Train}
 use Rattle.disp_structs.proofs.ListedLaws.{listed-length}
 use Rattle.free_path.specs.Columns.{linkAt}
-use Rattle.free_path.specs.LinkOptType.{findTrainIntersect}
+use Rattle.free_path.specs.LinkOptType.{linksOnPath, contains, linkIdxPath, findTrainIntersect}
 use Rattle.free_path.specs.declared.link_opt_type.LinkOptType.{LinkOptType}
-use Rattle.train_update.specs.Update.{searchBegin, meeting}
+use Rattle.train_update.specs.Update.{Given, apart, searchBegin, meeting, splitPoint}
 
 module _ (split free sentinel : ℕ) where
   pub begin-split : free ≤ split → split ≡ searchBegin split free sentinel
@@ -34,3 +37,9 @@ module _ (class : LinkOptType) (occ col : List ℕ) (n free split sentinel : ℕ
     pub meet-go : b < n → findTrainIntersect b sentinel class (listed n (linkAt col)) occ ≡ meeting class occ (listed n (linkAt col)) free split sentinel
     unfolding meeting
     meet-go k = rw (le-leb split sentinel h, ← e, listed-length n (linkAt col), lt-ltb b n k)
+
+-- idx_split as the code has it
+pub split-is : (g : Given) (t : Train) (links : List LinkIdx) → links ≡ linkIdxPath (t .«disp_path») → (split sentinel : ℕ)
+    → cond (apart (g .«link_opt_type») (contains (linksOnPath (t .«disp_path»)))) (ok sentinel) (meeting (g .«link_opt_type») (g .«links_blocked») links (t .«disp_node_idx_free») split sentinel) ≡ splitPoint g t split sentinel
+unfolding splitPoint
+split-is g t links q split sentinel = rw q

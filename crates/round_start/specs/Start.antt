@@ -1,11 +1,16 @@
--- The start of a round: div_idx_split with its asserts, and a round with another limit. Assumes nothing.
-use Prim.Native.Nat.{ℕ}
+-- The start of a round: div_idx_split with its asserts, a round with another limit, and paths whose links have flags. Assumes nothing.
+use mathlib.Core.Path.{_≡_}
+use mathlib.Core.Bool.{true}
+use Prim.Native.Nat.{ℕ, _<_}
 use mathlib.Core.List.{List}
 use lib.Dec.{ltb, leb}
 use Rattle.disp_structs.specs.declared.Metres.{Metres}
+use Rattle.disp_structs.specs.Values.{isArrive}
+use Rattle.disp_structs.specs.declared.DispNode.{DispNode}
 use Rattle.disp_structs.specs.declared.DivergeNode.{DivergeNode}
 use Rattle.free_path.specs.Base.{Res, ok, _>>=_, need, at, before}
 use Rattle.free_path.specs.LinkOptType.{Sentinels}
+use Rattle.train_update.specs.Accepted.{Each}
 use Rattle.train_update.specs.State.{Round}
 use Rattle.train_update.specs.Update.{divPoint}
 
@@ -20,3 +25,7 @@ dividedAt divs split divSplit z = divPoint divs split divSplit z >>= λ d. parte
 -- a round with another offset_cancel
 abbrev pub withLimit : Round → Metres → Round
 withLimit r m = record { train = r .train; «links_blocked» = r .«links_blocked»; «train_idx_moved» = r .«train_idx_moved»; «offset_cancel» = m; «idx_split_save» = r .«idx_split_save» }
+
+-- the link of an Arrive node is from 1 to 3,999
+abbrev pub Linked : List DispNode → Type 0
+Linked path = Each (λ (n : DispNode). isArrive (n .«link_event» .«est_type») ≡ true → (0 < n .«link_event» .«link_idx» .0) × (n .«link_event» .«link_idx» .0 < 4000)) path
