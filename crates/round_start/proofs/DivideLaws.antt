@@ -3,7 +3,7 @@ use mathlib.Core.Path.{_≡_, refl, sym, ap, fun-ext, _∙_}
 use mathlib.Core.Logic.{_⊎_, inl, inr}
 use mathlib.Core.Bool.{Bool, true, false}
 use mathlib.Core.List.{List}
-use Prim.Native.Nat.{ℕ, zero, suc, _-_, _≤_, _<_}
+use Prim.Native.Nat.{ℕ, zero, suc, _+_, _-_, _≤_, _<_}
 use native.Mathlib.Omega.{arith}
 use native.Mathlib.Nat.{eq-or-lt-of-le}
 use lib.Dec.{ltb, leb, eqb}
@@ -13,14 +13,15 @@ use Rattle.disp_structs.specs.Listed.{listed}
 use Rattle.disp_structs.specs.Train.{Train}
 use Rattle.disp_structs.specs.declared.DispNode.{DispNode}
 use Rattle.disp_structs.specs.declared.DivergeNode.{DivergeNode}
-use Rattle.free_path.specs.Base.{Res, ok, no, _>>=_, _>>_, need, at, before}
+use Rattle.free_path.specs.Base.{Res, ok, no, _>>=_, _>>_, need, at, before, walkFrom}
 use Rattle.free_path.specs.Columns.{divAt}
 use Rattle.free_path.specs.LinkOptType.{Sentinels}
 use Rattle.free_path.proofs.ColumnLaws.{listed-out}
-use Rattle.splice.proofs.ListLaws.{read-in, read-out, read-before}
+use Rattle.splice.proofs.ListLaws.{read-in, read-out, read-before, walk-miss, walk-none}
 use Rattle.train_update.specs.State.{Ended}
 use Rattle.train_update.specs.Update.{Given, atSentinel, divPoint, savePoint, searchAt, roundAt, searchRound, searchFrom, turnLimit}
 use Rattle.search.specs.Read.{divsOf}
+use Rattle.search.proofs.ListedLaws.{below-or-not}
 use Rattle.round_start.specs.Start.{partedAt, dividedAt}
 
 module _ {A : Type 0} (n : ℕ) (f : ℕ → A) where
@@ -89,6 +90,20 @@ module _ (m : ℕ) (ts dn : List ℕ) (split k : ℕ) where
 
       pub parted-here : split < y → ok k ≡ partedAt (divsOf m ts dn) split k
       parted-here q = rw (le-leb x split l, ← r, lt-ltb split y q) at parted-reads
+
+-- ---- the walk past every diverge node
+
+module _ (m : ℕ) (ts dn : List ℕ) (split : ℕ) (h : (j : ℕ) → getD dn j 0 ≤ split) where
+  pub none-above : (i : ℕ) → no 13 ≡ walkFrom (λ d. ltb split (d .«disp_node_idx»)) (divsOf m ts dn) i
+  none-above i = go m i (omega arith)
+    where
+      go : (k i : ℕ) → m ≤ i + k → no 13 ≡ walkFrom (λ d. ltb split (d .«disp_node_idx»)) (divsOf m ts dn) i
+      go zero i l = sym (walk-none (λ d. ltb split (d .«disp_node_idx»)) m (divAt ts dn) i (omega arith))
+      go (suc k) i l = turn (below-or-not i m) (go k (i + 1) (omega arith))
+        where
+          turn : (i < m) ⊎ (m ≤ i) → no 13 ≡ walkFrom (λ d. ltb split (d .«disp_node_idx»)) (divsOf m ts dn) (i + 1) → no 13 ≡ walkFrom (λ d. ltb split (d .«disp_node_idx»)) (divsOf m ts dn) i
+          turn (inl b) r = r ∙ walk-miss (λ d. ltb split (d .«disp_node_idx»)) m (divAt ts dn) i b (le-ltb split (getD dn i 0) (h i))
+          turn (inr b) r = sym (walk-none (λ d. ltb split (d .«disp_node_idx»)) m (divAt ts dn) i b)
 
 -- ---- the search of a round, with these parts of it
 

@@ -4,7 +4,7 @@ use search::Index;
 use splice::diverge;
 ghost use mathlib.Core.Path.{_≡_};
 ghost use mathlib.Core.List.{List};
-ghost use Prim.Native.Nat.{ℕ, _<_, _≤_, _^_};
+ghost use Prim.Native.Nat.{ℕ, _<_, _≤_};
 ghost use Rattle.free_path.specs.Columns.{answer};
 ghost use Rattle.train_update.specs.Update.{atSentinel, divPoint};
 ghost use Rattle.search.specs.Read.{divsOf};
@@ -26,7 +26,7 @@ fn at_sentinel(dn: &[u16], m: usize, split: usize, k: usize) -> Index
     Index { code: 0, index: k }
 }
 
-// div_idx_split; node and divs are the sentinels.
+// div_idx_split; node and divs are the sentinels. No diverge node is above 65,535.
 pub fn div_point(
     dn: &[u16],
     m: usize,
@@ -35,11 +35,13 @@ pub fn div_point(
     node: usize,
     divs: usize,
 ) -> Index
-    requires { ⌜ split < 2 ^ 32 ⌝ }
     ensures { λ x. ⌜ ((ts : List ℕ) → answer (x .code) (x .index) ≡ divPoint (divsOf m ts (now (dn .entry))) split «div_split» (record { node = node; divs = divs })) ⌝ }
 {
     if split == node {
         return at_sentinel(dn, m, split, divs);
+    }
+    if 65535 < split {
+        return Index { code: 13, index: 0 };
     }
     let k = diverge::walk_above(dn, m, div_split, split as u32);
     Index {
@@ -48,7 +50,7 @@ pub fn div_point(
     }
 }
 
-// div_idx_split, with the diverge node before it at or before the split node and the one at it behind.
+// div_idx_split with its asserts.
 pub fn div_at(
     dn: &[u16],
     m: usize,
@@ -57,7 +59,6 @@ pub fn div_at(
     node: usize,
     divs: usize,
 ) -> Index
-    requires { ⌜ split < 2 ^ 32 ⌝ }
     ensures { λ x. ⌜ ((ts : List ℕ) → answer (x .code) (x .index) ≡ dividedAt (divsOf m ts (now (dn .entry))) split «div_split» (record { node = node; divs = divs })) × (x .code ≡ 0 → (1 ≤ x .index) × (x .index < m)) ⌝ }
 {
     let d = div_point(dn, m, split, div_split, node, divs);
@@ -67,7 +68,7 @@ pub fn div_at(
     parted(dn, m, split, d.index)
 }
 
-// The asserts on the diverge nodes before and at k.
+// The diverge node before k is at most at the split node, and the one at k above it.
 fn parted(dn: &[u16], m: usize, split: usize, k: usize) -> Index
     ensures { λ x. ⌜ ((ts : List ℕ) → answer (x .code) (x .index) ≡ partedAt (divsOf m ts (now (dn .entry))) split k) × (x .code ≡ 0 → (1 ≤ x .index) × (x .index < m)) ⌝ }
 {

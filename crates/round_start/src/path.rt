@@ -6,7 +6,7 @@ use search::Index;
 use search::views;
 ghost use mathlib.Core.Path.{_≡_};
 ghost use mathlib.Core.Bool.{_&&_};
-ghost use Prim.Native.Nat.{ℕ, _<_, _≤_, _^_};
+ghost use Prim.Native.Nat.{ℕ, _<_, _≤_};
 ghost use lib.ListN.{length, replicate};
 ghost use Rattle.link_rules.specs.LinkIdx.{sameLink};
 ghost use Rattle.disp_structs.specs.Listed.{listed};
@@ -34,14 +34,14 @@ fn arrive_link(img: &[u8], i: u32) -> LinkIdx
 }
 
 // link_idx_path of the n nodes of the path, without its ending sentinel.
-pub fn link_path(img: &[u8], n: usize, col: &mut [u32])
-    requires { ⌜ (n < 2 ^ 32) × (n ≤ length (now col)) ⌝ }
+pub fn link_path(img: &[u8], n: u32, col: &mut [u32])
+    requires { ⌜ n ≤ length (now col) ⌝ }
     ensures { λ _. ⌜ listed n (linkAt (now (col .exit))) ≡ linkIdxPath (pathOf (now (img .entry)) n) ⌝ }
 {
-    let mut i = 0;
+    let mut i: u32 = 0;
     while i < n {
-        let l = arrive_link(img, i as u32);
-        col[i] = l.0;
+        let l = arrive_link(img, i);
+        col[i as usize] = l.0;
         i += 1;
     }
 }
@@ -59,14 +59,14 @@ pub fn clear_flags(on: &mut [u8])
 }
 
 // is_on_path of the n nodes of the path, whatever the flags were.
-pub fn mark_path(img: &[u8], n: usize, on: &mut [u8])
-    requires { ⌜ (n < 2 ^ 32) × ((i : ℕ) → i < n → nodeAt (now img) i .«est_idx» .0 < length (now on)) ⌝ }
+pub fn mark_path(img: &[u8], n: u32, on: &mut [u8])
+    requires { ⌜ ((i : ℕ) → i < n → nodeAt (now img) i .«est_idx» .0 < length (now on)) ⌝ }
     ensures { λ _. ⌜ Marked (now (on .exit)) (pathOf (now (img .entry)) n) ⌝ }
 {
     clear_flags(on);
-    let mut i = 0;
+    let mut i: u32 = 0;
     while i < n {
-        let e = codec::node_est_idx(img, i as u32);
+        let e = codec::node_est_idx(img, i);
         on[e.0 as usize] = 1;
         i += 1;
     }
@@ -87,13 +87,12 @@ fn arrives_at(img: &[u8], i: u32, l: LinkIdx) -> bool
 }
 
 // links_on_path.contains(l)
-pub fn on_path(img: &[u8], n: usize, l: LinkIdx) -> bool
-    requires { ⌜ n < 2 ^ 32 ⌝ }
+pub fn on_path(img: &[u8], n: u32, l: LinkIdx) -> bool
     ensures { λ r. ⌜ r ≡ contains (linksOnPath (pathOf (now (img .entry)) n)) l ⌝ }
 {
-    let mut i = 0;
+    let mut i: u32 = 0;
     while i < n {
-        if arrives_at(img, i as u32, l) {
+        if arrives_at(img, i, l) {
             return true;
         }
         i += 1;
@@ -102,8 +101,7 @@ pub fn on_path(img: &[u8], n: usize, l: LinkIdx) -> bool
 }
 
 // The train cannot intersect with the moved train.
-pub fn is_apart(class: LinkOptType, img: &[u8], n: usize) -> bool
-    requires { ⌜ n < 2 ^ 32 ⌝ }
+pub fn is_apart(class: LinkOptType, img: &[u8], n: u32) -> bool
     ensures { λ r. ⌜ r ≡ apart class (contains (linksOnPath (pathOf (now (img .entry)) n))) ⌝ }
 {
     match class {
@@ -117,12 +115,11 @@ pub fn is_apart(class: LinkOptType, img: &[u8], n: usize) -> bool
 // ---- the save node
 
 // From i on the first node that is no Fake.
-fn walk_fakes(img: &[u8], n: usize, from: usize) -> Index
-    requires { ⌜ n < 2 ^ 32 ⌝ }
+fn walk_fakes(img: &[u8], n: u32, from: usize) -> Index
     ensures { λ x. ⌜ (answer (x .code) (x .index) ≡ walkFrom notFake (pathOf (now (img .entry)) n) from) × (x .index ≤ n) ⌝ }
 {
     let mut k = from;
-    while k < n {
+    while k < n as usize {
         let e = codec::node_link_event(img, k as u32);
         let t = e.est_type;
         if !views::is_fake(t) {
@@ -134,9 +131,8 @@ fn walk_fakes(img: &[u8], n: usize, from: usize) -> Index
 }
 
 // idx_save
-pub fn save_point(img: &[u8], n: usize, fixed: usize, split: usize) -> Index
-    requires { ⌜ (n ≤ 512) × (fixed ≤ 512) ⌝ }
-    ensures { λ x. ⌜ (answer (x .code) (x .index) ≡ savePoint (pathOf (now (img .entry)) n) fixed split) × (x .index ≤ 512) ⌝ }
+pub fn save_point(img: &[u8], n: u32, fixed: usize, split: usize) -> Index
+    ensures { λ x. ⌜ (answer (x .code) (x .index) ≡ savePoint (pathOf (now (img .entry)) n) fixed split) × (n ≤ 512 → fixed ≤ 512 → x .index ≤ 512) ⌝ }
 {
     if fixed <= split {
         return Index {

@@ -5,7 +5,6 @@ use free_path::link_opt_type::LinkOptType;
 use search::Index;
 ghost use mathlib.Core.Path.{_≡_};
 ghost use mathlib.Core.Bool.{cond};
-ghost use Prim.Native.Nat.{_<_, _^_};
 ghost use Rattle.disp_structs.specs.Listed.{listed};
 ghost use Rattle.free_path.specs.Base.{ok};
 ghost use Rattle.free_path.specs.Columns.{answer, linkAt};
@@ -57,14 +56,13 @@ fn meeting(
 pub fn split_point(
     class: LinkOptType,
     img: &[u8],
-    n: usize,
+    n: u32,
     col: &[u32],
     occ: &[u16],
     free: usize,
     split: usize,
     sentinel: usize,
 ) -> Index
-    requires { ⌜ n < 2 ^ 32 ⌝ }
     ensures { λ x. ⌜ answer (x .code) (x .index) ≡ cond (apart class (contains (linksOnPath (pathOf (now (img .entry)) n)))) (ok sentinel) (Update.meeting class (now (occ .entry)) (listed n (linkAt (now (col .entry)))) free split sentinel) ⌝ }
 {
     if path::is_apart(class, img, n) {
@@ -73,5 +71,5 @@ pub fn split_point(
             index: sentinel,
         };
     }
-    meeting(class, col, n, occ, free, split, sentinel)
+    meeting(class, col, n as usize, occ, free, split, sentinel)
 }

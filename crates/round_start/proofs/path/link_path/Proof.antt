@@ -20,11 +20,11 @@ abbrev μ-loop : tie.MeasureT-loop
 loop-holds : tie.Need-loop-holds Inv-loop μ-loop
 loop-holds c = (refl, omega arith, λ j h. absurd (omega arith))
 
-cast-arrive-link : tie.Need-cast-arrive-link Inv-loop μ-loop
-cast-arrive-link c = search needs
-
 arrive-link-requires : tie.Need-arrive-link-requires Inv-loop μ-loop
 arrive-link-requires c κs = search needs
+
+cast-col : tie.Need-cast-col Inv-loop μ-loop
+cast-col c = search needs
 
 mul-col : tie.Need-mul-col Inv-loop μ-loop
 mul-col c = search needs
@@ -60,8 +60,8 @@ link-path-spec =
     Inv-loop
     μ-loop
     loop-holds
-    cast-arrive-link
     arrive-link-requires
+    cast-col
     mul-col
     slice-write-col
     add-i

@@ -20,10 +20,9 @@ clear-flags-requires : tie.Need-clear-flags-requires Inv-loop μ-loop
 clear-flags-requires c κs = search needs
 
 loop-holds : tie.Need-loop-holds Inv-loop μ-loop
-loop-holds c = let a = c .before .before .before .before .before .before .args in (refl, omega arith, mark-none (now (a .img)) (c .before .before .clear-flags .last .0) (length (now (a .on))) (c .before .before .clear-flags .ensures))
-
-cast-node-est-idx : tie.Need-cast-node-est-idx Inv-loop μ-loop
-cast-node-est-idx c = search needs
+loop-holds c =
+    let a = c .before .before .before .before .before .before .args in
+    (refl, omega arith, mark-none (now (a .img)) (c .before .before .clear-flags .last .0) (length (now (a .on))) (c .before .before .clear-flags .ensures))
 
 node-est-idx-requires : tie.Need-node-est-idx-requires Inv-loop μ-loop
 node-est-idx-requires c κs = search needs
@@ -37,7 +36,7 @@ slice-write-on c =
     let l = c .before .before .before .loop in
     let e = ap (λ (x : EstIdx). x .0) (c .before .node-est-idx .ensures) in
     let size = ap length (c .before .before .before .before .before .before .clear-flags .ensures) ∙ length-replicate {A = ℕ} (length (now (a .on))) 0 in
-    let inside = c .before .before .before .before .before .before .before .before .before .before .pre .1 (l .i) (omega arith) in
+    let inside = c .before .before .before .before .before .before .before .before .before .before .pre (l .i) (omega arith) in
     omega (arith, e, size, inside)
 
 add-i : tie.Need-add-i Inv-loop μ-loop
@@ -52,14 +51,18 @@ loop-again c =
     let l = c .before .before .before .loop in
     let e = ap (λ (x : EstIdx). x .0) (c .before .node-est-idx .ensures) in
     let size = ap length (c .before .before .before .before .before .before .clear-flags .ensures) ∙ length-replicate {A = ℕ} (length (now (a .on))) 0 in
-    let inside = c .before .before .before .before .before .before .before .before .before .before .pre .1 (l .i) (omega arith) in
+    let inside = c .before .before .before .before .before .before .before .before .before .before .pre (l .i) (omega arith) in
     (search needs, search needs, mark-turn (now (a .img)) (l .on) (l .i) (c .before .node-est-idx .result .0) e (omega (arith, e, size, inside)) (l .inv .2))
 
 same-length : tie.Need-same-length Inv-loop μ-loop
 same-length c = search needs
 
 returns : tie.Need-returns Inv-loop μ-loop
-returns c = let a = c .before .before .before .before .before .before .before .before .args in let l = c .before .loop in let e : l .i ≡ a .n = omega arith in subst (λ (k : ℕ). Marked (l .on) (pathOf (now (a .img)) k)) e (l .inv .2)
+returns c =
+    let a = c .before .before .before .before .before .before .before .before .args in
+    let l = c .before .loop in
+    let e : l .i ≡ a .n = omega arith in
+    subst (λ (k : ℕ). Marked (l .on) (pathOf (now (a .img)) k)) e (l .inv .2)
 
 pub mark-path-spec : {M : Type 1} → statement M
 mark-path-spec =
@@ -69,7 +72,6 @@ mark-path-spec =
     μ-loop
     clear-flags-requires
     loop-holds
-    cast-node-est-idx
     node-est-idx-requires
     cast-on
     slice-write-on

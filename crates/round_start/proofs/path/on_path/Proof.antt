@@ -20,9 +20,6 @@ abbrev μ-loop : tie.MeasureT-loop
 loop-holds : tie.Need-loop-holds Inv-loop μ-loop
 loop-holds c = refl
 
-cast-arrives-at : tie.Need-cast-arrives-at Inv-loop μ-loop
-cast-arrives-at c = search needs
-
 arrives-at-requires : tie.Need-arrives-at-requires Inv-loop μ-loop
 arrives-at-requires c κs = search needs
 
@@ -57,7 +54,6 @@ on-path-spec =
     Inv-loop
     μ-loop
     loop-holds
-    cast-arrives-at
     arrives-at-requires
     returns
     add-i
