@@ -48,6 +48,7 @@ pub fn link_path(img: &[u8], n: u32, col: &mut [u32])
 
 // ---- is_on_path
 
+// Every flag becomes 0.
 pub fn clear_flags(on: &mut [u8])
     ensures { λ _. ⌜ now (on .exit) ≡ replicate (length (now (on .entry))) 0 ⌝ }
 {
@@ -114,7 +115,7 @@ pub fn is_apart(class: LinkOptType, img: &[u8], n: u32) -> bool
 
 // ---- the save node
 
-// From i on the first node that is no Fake.
+// The first node at or after `from` that is no Fake.
 fn walk_fakes(img: &[u8], n: u32, from: usize) -> Index
     ensures { λ x. ⌜ (answer (x .code) (x .index) ≡ walkFrom notFake (pathOf (now (img .entry)) n) from) × (x .index ≤ n) ⌝ }
 {
