@@ -136,7 +136,7 @@ fn divs_at(
     )
 }
 
-// The path is spliced at base, and disp_node_idx_free becomes disp_node_idx_fixed; h has the numbers of the train before that (600-631).
+// The path is spliced at base, and disp_node_idx_fixed becomes disp_node_idx_free (600-631); h has the numbers of the train before that.
 fn finish_at(
     img: &mut [u8],
     fresh: &mut [u8],
