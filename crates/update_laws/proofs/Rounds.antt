@@ -152,7 +152,7 @@ after-node divs j node {z} h = ⊎-elim
     (λ c. sym (ap (λ (y : Sentinels). y .node) (ok-same (c .1))))
     (cond-cases (ltb j (length divs)) h)
 
-sentinel-low : (n room i : ℕ) (moved : TrainIdx) (divs : List DivergeNode) {z : Sentinels} → DivsAccepted n room divs → 1 ≤ n → 1 ≤ i → calcIdxSentinels i moved divs ≡ ok z → 1 ≤ z .node
+pub sentinel-low : (n room i : ℕ) (moved : TrainIdx) (divs : List DivergeNode) {z : Sentinels} → DivsAccepted n room divs → 1 ≤ n → 1 ≤ i → calcIdxSentinels i moved divs ≡ ok z → 1 ≤ z .node
 unfolding calcIdxSentinels
 sentinel-low n room i moved divs {z} g l m h =
     let a = need-ok (ltb i (length divs)) h in
@@ -182,7 +182,7 @@ begin-low split free sentinel l m = ⊎-elim
     least-low : (a b : ℕ) → 1 ≤ a → 1 ≤ b → 1 ≤ least a b
     least-low a b p q = ⊎-elim (λ c. rw c p) (λ c. rw c q) (two (leb a b))
 
-split-low : (g : Given) (t : Train) (split sentinel : ℕ) {i : ℕ} → 1 ≤ split → 1 ≤ sentinel → splitPoint g t split sentinel ≡ ok i → 1 ≤ i
+pub split-low : (g : Given) (t : Train) (split sentinel : ℕ) {i : ℕ} → 1 ≤ split → 1 ≤ sentinel → splitPoint g t split sentinel ≡ ok i → 1 ≤ i
 unfolding splitPoint meeting
 split-low g t split sentinel {i} l m h = ⊎-elim
     (λ c. omega (arith, ok-same (c .1)))
@@ -212,7 +212,7 @@ pub record Begun (links : ℕ) (occ : List ℕ) (t : Train) (e : Res Ended) : Ty
   pub searched : searchFrom (turnLimit t) round search ≡ e
 
 module _ (links : ℕ) (v : Given) (t : Train) (g : Accepted links t) where
-  save-low : (split : ℕ) {k : ℕ} → savePoint (t .«disp_path») (t .«disp_node_idx_fixed») split ≡ ok k → k ≤ length (t .«disp_path»)
+  pub save-low : (split : ℕ) {k : ℕ} → savePoint (t .«disp_path») (t .«disp_node_idx_fixed») split ≡ ok k → k ≤ length (t .«disp_path»)
   save-low split {k} h = ⊎-elim
       (λ c. omega (arith, ok-same (c .1), g .fixed))
       (λ c. let w = walk-ok notFake (t .«disp_path») split (c .1) in omega (arith, at-below (t .«disp_path») k (w .1)))

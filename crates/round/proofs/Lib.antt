@@ -1,0 +1,5 @@
+pub mod FitLaws
+pub mod EndLaws
+pub mod StartLaws
+pub mod SearchLaws
+pub mod RoundLaws
