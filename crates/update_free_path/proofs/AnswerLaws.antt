@@ -1,0 +1,81 @@
+-- The answer of an update by how its rounds ended. Assumes nothing.
+use mathlib.Core.Path.{_≡_, refl, sym, ap, _∙_}
+use mathlib.Core.Bool.{Bool, true, false, false≢true}
+use mathlib.Core.List.{List}
+use Prim.Native.Nat.{ℕ, zero, suc}
+use Rattle.disp_structs.specs.Train.{Train}
+use Rattle.image.specs.Codec.{storedInto}
+use Rattle.free_path.specs.Base.{Res, ok, no}
+use Rattle.free_path.specs.Columns.{answer}
+use Rattle.train_update.specs.Update as Update
+use Rattle.update_image.specs.UpdateImage.{UpdatedImage, leftImage, storedAnswer}
+use Rattle.update_free_path.specs.Updates.{statusOf, isRefusal, judgedBy, statusBy, ranBy, isRefused}
+use Rattle.update_free_path.specs.declared.rounds.Stop.{Stop}
+use Rattle.update_free_path.specs.declared.rounds.Stop.the-variants as Stops
+use Rattle.update_free_path.specs.declared.answer.Status.{Status}
+use Rattle.update_free_path.specs.declared.answer.Status.the-variants.{Success, Blocked, Faulty, Refused}
+
+-- ---- by the number of errors
+
+pub judged-no : (c n : ℕ) → (c ≡ 0 → ⊥) → Update.Refused c 0 ≡ judgedBy (answer c n)
+judged-no zero n q = absurd (q refl)
+judged-no (suc c) n q = refl
+
+pub judged-none : (c n : ℕ) → c ≡ 0 → n ≡ 0 → Update.Success ≡ judgedBy (answer c n)
+judged-none c n q z = rw (q, z)
+
+pub judged-some : (c n : ℕ) → c ≡ 0 → (n ≡ 0 → ⊥) → Update.Faulty n ≡ judgedBy (answer c n)
+judged-some c n q z = rw q (go n z)
+  where
+    go : (n : ℕ) → (n ≡ 0 → ⊥) → Update.Faulty n ≡ Update.statusOf n
+    go zero z = absurd (z refl)
+    go (suc n) z = refl
+
+-- ---- the image that is left
+
+module _ (t : Train) (img : List ℕ) where
+  pub left-refused : (s : Status) → isRefusal s ≡ true → img ≡ leftImage (statusOf s) t img
+  left-refused Success e = absurd (false≢true e)
+  left-refused Blocked e = absurd (false≢true e)
+  left-refused (Faulty n) e = absurd (false≢true e)
+  left-refused (Refused r) e = refl
+
+  pub left-done : (s : Status) → isRefusal s ≡ false → storedInto t img ≡ leftImage (statusOf s) t img
+  left-done Success e = refl
+  left-done Blocked e = refl
+  left-done (Faulty n) e = refl
+  left-done (Refused r) e = absurd (false≢true (sym e))
+
+-- an update that is not refused has ended so
+pub done-stop : (s : Status) (stop : Stop) (f : Res ℕ) → statusOf s ≡ statusBy stop f → isRefusal s ≡ false → isRefused stop ≡ false
+done-stop s (Stops.Refused c) f e q = absurd (false≢true (sym q ∙ told s ∙ ap told-of e))
+  where
+    told-of : Update.Status → Bool
+    told-of Update.Success = false
+    told-of Update.Blocked = false
+    told-of (Update.Faulty n) = false
+    told-of (Update.Refused n place) = true
+
+    told : (s : Status) → isRefusal s ≡ told-of (statusOf s)
+    told Success = refl
+    told Blocked = refl
+    told (Faulty n) = refl
+    told (Refused r) = refl
+done-stop s Stops.Blocked f e q = refl
+done-stop s Stops.Ended f e q = refl
+
+-- the answer and the image, as the definition has them
+module _ (rounds strays : ℕ) (was t : Train) (img : List ℕ) where
+  abbrev left : Update.Status → List ℕ → UpdatedImage
+  left s out = record { status = s; rounds = rounds; strays = strays; image = out }
+
+  by-stop : (stop : Stop) (f : Res ℕ) → left (statusBy stop f) (leftImage (statusBy stop f) t img) ≡ storedAnswer (ranBy stop f rounds strays was t) img
+  unfolding Update.finish
+  by-stop (Stops.Refused c) f = refl
+  by-stop Stops.Blocked f = refl
+  by-stop Stops.Ended (ok zero) = refl
+  by-stop Stops.Ended (ok (suc n)) = refl
+  by-stop Stops.Ended (no n) = refl
+
+  pub answered-is : (stop : Stop) (f : Res ℕ) (s : Update.Status) (out : List ℕ) → s ≡ statusBy stop f → out ≡ leftImage s t img → left s out ≡ storedAnswer (ranBy stop f rounds strays was t) img
+  answered-is stop f s out e q = ap (left s) q ∙ ap (λ (z : Update.Status). left z (leftImage z t img)) e ∙ by-stop stop f

@@ -1,0 +1,68 @@
+-- The public call: its refusals before the first round, and the copy on which it runs. Assumes nothing.
+use mathlib.Core.Path.{_≡_, refl, sym, ap, _∙_}
+use mathlib.Core.List.{List}
+use Prim.Native.Nat.{ℕ, zero, suc, _≤_, _<_}
+use native.Mathlib.Omega.{arith}
+use lib.ListN.{length}
+use Rattle.link_rules.proofs.OctetLaws.{Bytes}
+use Rattle.disp_structs.specs.Listed.{listed}
+use Rattle.disp_structs.specs.declared.DispNode.{DispNode}
+use Rattle.image.specs.Image.{estCount, divergeRoom, nodeAt, pathHeader}
+use Rattle.image.specs.Codec.{decoded}
+use Rattle.image.specs.declared.codec.PathHeader.{PathHeader}
+use Rattle.image_fault.specs.ImageFault.{imageFault}
+use Rattle.image_fault.specs.declared.Fault.{Fault}
+use Rattle.image_fault.proofs.AcceptLaws.{or-else-clean}
+use Rattle.free_path.specs.Base.{Res, at}
+use Rattle.free_path.proofs.ColumnLaws.{listed-out}
+use Rattle.train_update.specs.Update as Update
+use Rattle.update_image.specs.UpdateImage.{UpdatedImage, callFault, linkIdxs, updateFault, updatedImage, storedAnswer, refusedAnswer, answerBy}
+use Rattle.update_call.proofs.CallLaws.{call-links}
+use Rattle.update_call.proofs.StartLaws.{accepted-size}
+use Rattle.splice.specs.Read.{Kept}
+use Rattle.splice.proofs.NodeLaws.{kept-count, kept-le}
+use Rattle.update_free_path.specs.Updates.{Begins, updateOf}
+use Rattle.update_free_path.specs.declared.start.Order.{Order}
+
+-- what a store asks of the image and the copy
+pub kept-sizes : (img was image : List ℕ) → was ≡ image → Kept img was → (estCount image ≡ estCount img) × (divergeRoom image ≡ divergeRoom img)
+kept-sizes img was image e k = (ap estCount (sym e) ∙ sym (kept-count img was k), ap divergeRoom (sym e) ∙ sym (kept-le img was k 4 16 (omega arith)))
+
+module _ (img occ blocking : List ℕ) (o : Order) (f : Fault) (e : f ≡ updateFault img occ blocking (o .moved .0) (o .limit)) where
+  abbrev whole : UpdatedImage
+  whole = updatedImage img occ blocking (o .moved .0) (o .local) (o .limit)
+
+  by-fault : answerBy (f .number) (f .place) (updateOf img occ blocking o) img ≡ whole
+  unfolding updatedImage
+  by-fault = ap (λ (x : Fault). answerBy (x .number) (x .place) (updateOf img occ blocking o) img) e
+
+  -- refused by 2 to 9
+  pub refused-before : (f .number ≡ 0 → ⊥) → refusedAnswer (f .number) (f .place) img ≡ whole
+  refused-before q = go (f .number) (f .place) q ∙ by-fault
+    where
+      go : (n place : ℕ) → (n ≡ 0 → ⊥) → refusedAnswer n place img ≡ answerBy n place (updateOf img occ blocking o) img
+      go zero place q = absurd (q refl)
+      go (suc n) place q = refl
+
+  module _ (q : f .number ≡ 0) where
+    pub not-refused : storedAnswer (updateOf img occ blocking o) img ≡ whole
+    not-refused = ap (λ (n : ℕ). answerBy n (f .place) (updateOf img occ blocking o) img) (sym q) ∙ by-fault
+
+    module _ (h : PathHeader) (r : h ≡ pathHeader img) where
+      -- the train has finished its trip
+      pub refused-ten : h .«path_count» ≤ h .free → refusedAnswer 10 0 img ≡ whole
+      unfolding Update.updateFreePath decoded pathHeader
+      refused-ten l =
+          ap (λ (x : Res DispNode). storedAnswer (Update.updateFrom x occ (linkIdxs blocking) (o .moved) (o .local) (o .limit) (decoded img)) img)
+          (sym (listed-out (h .«path_count») (nodeAt img) (h .free) l) ∙ ap (λ (x : PathHeader). at (listed (x .«path_count») (nodeAt img)) (x .free)) r)
+          ∙ not-refused
+
+      clean : (callFault occ blocking (o .moved .0) (o .limit) .number ≡ 0) × (imageFault img (length occ) .number ≡ 0)
+      unfolding updateFault
+      clean = or-else-clean (callFault occ blocking (o .moved .0) (o .limit)) (imageFault img (length occ)) (ap (λ (x : Fault). x .number) (sym e) ∙ q)
+
+      pub begins : h .free < h .«path_count» → Begins img occ h
+      begins l = record { fault = clean .1; few = call-links occ blocking (o .moved .0) (o .limit) (clean .0) .1; header = r; free = l }
+
+      pub image-size : Bytes img → length img ≤ 36928
+      image-size b = accepted-size img (length occ) (clean .1) b .1

@@ -1,0 +1,4 @@
+pub mod AnswerLaws
+pub mod RoundsLaws
+pub mod StartLaws
+pub mod CallLaws

@@ -1,0 +1,265 @@
+-- The loop over rounds by how each round ends, and what it keeps of the train in the image. Assumes nothing.
+use mathlib.Core.Path.{_≡_, refl, sym, ap, _∙_}
+use mathlib.Core.Bool.{Bool, true, false, cond, _&&_, false≢true}
+use mathlib.Core.List.{List, [], _∷_}
+use Prim.Native.Nat.{ℕ, zero, suc, _+_, _-_, _≤_, _<_, _^_}
+use native.Mathlib.Omega.{arith}
+use lib.Dec.{ltb}
+use lib.ListN.{length, drop, length-drop}
+use borrow.Author.Tests.{ltb-true, ltb-false}
+use Rattle.link_rules.specs.declared.link_idx.LinkIdx.{LinkIdx}
+use Rattle.disp_structs.specs.Listed.{listed}
+use Rattle.disp_structs.specs.Train.{Train}
+use Rattle.disp_structs.proofs.ListedLaws.{listed-length}
+use Rattle.image_fault.proofs.ScanLaws.{both}
+use Rattle.image.specs.Image.{nodeAt}
+use Rattle.image.specs.declared.codec.PathHeader.{PathHeader}
+use Rattle.free_path.specs.Base.{Res, ok, count}
+use Rattle.free_path.specs.Columns.{linkAt, flagged}
+use Rattle.free_path.specs.LinkOptType.{linkIdxPath}
+use Rattle.free_path.specs.Validate.{strayLink}
+use Rattle.free_path.proofs.ColumnLaws.{listed-read}
+use Rattle.train_update.specs.State as State
+use Rattle.train_update.specs.State.{again}
+use Rattle.train_update.specs.Update as Update
+use Rattle.train_update.specs.Accepted.{Accepted}
+use Rattle.train_update.specs.Fits.{Fits}
+use Rattle.update_laws.proofs.Rounds.{round-good}
+use Rattle.update_laws.proofs.Updates.{round-fits}
+use Rattle.update_laws.specs.Ended.{StaysAccepted, NextRound}
+use Rattle.search.specs.Read.{pathOf, Marked}
+use Rattle.splice.specs.Read.{trainOf, Kept}
+use Rattle.splice.proofs.NodeLaws.{kept-count, kept-then}
+use Rattle.round_start.proofs.StrayLaws.{linked-accepted, count-strays}
+use Rattle.round.specs.Rounds as Rounds
+use Rattle.round.specs.Rounds.{givenOf, endBy, endedOf, isAtEnd}
+use Rattle.update_free_path.specs.Updates.{errorsOf, ranBy, betweenOf, dueAt, isLast, ranOf, stoppedBy, nextOf, closedAt, isRefused, Known, Top, roundsAt, Going, Ended}
+use Rattle.round.specs.declared.Given.{Given}
+use Rattle.round.specs.declared.End.{End}
+use Rattle.round.specs.declared.End.the-variants as Ends
+use Rattle.round.specs.declared.RoundEnd.{RoundEnd}
+use Rattle.update_free_path.specs.declared.rounds.Between.{Between}
+use Rattle.update_free_path.specs.declared.rounds.Ran.{Ran}
+use Rattle.update_free_path.specs.declared.rounds.Stop.the-variants as Stops
+
+-- ---- over trains
+
+abbrev ranIn : Update.Given → Train → Ran → Train → Update.Updated
+ranIn g was r t = ranBy (r .stop) (Update.faultsOf g t) (r .rounds) (r .strays) was t
+
+module _ (g : Update.Given) (was : Train) (w : Update.Between) where
+  abbrev rounded : Res State.Ended
+  rounded = Update.roundOf g (w .train) (w .«idx_split») (w .«div_idx_split»)
+
+  module _ (k : ℕ) (d : Update.due w ≡ true) where
+    entered : Update.afterRound rounded (λ x. Update.roundsFrom k g was x) g was w ≡ Update.roundsFrom (suc k) g was w
+    unfolding Update.roundsFrom
+    entered = rw d
+
+    -- another round follows
+    rounds-again : (u : Train) (i j s : ℕ) → ok (again u i j) ≡ rounded → s ≡ Update.straysOf g u
+        → Update.roundsFrom k g was (record { train = u; «idx_split» = i; «div_idx_split» = j; rounds = w .rounds + 1; strays = w .strays + s }) ≡ Update.roundsFrom (suc k) g was w
+    unfolding Update.afterRound
+    rounds-again u i j s e q =
+        ap (λ (z : ℕ). Update.roundsFrom k g was (record { train = u; «idx_split» = i; «div_idx_split» = j; rounds = w .rounds + 1; strays = w .strays + z })) q
+        ∙ ap (λ x. Update.afterRound x (λ y. Update.roundsFrom k g was y) g was w) e
+        ∙ entered
+
+    -- no other follows
+    rounds-stop : (e : End) (u : Train) (h : PathHeader) (i j s : ℕ) → isLast e ≡ true → endBy e u i j ≡ rounded → (isAtEnd e ≡ true → u ≡ w .train) → s ≡ Update.straysOf g (w .train)
+        → ranIn g was (stoppedBy e h (w .rounds + 1) (w .strays) s) u ≡ Update.roundsFrom (suc k) g was w
+    unfolding Update.afterRound
+    rounds-stop (Ends.Refused c) u h i j s a e l q = ap (λ x. Update.afterRound x (λ y. Update.roundsFrom k g was y) g was w) e ∙ entered
+    rounds-stop Ends.AtEnd u h i j s a e l q =
+        ap (λ (z : Train). Update.finish (Update.faultsOf g z) (w .rounds + 1) (w .strays + s) was z) (l refl)
+        ∙ ap (λ (z : ℕ). Update.finish (Update.faultsOf g (w .train)) (w .rounds + 1) (w .strays + z) was (w .train)) q
+        ∙ ap (λ x. Update.afterRound x (λ y. Update.roundsFrom k g was y) g was w) e
+        ∙ entered
+    rounds-stop Ends.Blocked u h i j s a e l q = ap (λ x. Update.afterRound x (λ y. Update.roundsFrom k g was y) g was w) e ∙ entered
+    rounds-stop Ends.Again u h i j s a e l q = absurd (false≢true a)
+
+  -- none is due
+  rounds-end : (k : ℕ) → Update.due w ≡ false → Update.finish (Update.faultsOf g (w .train)) (w .rounds) (w .strays) was (w .train) ≡ Update.roundsFrom k g was w
+  unfolding Update.roundsFrom
+  rounds-end zero d = rw d
+  rounds-end (suc k) d = rw d
+
+  rounds-limit : Update.due w ≡ true → Update.refused 12 (w .rounds) (w .strays) was ≡ Update.roundsFrom 0 g was w
+  unfolding Update.roundsFrom
+  rounds-limit d = rw d
+
+-- ---- strays
+
+count-few : {A : Type 0} (p : A → Bool) (xs : List A) → count p xs ≤ length xs
+unfolding count
+count-few p [] = omega arith
+count-few p (x ∷ xs) = let h = count-few p xs in go (p x) h
+  where
+    go : (t : Bool) → count p xs ≤ length xs → cond t 1 0 + count p xs ≤ suc (length xs)
+    go true h = omega arith
+    go false h = omega arith
+
+pub strays-few : {A : Type 0} (p : A → Bool) (n : ℕ) (f : ℕ → A) (i : ℕ) → count p (drop i (listed n f)) ≤ n
+strays-few p n f i = omega (arith, count-few p (drop i (listed n f)), length-drop i (listed n f), listed-length n f)
+
+-- ---- the train of an image
+
+module _ (occ img dt dn : List ℕ) (h : PathHeader) (a : Accepted (length occ) (trainOf img dt dn h)) where
+  pub path-few : h .«path_count» ≤ 512
+  unfolding trainOf
+  path-few = omega (arith, a .path .few, a .ests .few, listed-length (h .«path_count») (nodeAt img))
+
+  pub path-ests : (i : ℕ) → i < h .«path_count» → nodeAt img i .«est_idx» .0 < 512
+  unfolding trainOf
+  path-ests i l = omega (arith, a .ests .few, a .path .each i (nodeAt img i) (listed-read (h .«path_count») (nodeAt img) i l) .est)
+
+  pub strays-low : (col flags : List ℕ) (s : ℕ) → s ≡ count (strayLink occ (flagged flags)) (drop (h .free) (listed (h .«path_count») (linkAt col))) → s ≤ 512
+  strays-low col flags s e = omega (arith, path-few, strays-few (strayLink occ (flagged flags)) (h .«path_count») (linkAt col) (h .free))
+
+  pub strays-are : length occ ≤ 4000 → (col flags : List ℕ) → listed (h .«path_count») (linkAt col) ≡ linkIdxPath (pathOf img (h .«path_count»))
+      → (g : Given) (blocking start : List LinkIdx) → Known flags blocking start
+      → count (strayLink occ (flagged flags)) (drop (h .free) (listed (h .«path_count») (linkAt col))) ≡ Update.straysOf (givenOf g occ blocking start) (trainOf img dt dn h)
+  unfolding trainOf
+  strays-are l col flags q g blocking start k =
+      count-strays occ flags blocking start k (pathOf img (h .«path_count»)) (linked-accepted (length occ) _ (pathOf img (h .«path_count»)) l (a .path .each)) (listed (h .«path_count») (linkAt col)) q (h .free)
+
+pub due-turn : (w : Between) (limit : ℕ) → (ltb (w .rounds) limit && dueAt w) ≡ true → (w .rounds < limit) × (dueAt w ≡ true)
+due-turn w limit e = let b = both (ltb (w .rounds) limit) (dueAt w) e in (ltb-true (w .rounds) limit (b .0), b .1)
+
+due-same : (img dt dn : List ℕ) (w : Between) → Update.due (betweenOf img dt dn w) ≡ dueAt w
+unfolding trainOf
+due-same img dt dn w = ap (λ (n : ℕ). ltb (w .split) n) (listed-length (w .header .«path_count») (nodeAt img))
+
+again-end : (e : End) (t : Train) (i j : ℕ) → isLast e ≡ false → endBy e t i j ≡ ok (again t i j)
+again-end (Ends.Refused c) t i j a = absurd (false≢true (sym a))
+again-end Ends.AtEnd t i j a = absurd (false≢true (sym a))
+again-end Ends.Blocked t i j a = absurd (false≢true (sym a))
+again-end Ends.Again t i j a = refl
+
+pub kept-goes : (e : End) → isLast e ≡ false → Rounds.isRefused e ≡ false
+kept-goes (Ends.Refused c) a = absurd (false≢true (sym a))
+kept-goes Ends.AtEnd a = refl
+kept-goes Ends.Blocked a = refl
+kept-goes Ends.Again a = refl
+
+-- ---- a round of the train of an image
+
+abbrev ran-at : List ℕ → List ℕ → List ℕ → List ℕ → Train → Ran → Update.Updated
+ran-at occ img dt dn was r = ranBy (r .stop) (errorsOf img occ (r .header)) (r .rounds) (r .strays) was (trainOf img dt dn (r .header))
+
+stopped-at : (occ img dt dn : List ℕ) (g : Given) (blocking start : List LinkIdx) (was : Train) (e : End) (h : PathHeader) (n k s : ℕ)
+    → ran-at occ img dt dn was (stoppedBy e h n k s) ≡ ranIn (givenOf g occ blocking start) was (stoppedBy e h n k s) (trainOf img dt dn h)
+unfolding trainOf
+stopped-at occ img dt dn g blocking start was (Ends.Refused c) h n k s = refl
+stopped-at occ img dt dn g blocking start was Ends.AtEnd h n k s = refl
+stopped-at occ img dt dn g blocking start was Ends.Blocked h n k s = refl
+stopped-at occ img dt dn g blocking start was Ends.Again h n k s = refl
+
+stop-refused : (e : End) (h : PathHeader) (n k s : ℕ) → isRefused (stoppedBy e h n k s .stop) ≡ false → Rounds.isRefused e ≡ false
+stop-refused (Ends.Refused c) h n k s q = absurd (false≢true (sym q))
+stop-refused Ends.AtEnd h n k s q = refl
+stop-refused Ends.Blocked h n k s q = refl
+stop-refused Ends.Again h n k s q = refl
+
+module _ (occ img col on dt dn flags : List ℕ) (g : Given) (w : Between) (t : Top occ img col on dt dn w) where
+  abbrev train : Train
+  train = trainOf img dt dn (w .header)
+
+  abbrev given : List LinkIdx → List LinkIdx → Update.Given
+  given blocking start = givenOf g occ blocking start
+
+  module _ (img′ dt′ dn′ : List ℕ) (x : RoundEnd) (e : (blocking start : List LinkIdx) → endedOf x (trainOf img′ dt′ dn′ (x .header)) ≡ Update.roundOf (given blocking start) train (w .split) (w .«div_split»)) where
+    abbrev train′ : Train
+    train′ = trainOf img′ dt′ dn′ (x .header)
+
+    module _ (a : isLast (x .end) ≡ false) where
+      goes : (blocking start : List LinkIdx) → Update.roundOf (given blocking start) train (w .split) (w .«div_split») ≡ ok (again train′ (x .split) (x .«div_split»))
+      goes blocking start = sym (e blocking start) ∙ again-end (x .end) train′ (x .split) (x .«div_split») a
+
+      good : StaysAccepted (length occ) train train′ × NextRound train′ (x .split) (x .«div_split»)
+      good = round-good (length occ) (given [] []) train (t .held .accepted) (w .split) (w .«div_split») (t .split-low) (t .div-low) (goes [] [])
+
+      pub next-accepted : Accepted (length occ) train′
+      next-accepted = good .0 .accepted
+
+      next-fits : Fits (2 ^ 16) train′
+      next-fits = round-fits (length occ) (2 ^ 16) (given [] []) train (w .split) (w .«div_split») (again train′ (x .split) (x .«div_split»)) (t .held .accepted) (t .held .fits) (t .held .trains) (t .split-low) (t .div-low) (goes [] [])
+
+      -- the next round finds what this one found
+      pub next-top : Kept img′ img → (col′ on′ : List ℕ) → listed (x .header .«path_count») (linkAt col′) ≡ linkIdxPath (pathOf img′ (x .header .«path_count»)) → Marked on′ (pathOf img′ (x .header .«path_count»))
+          → (s : ℕ) → s ≤ 512 → Top occ img′ col′ on′ dt′ dn′ (nextOf w x s)
+      next-top k col′ on′ q m s l =
+          record {
+            held = record {
+              links = t .held .links;
+              accepted = next-accepted;
+              fits = next-fits;
+              trains = t .held .trains;
+              size = omega (arith, t .held .size, k .size, kept-count img′ img k);
+              marked = m;
+            };
+            column = q;
+            split-low = good .1 .low;
+            div-low = good .1 .point .low;
+            few = omega (arith, t .few);
+          }
+
+      next-same : (limit : ℕ) → w .rounds < limit → dueAt w ≡ true → (blocking start : List LinkIdx) (was : Train) (s : ℕ) → s ≡ Update.straysOf (given blocking start) train′
+          → roundsAt occ g blocking start limit img′ dt′ dn′ was (nextOf w x s) ≡ roundsAt occ g blocking start limit img dt dn was w
+      next-same limit l d blocking start was s q =
+          let n : limit - w .rounds ≡ suc (limit - (w .rounds + 1)) = omega arith in
+          rounds-again (given blocking start) was (betweenOf img dt dn w) (limit - (w .rounds + 1)) (due-same img dt dn w ∙ d) train′ (x .split) (x .«div_split») s (sym (goes blocking start)) q
+          ∙ ap (λ (z : ℕ). Update.roundsFrom z (given blocking start) was (betweenOf img dt dn w)) (sym n)
+
+    stop-same : isLast (x .end) ≡ true → (isAtEnd (x .end) ≡ true → train′ ≡ train) → (limit : ℕ) → w .rounds < limit → dueAt w ≡ true → (blocking start : List LinkIdx) (was : Train) (s : ℕ) → s ≡ Update.straysOf (given blocking start) train
+        → ran-at occ img′ dt′ dn′ was (stoppedBy (x .end) (x .header) (w .rounds + 1) (w .strays) s) ≡ roundsAt occ g blocking start limit img dt dn was w
+    stop-same a l limit r d blocking start was s q =
+        let n : limit - w .rounds ≡ suc (limit - (w .rounds + 1)) = omega arith in
+        stopped-at occ img′ dt′ dn′ g blocking start was (x .end) (x .header) (w .rounds + 1) (w .strays) s
+        ∙ rounds-stop (given blocking start) was (betweenOf img dt dn w) (limit - (w .rounds + 1)) (due-same img dt dn w ∙ d) (x .end) train′ (x .header) (x .split) (x .«div_split») s a (e blocking start) l q
+        ∙ ap (λ (z : ℕ). Update.roundsFrom z (given blocking start) was (betweenOf img dt dn w)) (sym n)
+
+    -- ---- what the loop keeps and answers
+
+    module _ (limit : ℕ) (img₀ dt₀ dn₀ : List ℕ) (w₀ : Between) (v : Going occ flags g limit img₀ dt₀ dn₀ w₀ img dt dn w) (r : w .rounds < limit) (d : dueAt w ≡ true) where
+      pub going-next : isLast (x .end) ≡ false → Kept img′ img → (col′ : List ℕ) → listed (x .header .«path_count») (linkAt col′) ≡ linkIdxPath (pathOf img′ (x .header .«path_count»))
+          → (s : ℕ) → s ≡ count (strayLink occ (flagged flags)) (drop (x .header .free) (listed (x .header .«path_count») (linkAt col′)))
+          → Going occ flags g limit img₀ dt₀ dn₀ w₀ img′ dt′ dn′ (nextOf w x s)
+      going-next a k col′ q s c =
+          record {
+            kept = kept-then img′ img img₀ k (v .kept);
+            same = λ blocking start f was.
+                next-same a limit r d blocking start was s (c ∙ strays-are occ img′ dt′ dn′ (x .header) (next-accepted a) (t .held .links) col′ flags q g blocking start f) ∙ v .same blocking start f was;
+          }
+
+      pub ended-stopped : isLast (x .end) ≡ true → (isAtEnd (x .end) ≡ true → train′ ≡ train) → (Rounds.isRefused (x .end) ≡ false → Kept img′ img)
+          → (s : ℕ) → s ≡ count (strayLink occ (flagged flags)) (drop (w .header .free) (listed (w .header .«path_count») (linkAt col)))
+          → Ended occ flags g limit img₀ dt₀ dn₀ w₀ img′ dt′ dn′ (stoppedBy (x .end) (x .header) (w .rounds + 1) (w .strays) s)
+      ended-stopped a l k s c =
+          record {
+            kept = λ q. kept-then img′ img img₀ (k (stop-refused (x .end) (x .header) (w .rounds + 1) (w .strays) s q)) (v .kept);
+            is = λ blocking start f was.
+                stop-same a l limit r d blocking start was s (c ∙ strays-are occ img dt dn (w .header) (t .held .accepted) (t .held .links) col flags (t .column) g blocking start f) ∙ v .same blocking start f was;
+          }
+
+pub going-start : (occ flags : List ℕ) (g : Given) (limit : ℕ) (img dt dn : List ℕ) (w : Between) → Going occ flags g limit img dt dn w img dt dn w
+going-start occ flags g limit img dt dn w = record { kept = record { size = refl; below = λ i h. refl }; same = λ blocking start f was. refl }
+
+first-false : (b : Bool) → (b && true) ≡ false → b ≡ false
+first-false true e = absurd (false≢true (sym e))
+first-false false e = refl
+
+-- no round follows
+pub ended-closed : (occ flags : List ℕ) (g : Given) (limit : ℕ) (img₀ dt₀ dn₀ : List ℕ) (w₀ : Between) (img dt dn : List ℕ) (w : Between)
+    → Going occ flags g limit img₀ dt₀ dn₀ w₀ img dt dn w → (ltb (w .rounds) limit && dueAt w) ≡ false → Ended occ flags g limit img₀ dt₀ dn₀ w₀ img dt dn (closedAt w)
+unfolding trainOf
+ended-closed occ flags g limit img₀ dt₀ dn₀ w₀ img dt dn w v q =
+    record { kept = λ _. v .kept; is = λ blocking start f was. go (dueAt w) refl blocking start was ∙ v .same blocking start f was }
+  where
+    go : (b : Bool) → dueAt w ≡ b → (blocking start : List LinkIdx) (was : Train)
+        → ran-at occ img dt dn was (cond b (ranOf (Stops.Refused 12) (w .header) (w .rounds) (w .strays)) (ranOf Stops.Ended (w .header) (w .rounds) (w .strays))) ≡ roundsAt occ g blocking start limit img dt dn was w
+    go true d blocking start was =
+        let m = ltb-false (w .rounds) limit (first-false (ltb (w .rounds) limit) (ap (λ (t : Bool). ltb (w .rounds) limit && t) (sym d) ∙ q)) in
+        let z : limit - w .rounds ≡ 0 = omega arith in
+        rounds-limit (givenOf g occ blocking start) was (betweenOf img dt dn w) (due-same img dt dn w ∙ d) ∙ ap (λ (n : ℕ). Update.roundsFrom n (givenOf g occ blocking start) was (betweenOf img dt dn w)) (sym z)
+    go false d blocking start was = rounds-end (givenOf g occ blocking start) was (betweenOf img dt dn w) (limit - w .rounds) (due-same img dt dn w ∙ d)

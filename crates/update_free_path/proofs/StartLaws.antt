@@ -1,0 +1,153 @@
+-- The first round of an update: its train is accepted, and the loop from there is the update of the image's train. Assumes nothing.
+use mathlib.Core.Path.{_≡_, refl, sym, ap, ap₂, subst, _∙_}
+use mathlib.Core.List.{List}
+use Prim.Native.Nat.{ℕ, _-_, _≤_, _<_}
+use native.Mathlib.Omega.{arith}
+use lib.ListN.{length, getD, drop, replicate}
+use Rattle.link_rules.specs.declared.link_idx.LinkIdx.{LinkIdx}
+use Rattle.link_rules.proofs.OctetLaws.{Bytes}
+use Rattle.disp_structs.specs.Listed.{listed}
+use Rattle.disp_structs.specs.Train.{Train}
+use Rattle.disp_structs.specs.declared.DispNode.{DispNode}
+use Rattle.image.specs.Image.{divergeCount, divergeAt, nodeAt, pathHeader}
+use Rattle.image.specs.Codec.{decoded}
+use Rattle.image.specs.declared.codec.PathHeader.{PathHeader}
+use Rattle.free_path.specs.Base.{Res, ok, no, at, count}
+use Rattle.free_path.specs.Columns.{link, links, linkAt, divAt, flagged, flagLinks, kept}
+use Rattle.free_path.specs.LinkOptType.{linksOnPath, contains, linkIdxPath, linkOptType}
+use Rattle.free_path.specs.Validate.{strayLink}
+use Rattle.free_path.specs.declared.link_opt_type.LinkOptType.{LinkOptType}
+use Rattle.free_path.proofs.ColumnLaws.{listed-read}
+use Rattle.train_update.specs.State.{withDivNodes}
+use Rattle.train_update.specs.Update as Update
+use Rattle.train_update.specs.Accepted.{Accepted}
+use Rattle.train_update.specs.Fits.{Fits}
+use Rattle.update_laws.proofs.Updates.{top-start}
+use Rattle.update_image.specs.UpdateImage.{linkIdxs}
+use Rattle.update_image.proofs.BytesAccepted.{bytes-accepted}
+use Rattle.update_call.proofs.StartLaws.{start-train, start-fits, accepted-size}
+use Rattle.update_call.proofs.RefusalLaws.{refused-number}
+use Rattle.round_start.specs.Start.{Linked}
+use Rattle.round_start.proofs.StrayLaws.{linked-accepted, class-flags, known-links}
+use Rattle.search.specs.Read.{pathOf, Marked}
+use Rattle.splice.specs.Read.{trainOf}
+use Rattle.round.specs.Rounds.{givenOf}
+use Rattle.update_free_path.specs.Updates.{errorsOf, statusBy, ranBy, betweenOf, Known, Top, roundsAt, Ended, startAt, givenAt, Begins, updateOf, Finished}
+use Rattle.round.specs.declared.Given.{Given}
+use Rattle.update_free_path.specs.declared.start.Order.{Order}
+use Rattle.update_free_path.specs.declared.rounds.Ran.{Ran}
+use Rattle.update_free_path.specs.declared.rounds.Stop.{Stop}
+use Rattle.update_free_path.specs.declared.rounds.Stop.the-variants as Stops
+use Rattle.update_free_path.proofs.RoundsLaws.{strays-are}
+
+-- the status of what the rounds end with
+status-ran : (stop : Stop) (f : Res ℕ) (rounds strays : ℕ) (was t : Train) → ranBy stop f rounds strays was t .status ≡ statusBy stop f
+unfolding Update.finish
+status-ran (Stops.Refused c) f rounds strays was t = refl
+status-ran Stops.Blocked f rounds strays was t = refl
+status-ran Stops.Ended (ok n) rounds strays was t = refl
+status-ran Stops.Ended (no n) rounds strays was t = refl
+
+module _ (img occ : List ℕ) (h : PathHeader) (b : Begins img occ h) (bytes : Bytes img) (held : (i : ℕ) → getD occ i 0 < 65536) where
+  good : Accepted (length occ) (decoded img)
+  good = bytes-accepted img (length occ) bytes (b .fault) .0
+
+  fitting : Fits 65536 (decoded img)
+  fitting = bytes-accepted img (length occ) bytes (b .fault) .1
+
+  pub begin-size : (1 ≤ h .«diverge_count») × (h .«diverge_count» ≤ 1024)
+  unfolding pathHeader
+  begin-size =
+      let z = accepted-size img (length occ) (b .fault) bytes in
+      let e : h .«diverge_count» ≡ divergeCount img = ap (λ (x : PathHeader). x .«diverge_count») (b .header) in
+      (omega (arith, z .4), omega (arith, z .3, z .5))
+
+  path-is : pathOf img (h .«path_count») ≡ decoded img .«disp_path»
+  unfolding decoded pathHeader
+  path-is = ap (λ (x : PathHeader). listed (x .«path_count») (nodeAt img)) (b .header)
+
+  free-is : h .free ≡ decoded img .«disp_node_idx_free»
+  unfolding decoded pathHeader
+  free-is = ap (λ (x : PathHeader). x .free) (b .header)
+
+  -- the first node of the free path
+  node-is : ok (nodeAt img (h .free)) ≡ at (decoded img .«disp_path») (decoded img .«disp_node_idx_free»)
+  node-is = sym (listed-read (h .«path_count») (nodeAt img) (h .free) (b .free)) ∙ ap₂ (λ (xs : List DispNode) (i : ℕ). at xs i) path-is free-is
+
+  module _ (o : Order) (small : o .moved .0 < 65536) (dt dn : List ℕ) (q : listed (h .«diverge_count») (divAt dt dn) ≡ Update.adjustSentinel (o .moved) (listed (h .«diverge_count») (divergeAt img))) where
+    begin-train : trainOf img dt dn h ≡ withDivNodes (decoded img) (Update.adjustSentinel (o .moved) (decoded img .«div_nodes»))
+    unfolding pathHeader
+    begin-train =
+        ap (trainOf img dt dn) (b .header)
+        ∙ start-train img dt dn (o .moved) (subst (λ (y : PathHeader). listed (y .«diverge_count») (divAt dt dn) ≡ Update.adjustSentinel (o .moved) (listed (y .«diverge_count») (divergeAt img))) (b .header) q)
+
+    pub begin-accepted : Accepted (length occ) (trainOf img dt dn h)
+    begin-accepted = subst (λ (y : Train). Accepted (length occ) y) (sym begin-train) (top-start (length occ) (o .moved) (decoded img) good .stays .accepted)
+
+    linked : Linked (pathOf img (h .«path_count»))
+    linked = subst Linked (sym path-is) (linked-accepted (length occ) _ (decoded img .«disp_path») (b .few) (good .path .each))
+
+    module _ (col : List ℕ) (c : listed (h .«path_count») (linkAt col) ≡ linkIdxPath (pathOf img (h .«path_count»))) where
+      pub begin-top : (on : List ℕ) → Marked on (pathOf img (h .«path_count»)) → (s : ℕ) → s ≤ 512 → Top occ img col on dt dn (startAt h s)
+      begin-top on m s l =
+          record {
+            held = record {
+              links = b .few;
+              accepted = begin-accepted;
+              fits = subst (λ (y : Train). Fits 65536 y) (sym begin-train) (start-fits img (o .moved) fitting small);
+              trains = λ i. held (i .0);
+              size = accepted-size img (length occ) (b .fault) bytes .0;
+              marked = m;
+            };
+            column = c;
+            split-low = omega arith;
+            div-low = omega arith;
+            few = omega arith;
+          }
+
+      module _ (blocking flags knowing : List ℕ) (f : flags ≡ flagLinks (listed (h .«path_count») (linkAt col)) (replicate 4000 0)) (k : knowing ≡ flagLinks (kept (flagged flags) (links blocking)) (replicate 4000 0)) where
+        abbrev begun : Given
+        begun = givenAt img blocking flags o (h .free)
+
+        abbrev first : List LinkIdx
+        first = linksOnPath (pathOf img (h .«path_count»))
+
+        abbrev given : Update.Given
+        given = Update.givenOf occ (linkIdxs blocking) (o .moved) (o .local) (decoded img) (nodeAt img (h .free))
+
+        knows : Known knowing (linkIdxs blocking) first
+        knows l _ _ = known-links (pathOf img (h .«path_count»)) linked (listed (h .«path_count») (linkAt col)) c flags f (links blocking) knowing k (link l)
+
+        given-is : givenOf begun occ (linkIdxs blocking) first ≡ given
+        unfolding decoded
+        given-is =
+            ap (λ (y : LinkOptType). make y first) (class-flags (pathOf img (h .«path_count»)) linked (listed (h .«path_count») (linkAt col)) c flags f (links blocking))
+            ∙ ap (λ (xs : List DispNode). make (linkOptType (links blocking) (contains (linksOnPath xs))) (linksOnPath xs)) path-is
+          where
+            make : LinkOptType → List LinkIdx → Update.Given
+            make y ls = record { «links_blocked» = occ; «train_idx_moved» = o .moved; «is_local» = o .local; «link_opt_type» = y; «offset_lowest» = begun .«offset_lowest»; «link_idxs_blocking» = linkIdxs blocking; linksAtStart = ls }
+
+        module _ (s : ℕ) (e : s ≡ count (strayLink occ (flagged knowing)) (drop (h .free) (listed (h .«path_count») (linkAt col)))) where
+          strays-is : s ≡ Update.straysOf given (decoded img)
+          strays-is =
+              e ∙ strays-are occ img dt dn h begin-accepted (b .few) col knowing c begun (linkIdxs blocking) first knows
+              ∙ ap₂ (λ (g : Update.Given) (t : Train). Update.straysOf g t) given-is begin-train
+
+          begin-is : roundsAt occ begun (linkIdxs blocking) first (o .limit) img dt dn (decoded img) (startAt h s) ≡ updateOf img occ blocking o
+          unfolding Update.updateFreePath
+          begin-is =
+              let z : o .limit - 0 ≡ o .limit = omega arith in
+              ap (λ (n : ℕ). Update.roundsFrom n (givenOf begun occ (linkIdxs blocking) first) (decoded img) (betweenOf img dt dn (startAt h s))) z
+              ∙ ap (λ (g : Update.Given). Update.roundsFrom (o .limit) g (decoded img) (betweenOf img dt dn (startAt h s))) given-is
+              ∙ ap₂ (λ (t : Train) (n : ℕ). Update.roundsFrom (o .limit) given (decoded img) (record { train = t; «idx_split» = 1; «div_idx_split» = 1; rounds = 0; strays = n })) begin-train strays-is
+              ∙ ap (λ (x : Res DispNode). Update.updateFrom x occ (linkIdxs blocking) (o .moved) (o .local) (o .limit) (decoded img)) node-is
+
+          pub finished : (img′ dt′ dn′ : List ℕ) (x : Ran) → Ended occ knowing begun (o .limit) img dt dn (startAt h s) img′ dt′ dn′ x → Finished img occ blocking o img′ dt′ dn′ x
+          finished img′ dt′ dn′ x v =
+              let r = v .is (linkIdxs blocking) first knows (decoded img) in
+              record {
+                kept = v .kept;
+                is = r ∙ begin-is;
+                named = λ n place y.
+                    omega (arith, refused-number (o .limit - 0) (givenOf begun occ (linkIdxs blocking) first) (decoded img) (betweenOf img dt dn (startAt h s)) n place (ap (λ (u : Update.Updated). u .status) (sym r) ∙ status-ran (x .stop) (errorsOf img′ occ (x .header)) (x .rounds) (x .strays) (decoded img) (trainOf img′ dt′ dn′ (x .header)) ∙ y) .0);
+              }

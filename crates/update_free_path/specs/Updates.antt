@@ -1,0 +1,185 @@
+-- The answer of an update over the bytes of an image, and what its loop over rounds begins with, keeps and answers. Assumes nothing.
+use Prim.Native.Nat.{ℕ, _+_, _*_, _-_, _≤_, _<_}
+use mathlib.Core.Path.{_≡_}
+use mathlib.Core.Bool.{Bool, true, false, cond}
+use mathlib.Core.List.{List}
+use lib.Dec.{ltb}
+use lib.ListN.{length}
+use Rattle.link_rules.specs.declared.link_idx.LinkIdx.{LinkIdx}
+use Rattle.disp_structs.specs.Listed.{listed}
+use Rattle.disp_structs.specs.Train.{Train}
+use Rattle.disp_structs.specs.Values.{minus}
+use Rattle.image.specs.Image.{nodeAt, distFixedMax, pathHeader}
+use Rattle.image.specs.Codec.{decoded}
+use Rattle.image_fault.specs.ImageFault.{imageFault}
+use Rattle.image.specs.declared.codec.PathHeader.{PathHeader}
+use Rattle.free_path.specs.Base.{Res, ok, no}
+use Rattle.free_path.specs.Columns.{link, links, linkAt, flagged}
+use Rattle.free_path.specs.LinkOptType.{contains, linkIdxPath, linkOptType}
+use Rattle.free_path.specs.Validate.{known, validateFreePath}
+use Rattle.train_update.specs.Update as Update
+use Rattle.update_image.specs.UpdateImage.{UpdatedImage, linkIdxs}
+use Rattle.validate.specs.Paths.{estsOf}
+use Rattle.search.specs.Read.{pathOf}
+use Rattle.splice.specs.Read.{trainOf, Kept}
+use Rattle.round.specs.Rounds.{Held, givenOf}
+use Rattle.round.specs.declared.Given.{Given}
+use Rattle.round.specs.declared.End.{End}
+use Rattle.round.specs.declared.End.the-variants as Ends
+use Rattle.round.specs.declared.RoundEnd.{RoundEnd}
+use Rattle.update_free_path.specs.declared.rounds.Between.{Between}
+use Rattle.update_free_path.specs.declared.rounds.Ran.{Ran}
+use Rattle.update_free_path.specs.declared.rounds.Stop.{Stop}
+use Rattle.update_free_path.specs.declared.rounds.Stop.the-variants as Stops
+use Rattle.update_free_path.specs.declared.start.Order.{Order}
+use Rattle.update_free_path.specs.declared.answer.Status.{Status}
+use Rattle.update_free_path.specs.declared.answer.Status.the-variants.{Success, Blocked, Faulty, Refused}
+use Rattle.update_free_path.specs.declared.answer.Updated.{Updated}
+
+-- ---- the answer
+
+abbrev pub statusOf : Status → Update.Status
+statusOf Success = Update.Success
+statusOf Blocked = Update.Blocked
+statusOf (Faulty n) = Update.Faulty n
+statusOf (Refused r) = Update.Refused (r .number) (r .place)
+
+-- with the image that is left
+abbrev pub updatedOf : Updated → List ℕ → UpdatedImage
+updatedOf x img = record { status = statusOf (x .status); rounds = x .rounds; strays = x .strays; image = img }
+
+abbrev pub isRefusal : Status → Bool
+isRefusal Success = false
+isRefusal Blocked = false
+isRefusal (Faulty n) = false
+isRefusal (Refused r) = true
+
+-- ---- the end of the loop over rounds
+
+-- the errors of the path of an image
+abbrev pub errorsOf : List ℕ → List ℕ → PathHeader → Res ℕ
+errorsOf img occ h = validateFreePath occ (estsOf img) (h .free) (pathOf img (h .«path_count»))
+
+abbrev pub judgedBy : Res ℕ → Update.Status
+judgedBy (ok n) = Update.statusOf n
+judgedBy (no n) = Update.Refused n 0
+
+-- f are the errors of the train that is left
+abbrev pub statusBy : Stop → Res ℕ → Update.Status
+statusBy (Stops.Refused c) f = Update.Refused c 0
+statusBy Stops.Blocked f = Update.Blocked
+statusBy Stops.Ended f = judgedBy f
+
+-- the same with the train t that is left, was being the train before the update
+abbrev pub ranBy : Stop → Res ℕ → ℕ → ℕ → Train → Train → Update.Updated
+ranBy (Stops.Refused c) f rounds strays was t = Update.refused c rounds strays was
+ranBy Stops.Blocked f rounds strays was t = Update.answered Update.Blocked rounds strays t
+ranBy Stops.Ended f rounds strays was t = Update.finish f rounds strays was t
+
+abbrev pub isRefused : Stop → Bool
+isRefused (Stops.Refused c) = true
+isRefused Stops.Blocked = false
+isRefused Stops.Ended = false
+
+-- a refusal that it may give has room in its field
+abbrev pub Named : Stop → Res ℕ → Type 0
+Named s f = (n place : ℕ) → statusBy s f ≡ Update.Refused n place → n < 65536
+
+-- ---- the loop over rounds
+
+abbrev pub betweenOf : List ℕ → List ℕ → List ℕ → Between → Update.Between
+betweenOf img dt dn w = record { train = trainOf img dt dn (w .header); «idx_split» = w .split; «div_idx_split» = w .«div_split»; rounds = w .rounds; strays = w .strays }
+
+abbrev pub dueAt : Between → Bool
+dueAt w = ltb (w .split) (w .header .«path_count»)
+
+-- no round follows one that ends so
+abbrev pub isLast : End → Bool
+isLast (Ends.Refused c) = true
+isLast Ends.AtEnd = true
+isLast Ends.Blocked = true
+isLast Ends.Again = false
+
+abbrev pub ranOf : Stop → PathHeader → ℕ → ℕ → Ran
+ranOf stop h rounds strays = record { stop = stop; header = h; rounds = rounds; strays = strays }
+
+-- by the end of the last round, s being the strays of its path
+abbrev pub stoppedBy : End → PathHeader → ℕ → ℕ → ℕ → Ran
+stoppedBy (Ends.Refused c) h rounds strays s = ranOf (Stops.Refused c) h rounds strays
+stoppedBy Ends.AtEnd h rounds strays s = ranOf Stops.Ended h rounds (strays + s)
+stoppedBy Ends.Blocked h rounds strays s = ranOf Stops.Blocked h rounds strays
+stoppedBy Ends.Again h rounds strays s = ranOf Stops.Ended h rounds strays
+
+-- after a round that another may follow, s being the strays of the path that it left
+abbrev pub nextOf : Between → RoundEnd → ℕ → Between
+nextOf w x s = record { header = x .header; split = x .split; «div_split» = x .«div_split»; rounds = w .rounds + 1; strays = w .strays + s }
+
+-- no round follows
+abbrev pub closedAt : Between → Ran
+closedAt w = cond (dueAt w) (ranOf (Stops.Refused 12) (w .header) (w .rounds) (w .strays)) (ranOf Stops.Ended (w .header) (w .rounds) (w .strays))
+
+-- the flags are those of the known links
+abbrev pub Known : List ℕ → List LinkIdx → List LinkIdx → Type 0
+Known flags blocking start = (l : ℕ) → 0 < l → l < 4000 → flagged flags (link l) ≡ known blocking (contains start) (link l)
+
+-- the arrays that the loop is lent
+pub record Sizes (col on dt dn : List ℕ) : Type 0 where
+  pub column : length col ≡ 512
+  pub flags : length on ≡ 512
+  pub trains : length dt ≡ 1024
+  pub nodes : length dn ≡ 1024
+
+-- at the top of a round: the train, its column of links and its flags
+pub record Top (occ img col on dt dn : List ℕ) (w : Between) : Type 0 where
+  pub held : Held occ img on dt dn (w .header)
+  pub column : listed (w .header .«path_count») (linkAt col) ≡ linkIdxPath (pathOf img (w .header .«path_count»))
+  pub split-low : 1 ≤ w .split
+  pub div-low : 1 ≤ w .«div_split»
+  pub few : w .strays ≤ 512 * (w .rounds + 1)
+
+-- the answer of the loop over rounds from w on
+abbrev pub roundsAt : List ℕ → Given → List LinkIdx → List LinkIdx → ℕ → List ℕ → List ℕ → List ℕ → Train → Between → Update.Updated
+roundsAt occ g blocking start limit img dt dn was w = Update.roundsFrom (limit - w .rounds) (givenOf g occ blocking start) was (betweenOf img dt dn w)
+
+-- the loop stands at w and began at w₀
+pub record Going (occ flags : List ℕ) (g : Given) (limit : ℕ) (img₀ dt₀ dn₀ : List ℕ) (w₀ : Between) (img dt dn : List ℕ) (w : Between) : Type 0 where
+  pub kept : Kept img img₀
+  pub same : (blocking start : List LinkIdx) → Known flags blocking start → (was : Train) → roundsAt occ g blocking start limit img dt dn was w ≡ roundsAt occ g blocking start limit img₀ dt₀ dn₀ was w₀
+
+-- the loop has ended with x: the answer, and an image in which a train can be stored
+pub record Ended (occ flags : List ℕ) (g : Given) (limit : ℕ) (img₀ dt₀ dn₀ : List ℕ) (w₀ : Between) (img dt dn : List ℕ) (x : Ran) : Type 0 where
+  pub kept : isRefused (x .stop) ≡ false → Kept img img₀
+  pub is : (blocking start : List LinkIdx) → Known flags blocking start → (was : Train)
+      → ranBy (x .stop) (errorsOf img occ (x .header)) (x .rounds) (x .strays) was (trainOf img dt dn (x .header)) ≡ roundsAt occ g blocking start limit img₀ dt₀ dn₀ was w₀
+
+-- ---- the first round
+
+abbrev pub startAt : PathHeader → ℕ → Between
+startAt h s = record { header = h; split = 1; «div_split» = 1; rounds = 0; strays = s }
+
+-- what an update does not change, flags being those of the links on the path, and free the first node of the free path
+abbrev pub givenAt : List ℕ → List ℕ → List ℕ → Order → ℕ → Given
+givenAt img blocking flags o free =
+    record {
+      «train_idx_moved» = o .moved;
+      «is_local» = o .local;
+      «link_opt_type» = linkOptType (links blocking) (flagged flags);
+      «offset_lowest» = minus (nodeAt img free .offset) (distFixedMax img);
+    }
+
+-- a call that is not refused before the first round
+pub record Begins (img occ : List ℕ) (h : PathHeader) : Type 0 where
+  pub fault : imageFault img (length occ) .number ≡ 0
+  pub few : length occ ≤ 4000
+  pub header : h ≡ pathHeader img
+  pub free : h .free < h .«path_count»
+
+-- the update of the train of an image
+abbrev pub updateOf : List ℕ → List ℕ → List ℕ → Order → Update.Updated
+updateOf img occ blocking o = Update.updateFreePath occ (linkIdxs blocking) (o .moved) (o .local) (o .limit) (decoded img)
+
+-- its rounds have ended with x
+pub record Finished (img₀ occ blocking : List ℕ) (o : Order) (img dt dn : List ℕ) (x : Ran) : Type 0 where
+  pub kept : isRefused (x .stop) ≡ false → Kept img img₀
+  pub is : ranBy (x .stop) (errorsOf img occ (x .header)) (x .rounds) (x .strays) (decoded img₀) (trainOf img dt dn (x .header)) ≡ updateOf img₀ occ blocking o
+  pub named : Named (x .stop) (errorsOf img occ (x .header))

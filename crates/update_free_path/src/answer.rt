@@ -1,0 +1,122 @@
+// The answer of an update, and the image that it leaves (free_path.rs 636-637).
+use crate::rounds::Ran;
+use crate::rounds::Stop;
+use image::codec::PathHeader;
+use image_store;
+use link_rules::refusal::Refusal;
+use validate;
+use validate::Errors;
+ghost use mathlib.Core.Path.{_≡_};
+ghost use mathlib.Core.Bool.{false};
+ghost use mathlib.Core.List.{List};
+ghost use Prim.Native.Nat.{ℕ, _<_};
+ghost use Rattle.disp_structs.specs.Train.{Train};
+ghost use Rattle.image.specs.Image.{estCount, divergeRoom};
+ghost use Rattle.free_path.specs.Columns as Columns;
+ghost use Rattle.train_update.specs.Update as Update;
+ghost use Rattle.update_image.specs.UpdateImage.{leftImage, storedAnswer, refusedAnswer};
+ghost use Rattle.splice.specs.Read.{trainOf};
+ghost use Rattle.update_free_path.specs.Updates.{statusOf, updatedOf, isRefusal, errorsOf, judgedBy, statusBy, ranBy, isRefused, Named};
+
+pub enum Status {
+    Success,
+    Blocked,
+    Faulty(u64),
+    Refused(Refusal),
+}
+
+pub struct Updated {
+    pub status: Status,
+    pub rounds: u16,
+    pub strays: u64,
+}
+
+fn refusal(number: u16, place: u16) -> Status
+    ensures { λ r. ⌜ statusOf r ≡ Update.Refused number place ⌝ }
+{
+    Status::Refused(Refusal {
+        number: number,
+        place: place,
+    })
+}
+
+// Refused before the first round.
+pub(crate) fn refused(number: u16, place: u16) -> Updated
+    ensures { λ r. ⌜ ((img : List ℕ) → updatedOf r img ≡ refusedAnswer number place img) ⌝ }
+{
+    Updated {
+        status: refusal(number, place),
+        rounds: 0,
+        strays: 0,
+    }
+}
+
+// By the number of errors of the free path.
+fn judged(e: Errors) -> Status
+    requires { ⌜ ((n place : ℕ) → judgedBy (Columns.answer (e .code) (e .count)) ≡ Update.Refused n place → n < 65536) ⌝ }
+    ensures { λ r. ⌜ statusOf r ≡ judgedBy (Columns.answer (e .code) (e .count)) ⌝ }
+{
+    if e.code != 0 {
+        return refusal(e.code as u16, 0);
+    }
+    if e.count == 0 {
+        return Status::Success;
+    }
+    Status::Faulty(e.count)
+}
+
+fn status_by(img: &[u8], occ: &[u16], stop: Stop, h: PathHeader) -> Status
+    requires { ⌜ Named stop (errorsOf (now img) (now occ) h) ⌝ }
+    ensures { λ r. ⌜ statusOf r ≡ statusBy stop (errorsOf (now (img .entry)) (now (occ .entry)) h) ⌝ }
+{
+    match stop {
+        Stop::Refused(c) => refusal(c as u16, 0),
+        Stop::Blocked => Status::Blocked,
+        Stop::Ended => judged(validate::validate_free_path(img, h.path_count, occ, h.free as u32)),
+    }
+}
+
+fn is_refusal(s: Status) -> bool
+    ensures { λ r. ⌜ r ≡ isRefusal s ⌝ }
+{
+    match s {
+        Status::Success => false,
+        Status::Blocked => false,
+        Status::Faulty(n) => false,
+        Status::Refused(r) => true,
+    }
+}
+
+// The train goes to the image unless the update is refused.
+fn leave(image: &mut [u8], img: &[u8], s: Status, h: PathHeader, dt: &[u16], dn: &[u16])
+    requires { ⌜ (isRefusal s ≡ false → (estCount (now image) ≡ estCount (now img)) × (divergeRoom (now image) ≡ divergeRoom (now img))) ⌝ }
+    ensures { λ _. ⌜ now (image .exit) ≡ leftImage (statusOf s) (trainOf (now (img .entry)) (now (dt .entry)) (now (dn .entry)) h) (now (image .entry)) ⌝ }
+{
+    if is_refusal(s) {
+        return;
+    }
+    image_store::store(image, img, h, dt, dn);
+}
+
+// The rounds have ended: what the update answers, and the image that it leaves.
+pub(crate) fn answered(
+    image: &mut [u8],
+    img: &[u8],
+    occ: &[u16],
+    r: Ran,
+    dt: &[u16],
+    dn: &[u16],
+) -> Updated
+    requires { ⌜ Named (r .stop) (errorsOf (now img) (now occ) (r .header)) × (isRefused (r .stop) ≡ false → (estCount (now image) ≡ estCount (now img)) × (divergeRoom (now image) ≡ divergeRoom (now img))) ⌝ }
+    ensures { λ x. ⌜ ((was : Train) → updatedOf x (now (image .exit)) ≡ storedAnswer (ranBy (r .stop) (errorsOf (now (img .entry)) (now (occ .entry)) (r .header)) (r .rounds) (r .strays) was (trainOf (now (img .entry)) (now (dt .entry)) (now (dn .entry)) (r .header))) (now (image .entry))) ⌝ }
+{
+    let stop = r.stop;
+    let h = r.header;
+    let s = status_by(img, occ, stop, h);
+    leave(image, img, s, h, dt, dn);
+    Updated {
+        status: s,
+        rounds: r.rounds,
+        strays: r.strays as u64,
+    }
+}

@@ -1,0 +1,192 @@
+// The loop over rounds (free_path.rs 278-635).
+use free_path::validate as counts;
+use image::codec::PathHeader;
+use round::End;
+use round::Given;
+use round::RoundEnd;
+use round::splitting;
+use round_start::path;
+ghost use mathlib.Core.Path.{_≡_};
+ghost use mathlib.Core.Bool.{_&&_};
+ghost use Prim.Native.Nat.{ℕ, _+_, _^_, _≤_, _<_};
+ghost use lib.Dec.{ltb};
+ghost use lib.ListN.{length, drop};
+ghost use Rattle.disp_structs.specs.Listed.{listed};
+ghost use Rattle.image.specs.Image.{nodeAt};
+ghost use Rattle.free_path.specs.Base.{count};
+ghost use Rattle.free_path.specs.Columns.{linkAt, flagged};
+ghost use Rattle.free_path.specs.LinkOptType.{linkIdxPath};
+ghost use Rattle.free_path.specs.Validate.{strayLink};
+ghost use Rattle.search.specs.Read.{pathOf, Marked};
+ghost use Rattle.update_free_path.specs.Updates.{dueAt, isLast, ranOf, stoppedBy, nextOf, closedAt, Sizes, Top, Ended};
+
+// Between two rounds: the header's numbers, idx_split and div_idx_split, and document 01's tally.
+pub struct Between {
+    pub header: PathHeader,
+    pub split: usize,
+    pub div_split: usize,
+    pub rounds: u16,
+    pub strays: usize,
+}
+
+// How the loop stops: refused by a number, blocked, or with a path to validate.
+pub enum Stop {
+    Refused(u32),
+    Blocked,
+    Ended,
+}
+
+pub struct Ran {
+    pub stop: Stop,
+    pub header: PathHeader,
+    pub rounds: u16,
+    pub strays: usize,
+}
+
+// Is another round due?
+fn is_due(w: Between) -> bool
+    ensures { λ r. ⌜ r ≡ dueAt w ⌝ }
+{
+    w.split < w.header.path_count as usize
+}
+
+fn goes_on(w: Between, limit: u16) -> bool
+    ensures { λ r. ⌜ r ≡ (ltb (w .rounds) limit && dueAt w) ⌝ }
+{
+    if w.rounds < limit {
+        return is_due(w);
+    }
+    false
+}
+
+// Does no round follow one that ends so?
+fn is_last(end: End) -> bool
+    ensures { λ r. ⌜ r ≡ isLast end ⌝ }
+{
+    match end {
+        End::Refused(c) => true,
+        End::AtEnd => true,
+        End::Blocked => true,
+        End::Again => false,
+    }
+}
+
+fn ran_with(stop: Stop, h: PathHeader, rounds: u16, strays: usize) -> Ran
+    ensures { λ r. ⌜ r ≡ ranOf stop h rounds strays ⌝ }
+{
+    Ran {
+        stop: stop,
+        header: h,
+        rounds: rounds,
+        strays: strays,
+    }
+}
+
+// A round has ended and no other follows; strays are those of its path.
+fn stopped(w: Between, end: End, h: PathHeader, strays: usize) -> Ran
+    requires { ⌜ (w .rounds + 1 < 2 ^ 16) × (w .strays + strays < 2 ^ 64) ⌝ }
+    ensures { λ r. ⌜ r ≡ stoppedBy end h (w .rounds + 1) (w .strays) strays ⌝ }
+{
+    let n = w.rounds + 1;
+    match end {
+        End::Refused(c) => ran_with(Stop::Refused(c), h, n, w.strays),
+        End::AtEnd => ran_with(Stop::Ended, h, n, w.strays + strays),
+        End::Blocked => ran_with(Stop::Blocked, h, n, w.strays),
+        End::Again => ran_with(Stop::Ended, h, n, w.strays),
+    }
+}
+
+// A round has ended and another may follow; strays are those of the path that it left.
+fn next(w: Between, x: RoundEnd, strays: usize) -> Between
+    requires { ⌜ (w .rounds + 1 < 2 ^ 16) × (w .strays + strays < 2 ^ 64) ⌝ }
+    ensures { λ r. ⌜ r ≡ nextOf w x strays ⌝ }
+{
+    let h = x.header;
+    Between {
+        header: h,
+        split: x.split,
+        div_split: x.div_split,
+        rounds: w.rounds + 1,
+        strays: w.strays + strays,
+    }
+}
+
+// No round follows: another one due is 12.
+fn closed(w: Between) -> Ran
+    ensures { λ r. ⌜ r ≡ closedAt w ⌝ }
+{
+    let h = w.header;
+    if is_due(w) {
+        return ran_with(Stop::Refused(12), h, w.rounds, w.strays);
+    }
+    ran_with(Stop::Ended, h, w.rounds, w.strays)
+}
+
+// The strays of the path of which col is link_idx_path.
+pub(crate) fn strays_of(col: &[u32], h: PathHeader, occ: &[u16], known: &[u8]) -> usize
+    ensures { λ r. ⌜ r ≡ count (strayLink (now (occ .entry)) (flagged (now (known .entry)))) (drop (h .free) (listed (h .«path_count») (linkAt (now (col .entry))))) ⌝ }
+{
+    counts::strays(col, h.path_count as usize, h.free as usize, occ, known)
+}
+
+// link_idx_path and is_on_path of the n nodes of the path.
+pub(crate) fn derive(img: &[u8], n: u32, col: &mut [u32], on: &mut [u8])
+    requires { ⌜ (n ≤ length (now col)) × ((i : ℕ) → i < n → nodeAt (now img) i .«est_idx» .0 < length (now on)) ⌝ }
+    ensures { λ _. ⌜ (listed n (linkAt (now (col .exit))) ≡ linkIdxPath (pathOf (now (img .entry)) n)) × Marked (now (on .exit)) (pathOf (now (img .entry)) n) ⌝ }
+{
+    path::link_path(img, n, col);
+    path::mark_path(img, n, on);
+}
+
+// Round after round, as many as the limit has. col and on are those of the path.
+pub(crate) fn rounds(
+    img: &mut [u8],
+    occ: &[u16],
+    known: &[u8],
+    g: Given,
+    start: Between,
+    limit: u16,
+    col: &mut [u32],
+    on: &mut [u8],
+    dt: &mut [u16],
+    dn: &mut [u16],
+) -> Ran
+    requires { ⌜ Sizes (now col) (now on) (now dt) (now dn) × Top (now occ) (now img) (now col) (now on) (now dt) (now dn) start ⌝ }
+    ensures { λ x. ⌜ Ended (now (occ .entry)) (now (known .entry)) g limit (now (img .entry)) (now (dt .entry)) (now (dn .entry)) start (now (img .exit)) (now (dt .exit)) (now (dn .exit)) x ⌝ }
+{
+    let mut fresh = [0u8; 16448];
+    let mut pool = [0u16; 2048];
+    let mut begins = [0u32; 512];
+    let mut ends = [0u32; 512];
+    let mut nt = [0u16; 1024];
+    let mut nn = [0u16; 1024];
+    let mut w = start;
+    while goes_on(w, limit) {
+        let x = splitting::round(
+            img,
+            &mut fresh,
+            occ,
+            col,
+            on,
+            g,
+            w.header,
+            w.split,
+            w.div_split,
+            dt,
+            dn,
+            &mut pool,
+            &mut begins,
+            &mut ends,
+            &mut nt,
+            &mut nn,
+        );
+        let end = x.end;
+        let h = x.header;
+        if is_last(end) {
+            return stopped(w, end, h, strays_of(col, w.header, occ, known));
+        }
+        derive(img, h.path_count, col, on);
+        w = next(w, x, strays_of(col, h, occ, known));
+    }
+    closed(w)
+}

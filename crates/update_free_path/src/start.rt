@@ -1,0 +1,86 @@
+// The first round of an update: what it finds, and the loop from there (free_path.rs 265-277).
+use crate::rounds;
+use crate::rounds::Between;
+use crate::rounds::Ran;
+use free_path::columns;
+use free_path::link_opt_type::LinkOptType;
+use image::codec::PathHeader;
+use link_rules::link_idx::TrainIdx;
+use round::Given;
+use update_call;
+ghost use mathlib.Core.Path.{_≡_};
+ghost use Prim.Native.Nat.{_≤_};
+ghost use lib.ListN.{length};
+ghost use Rattle.disp_structs.specs.Listed.{listed};
+ghost use Rattle.image.specs.Image.{divergeAt};
+ghost use Rattle.free_path.specs.Columns.{divAt};
+ghost use Rattle.train_update.specs.Update.{adjustSentinel};
+ghost use Rattle.update_free_path.specs.Updates.{startAt, givenAt, Begins, Finished};
+
+// What an update is told besides the image and the lists.
+pub struct Order {
+    pub moved: TrainIdx,
+    pub local: bool,
+    pub limit: u16,
+}
+
+// The m diverge nodes of the image, the last with the moved train.
+fn start_diverges(img: &[u8], m: u32, moved: TrainIdx, dt: &mut [u16], dn: &mut [u16])
+    requires { ⌜ (1 ≤ m) × (m ≤ length (now dt)) × (m ≤ length (now dn)) ⌝ }
+    ensures { λ _. ⌜ listed m (divAt (now (dt .exit)) (now (dn .exit))) ≡ adjustSentinel moved (listed m (divergeAt (now (img .entry)))) ⌝ }
+{
+    let n = m as usize;
+    update_call::take_diverges(img, n, dt, dn);
+    update_call::adjust_sentinel(dt, n, moved);
+}
+
+fn given_of(img: &[u8], blocking: &[u32], flags: &[u8], o: Order, free: u16) -> Given
+    ensures { λ r. ⌜ r ≡ givenAt (now (img .entry)) (now (blocking .entry)) (now (flags .entry)) o free ⌝ }
+{
+    let moved = o.moved;
+    Given {
+        train_idx_moved: moved,
+        is_local: o.local,
+        link_opt_type: LinkOptType::new(blocking, flags),
+        offset_lowest: update_call::offset_lowest(img, free as u32),
+    }
+}
+
+fn start_of(h: PathHeader, strays: usize) -> Between
+    ensures { λ r. ⌜ r ≡ startAt h strays ⌝ }
+{
+    Between {
+        header: h,
+        split: 1,
+        div_split: 1,
+        rounds: 0,
+        strays: strays,
+    }
+}
+
+// The rounds of an update of the train of an image, which is a copy.
+pub(crate) fn run(
+    img: &mut [u8],
+    occ: &[u16],
+    blocking: &[u32],
+    o: Order,
+    h: PathHeader,
+    dt: &mut [u16],
+    dn: &mut [u16],
+) -> Ran
+    requires { ⌜ Begins (now img) (now occ) h × (length (now dt) ≡ 1024) × (length (now dn) ≡ 1024) ⌝ }
+    ensures { λ x. ⌜ Finished (now (img .entry)) (now (occ .entry)) (now (blocking .entry)) o (now (img .exit)) (now (dt .exit)) (now (dn .exit)) x ⌝ }
+{
+    let moved = o.moved;
+    start_diverges(img, h.diverge_count, moved, dt, dn);
+    let mut col = [0u32; 512];
+    let mut on = [0u8; 512];
+    rounds::derive(img, h.path_count, &mut col, &mut on);
+    let mut flags = [0u8; 4000];
+    columns::flag_links(&mut flags, &col, h.path_count as usize);
+    let mut known = [0u8; 4000];
+    columns::flag_known(&mut known, blocking, &flags);
+    let g = given_of(img, blocking, &flags, o, h.free);
+    let w = start_of(h, rounds::strays_of(&col, h, occ, &known));
+    rounds::rounds(img, occ, &known, g, w, o.limit, &mut col, &mut on, dt, dn)
+}
