@@ -85,7 +85,8 @@ links-below l (y ∷ ys) h x c =
 -- ---- the refusals
 
 module _ (p q : ℕ → ℕ) (occ occ′ blocking blocking′ : List ℕ) (c : CallsMatch p q occ occ′ blocking blocking′) (moved limit : ℕ) where
-  call-fault-match : callFault occ′ blocking′ (q moved) limit ≡ callFault occ blocking moved limit
+  -- refused by 2, 4 or 5 alike
+  pub call-fault-match : callFault occ′ blocking′ (q moved) limit ≡ callFault occ blocking moved limit
   unfolding callFault
   call-fault-match =
       let n : length blocking′ ≡ length blocking = sym (perm-length (c .order)) ∙ length-map blocking p in

@@ -1,0 +1,2 @@
+pub mod Siding
+pub mod Examples

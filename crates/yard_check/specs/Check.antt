@@ -1,0 +1,208 @@
+-- The check over a yard (document 01, Check; check_deadlock, dispatch.rs 45-91): its refusals in order, the visits to the slots, the report, the answer. Assumes nothing.
+use Prim.Native.Nat.{ℕ, zero, suc, _+_, _*_, _-_}
+use mathlib.Core.Bool.{Bool, true, false, cond, not, _&&_}
+use mathlib.Core.List.{List}
+use lib.Dec.{ltb, leb, eqb}
+use lib.ListN.{length}
+use Rattle.link_rules.specs.Octets.{leAt, putLe}
+use Rattle.image.specs.Image.{pathCount}
+use Rattle.image_fault.specs.ImageFault.{noFault, refused, orElse, imageFault}
+use Rattle.image_fault.specs.declared.Fault.{Fault}
+use Rattle.train_update.specs.Update.{Status, Success, Blocked, Faulty, Refused as UpdateRefused}
+use Rattle.update_image.specs.UpdateImage.{UpdatedImage, callFault, updatedImage}
+use Rattle.yard_check.specs.Yard.{slotCount, partOf, withPart, yardFault}
+
+-- what a check is given beside the yard, the occupancy and the report
+pub record CheckArgs : Type 0 where
+  pub blocking : List ℕ
+  pub moved : ℕ
+  pub begin : ℕ
+  pub local : Bool
+  pub limit : ℕ
+
+-- ---- refusals 2, 4, 5, 14, 15 and 16, in this order, with place 0
+
+-- 15: moved above S, or begin outside 1 to S + 1
+unfoldable pub slotsFault : ℕ → CheckArgs → Fault
+slotsFault slots a = cond (leb (a .moved) slots && (leb 1 (a .begin) && leb (a .begin) (slots + 1))) noFault (refused 15 0)
+
+-- 16: the report has not 16 bytes for each slot
+unfoldable pub reportFault : ℕ → ℕ → Fault
+reportFault slots long = cond (eqb long (16 * slots)) noFault (refused 16 0)
+
+-- long is the length of the report
+unfoldable pub checkFault : List ℕ → List ℕ → CheckArgs → ℕ → Fault
+checkFault yard occ a long =
+    orElse (callFault occ (a .blocking) (a .moved) (a .limit))
+    (orElse (yardFault yard)
+    (orElse (slotsFault (slotCount yard) a)
+    (reportFault (slotCount yard) long)))
+
+-- ---- report (document 01): a record of 16 bytes for each slot
+
+-- u16 code, u16 place, rounds, holder; u32 strays, faults
+pub record Row : Type 0 where
+  pub code : ℕ
+  pub place : ℕ
+  pub rounds : ℕ
+  pub holder : ℕ
+  pub strays : ℕ
+  pub faults : ℕ
+
+-- columns that don't apply are 0
+abbrev pub plainRow : ℕ → Row
+plainRow code = record { code = code; place = 0; rounds = 0; holder = 0; strays = 0; faults = 0 }
+
+abbrev pub unvisitedRow : Row
+unvisitedRow = plainRow 0
+
+abbrev pub finishedRow : Row
+finishedRow = plainRow 1
+
+abbrev pub movedRow : Row
+movedRow = plainRow 2
+
+abbrev pub refusedRow : ℕ → ℕ → ℕ → ℕ → Row
+refusedRow n place rounds strays = record { code = 16 + n; place = place; rounds = rounds; holder = 0; strays = strays; faults = 0 }
+
+-- holder (document 01): of a blocked slot the moved train, else 0
+abbrev pub updatedRow : Status → ℕ → ℕ → ℕ → Row
+updatedRow Success moved rounds strays = record { code = 3; place = 0; rounds = rounds; holder = 0; strays = strays; faults = 0 }
+updatedRow Blocked moved rounds strays = record { code = 4; place = 0; rounds = rounds; holder = moved; strays = strays; faults = 0 }
+updatedRow (Faulty n) moved rounds strays = record { code = 5; place = 0; rounds = rounds; holder = 0; strays = strays; faults = n }
+updatedRow (UpdateRefused n place) moved rounds strays = refusedRow n place rounds strays
+
+abbrev pub isFinishedRow : Row → Bool
+isFinishedRow r = eqb (r .code) 1
+
+abbrev pub isBlockedRow : Row → Bool
+isBlockedRow r = eqb (r .code) 4
+
+-- faulty or refused
+abbrev pub isErredRow : Row → Bool
+isErredRow r = leb 5 (r .code)
+
+-- a row in the 16 bytes from place on, written and read
+unfoldable pub putRow : Row → ℕ → List ℕ → List ℕ
+putRow r at bs =
+    putLe 4 (r .faults) (at + 12)
+    (putLe 4 (r .strays) (at + 8)
+    (putLe 2 (r .holder) (at + 6)
+    (putLe 2 (r .rounds) (at + 4)
+    (putLe 2 (r .place) (at + 2)
+    (putLe 2 (r .code) at bs)))))
+
+unfoldable pub rowFrom : List ℕ → ℕ → Row
+rowFrom bs at =
+    record {
+      code = leAt 2 bs at;
+      place = leAt 2 bs (at + 2);
+      rounds = leAt 2 bs (at + 4);
+      holder = leAt 2 bs (at + 6);
+      strays = leAt 4 bs (at + 8);
+      faults = leAt 4 bs (at + 12);
+    }
+
+-- the report's record of slot t
+abbrev pub rowAt : List ℕ → ℕ → Row
+rowAt report t = rowFrom report (16 * (t - 1))
+
+-- ---- the visit to a slot (dispatch.rs 61-81)
+
+-- is_finished (train_disp/mod.rs 75-77): free equals N
+unfoldable pub isFinished : List ℕ → Bool
+isFinished img = eqb (leAt 2 img 36) (pathCount img)
+
+-- what a slot is reported with, and the image that is left in it
+pub record Visit : Type 0 where
+  pub row : Row
+  pub image : List ℕ
+
+abbrev pub visit : Row → List ℕ → Visit
+visit r img = record { row = r; image = img }
+
+-- refused by 6 to 9 (the number and its place), else finished, else moved, else updated
+abbrev pub visitBy : ℕ → ℕ → Bool → Bool → ℕ → UpdatedImage → List ℕ → Visit
+visitBy (suc n) place isDone isMoved moved u img = visit (refusedRow (suc n) place 0 0) img
+visitBy zero place true isMoved moved u img = visit finishedRow img
+visitBy zero place false true moved u img = visit movedRow img
+visitBy zero place false false moved u img = visit (updatedRow (u .status) moved (u .rounds) (u .strays)) (u .image)
+
+-- of slot t with this image
+unfoldable pub visited : List ℕ → CheckArgs → ℕ → List ℕ → Visit
+visited occ a t img =
+    let f = imageFault img (length occ) in
+    let u = updatedImage img occ (a .blocking) (a .moved) (a .local) (a .limit) in
+    visitBy (f .number) (f .place) (isFinished img) (eqb t (a .moved)) (a .moved) u img
+
+-- slots below begin are not visited
+unfoldable pub slotVisit : List ℕ → List ℕ → CheckArgs → ℕ → Visit
+slotVisit yard occ a t =
+    let img = partOf yard t in
+    let v = visited occ a t img in
+    cond (ltb t (a .begin)) (visit unvisitedRow img) v
+
+-- ---- all slots
+
+-- the yard and the report after slots 1 to n
+unfoldable pub yardAfter : List ℕ → List ℕ → CheckArgs → ℕ → List ℕ
+yardAfter yard occ a zero = yard
+yardAfter yard occ a (suc n) = withPart (yardAfter yard occ a n) (suc n) (slotVisit yard occ a (suc n) .image)
+
+unfoldable pub reportAfter : List ℕ → List ℕ → CheckArgs → List ℕ → ℕ → List ℕ
+reportAfter yard occ a report zero = report
+reportAfter yard occ a report (suc n) = putRow (slotVisit yard occ a (suc n) .row) (16 * n) (reportAfter yard occ a report n)
+
+-- how many of the slots 1 to n pass
+unfoldable pub howMany : (ℕ → Bool) → ℕ → ℕ
+howMany test zero = 0
+howMany test (suc n) = cond (test (suc n)) 1 0 + howMany test n
+
+-- the first of the k slots from t on that does not pass, or the one behind them
+unfoldable pub firstNot : (ℕ → Bool) → ℕ → ℕ → ℕ
+firstNot test zero t = t
+firstNot test (suc k) t = elim (test t) [ true ↦ firstNot test k (t + 1) | false ↦ t ]
+
+-- ---- the answer
+
+-- refused with its number and place; Erred with the number of faulty or refused slots; else the deadlock flag and the next begin
+pub data Answer : Type 0 where
+  Refused : ℕ → ℕ → Answer
+  Erred : ℕ → Answer
+  Done : Bool → ℕ → Answer
+
+abbrev pub answerBy : ℕ → Bool → ℕ → Answer
+answerBy zero deadlock next = Done deadlock next
+answerBy (suc n) deadlock next = Erred (suc n)
+
+-- deadlock: a visited slot is blocked. next begin: the first unfinished slot from begin, or S + 1
+unfoldable pub answerOf : (ℕ → Row) → ℕ → ℕ → Answer
+answerOf rows slots begin =
+    let next = firstNot (λ t. isFinishedRow (rows t)) (slots + 1 - begin) begin in
+    answerBy (howMany (λ t. isErredRow (rows t)) slots) (not (eqb (howMany (λ t. isBlockedRow (rows t)) slots) 0)) next
+
+-- the answer, and the yard and the report that are left
+pub record Checked : Type 0 where
+  pub answer : Answer
+  pub yard : List ℕ
+  pub report : List ℕ
+
+abbrev pub check : Answer → List ℕ → List ℕ → Checked
+check answer yard report = record { answer = answer; yard = yard; report = report }
+
+-- a refusal leaves the yard and the report
+abbrev pub checkedBy : ℕ → ℕ → Checked → List ℕ → List ℕ → Checked
+checkedBy zero place done yard report = done
+checkedBy (suc n) place done yard report = check (Refused (suc n) place) yard report
+
+unfoldable pub checkedWith : List ℕ → List ℕ → CheckArgs → List ℕ → Checked
+checkedWith yard occ a report =
+    let f = checkFault yard occ a (length report) in
+    let slots = slotCount yard in
+    let done = check (answerOf (λ t. slotVisit yard occ a t .row) slots (a .begin)) (yardAfter yard occ a slots) (reportAfter yard occ a report slots) in
+    checkedBy (f .number) (f .place) done yard report
+
+-- the yard, the occupancy, the blocking list, the moved train, begin, local, the round limit, the report
+abbrev pub checked : List ℕ → List ℕ → List ℕ → ℕ → ℕ → Bool → ℕ → List ℕ → Checked
+checked yard occ blocking moved begin local limit report =
+    checkedWith yard occ (record { blocking = blocking; moved = moved; begin = begin; local = local; limit = limit }) report

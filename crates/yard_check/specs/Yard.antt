@@ -1,0 +1,48 @@
+-- The yard (document 01, Layouts): u32 size, u32 S, S u32 offsets, then the images; slot t (1 to S) holds train t. Refusal 14. Assumes nothing.
+use Prim.Native.Nat.{ℕ, _+_, _*_, _-_}
+use mathlib.Core.Bool.{Bool, cond, _&&_}
+use mathlib.Core.List.{List, _++_}
+use lib.Dec.{ltb, leb, eqb}
+use lib.ListN.{length, take, drop}
+use Rattle.link_rules.specs.Octets.{leAt}
+use Rattle.link_rules.specs.Network.{allBelow}
+use Rattle.image_fault.specs.ImageFault.{noFault, refused}
+use Rattle.image_fault.specs.declared.Fault.{Fault}
+
+abbrev pub yardSize : List ℕ → ℕ
+yardSize yard = leAt 4 yard 0
+
+-- S
+abbrev pub slotCount : List ℕ → ℕ
+slotCount yard = leAt 4 yard 4
+
+-- ---- the part of slot t: from its offset up to the next slot's, the last up to the end of the yard
+
+abbrev pub partBegin : List ℕ → ℕ → ℕ
+partBegin yard t = leAt 4 yard (4 + 4 * t)
+
+unfoldable pub partEnd : List ℕ → ℕ → ℕ
+partEnd yard t = cond (ltb t (slotCount yard)) (partBegin yard (t + 1)) (length yard)
+
+-- the image of slot t: the slot's own part of the yard
+unfoldable pub partOf : List ℕ → ℕ → List ℕ
+partOf yard t = take (partEnd yard t - partBegin yard t) (drop (partBegin yard t) yard)
+
+-- the yard with another image in slot t
+unfoldable pub withPart : List ℕ → ℕ → List ℕ → List ℕ
+withPart yard t img = take (partBegin yard t) yard ++ (img ++ drop (partEnd yard t) yard)
+
+-- ---- 14: bad yard header, a part below 64 bytes, or wrong slot train
+
+-- at least 64 bytes, and the train in its header is the slot's
+unfoldable pub partFits : List ℕ → ℕ → Bool
+partFits yard t = leb (partBegin yard t + 64) (partEnd yard t) && eqb (leAt 2 yard (partBegin yard t + 32)) t
+
+-- the size is that of the whole buffer, S from 1 to 63, the first part right behind the offsets; the others follow without gaps
+unfoldable pub yardFits : List ℕ → Bool
+yardFits yard =
+    eqb (yardSize yard) (length yard) && (leb 1 (slotCount yard) && (leb (slotCount yard) 63 && (eqb (partBegin yard 1) (8 + 4 * slotCount yard)
+    && allBelow (slotCount yard) (λ i. partFits yard (i + 1)))))
+
+abbrev pub yardFault : List ℕ → Fault
+yardFault yard = cond (yardFits yard) noFault (refused 14 0)
