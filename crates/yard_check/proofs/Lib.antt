@@ -1,2 +1,11 @@
 pub mod Siding
 pub mod Examples
+pub mod SlotLaws
+pub mod PatchLaws
+pub mod VisitLaws
+pub mod YardLaws
+pub mod ReportLaws
+pub mod VisitMatch
+pub mod CheckMatch
+pub mod CallLaws
+pub mod DemandThree

@@ -1,2 +1,5 @@
 pub mod Yard
 pub mod Check
+pub mod YardMatch
+pub mod Calls
+pub mod DemandThree

@@ -1,0 +1,98 @@
+-- What a call leaves as it was: an occupancy of u16, and a yard past 14, of bytes, with as many slots. Assumes nothing.
+use mathlib.Core.Path.{_≡_, refl, _∙_}
+use mathlib.Core.Logic.{⊎-elim}
+use mathlib.Core.Bool.{Bool, true, false, cond}
+use mathlib.Core.List.{List, [], _∷_}
+use Prim.Native.Nat.{ℕ, zero, suc, _≤_, _<_}
+use native.Mathlib.Omega.{arith}
+use lib.Dec.{ltb}
+use lib.ListN.{length, getD, set}
+use lib.Seq.{getD-set-same, getD-set-other, set-out}
+use Rattle.link_rules.specs.LinkIdx.{noTrain, sameTrain, holder, hold, occupied}
+use Rattle.link_rules.specs.Network.{linkAt}
+use Rattle.link_rules.specs.AdvanceRewind.{holdAll, refilled, resetLinkTrainIdx, resetAll, updateLinksBlocked, markRefusal, markedBy, markOf}
+use Rattle.link_rules.specs.declared.link_idx.LinkIdx.{LinkIdx}
+use Rattle.link_rules.specs.declared.link_idx.TrainIdx.{TrainIdx}
+use Rattle.link_rules.proofs.OctetLaws.{Bytes}
+use Rattle.est_times.proofs.Counting.{same-or-not}
+use Rattle.image.proofs.Writers.{side}
+use Rattle.update_image.proofs.UpdateLeaves.{Trains16}
+use Rattle.yard_check.specs.Yard.{slotCount, yardFits}
+use Rattle.yard_check.specs.Check.{CheckArgs, checkFault, yardAfter, Checked, check, checkedBy, checkedWith, answerOf, reportAfter, slotVisit}
+use Rattle.yard_check.proofs.YardLaws.{fits, left, same-slots, after-fits, after-bytes}
+
+-- ---- mark and release keep an occupancy of u16
+
+halves-set : (occ : List ℕ) (k x : ℕ) → x < 65536 → Trains16 occ → Trains16 (set occ k x)
+halves-set occ k x l b i =
+    ⊎-elim
+    (λ (h : k < length occ). ⊎-elim
+    (λ (q : i ≡ k). rw q (omega (arith, getD-set-same occ k x 0 h)))
+    (λ (q : i ≡ k → ⊥). omega (arith, getD-set-other occ k i x 0 q, b i))
+    (same-or-not i k))
+    (λ (h : length occ ≤ k). rw (set-out occ k x h) (b i))
+    (side k (length occ))
+
+halves-cond : (v : Bool) (xs ys : List ℕ) → Trains16 xs → Trains16 ys → Trains16 (cond v xs ys)
+halves-cond true xs ys a b = a
+halves-cond false xs ys a b = b
+
+halves-hold : (occ : List ℕ) (ls : List LinkIdx) (t : TrainIdx) → t .0 < 65536 → Trains16 occ → Trains16 (holdAll occ ls t)
+unfolding holdAll
+halves-hold occ [] t l b = b
+halves-hold occ (x ∷ xs) t l b = halves-hold (hold occ x t) xs t l (halves-set occ (x .0) (t .0) l b)
+
+halves-refilled : (occ : List ℕ) (l : LinkIdx) (ls : List LinkIdx) → Trains16 occ → Trains16 (refilled occ l ls)
+unfolding refilled
+halves-refilled occ l [] b = b
+halves-refilled occ l (x ∷ xs) b = halves-cond (occupied occ x) _ _ (halves-set occ (l .0) (holder occ x .0) (b (x .0)) b) (halves-refilled occ l xs b)
+
+halves-reset : (tbl occ : List ℕ) (ls : List LinkIdx) → Trains16 occ → Trains16 (resetAll tbl occ ls)
+unfolding resetAll resetLinkTrainIdx
+halves-reset tbl occ [] b = b
+halves-reset tbl occ (l ∷ ls) b =
+    halves-reset tbl (resetLinkTrainIdx tbl occ l) ls
+    (halves-cond (ltb 1 (length (linkAt tbl l .«link_idxs_lockout»))) _ _ (halves-refilled occ l (linkAt tbl l .«link_idxs_lockout») b) b)
+
+halves-updated : (tbl occ : List ℕ) (l : LinkIdx) (t : TrainIdx) → t .0 < 65536 → Trains16 occ → Trains16 (updateLinksBlocked tbl occ l t)
+unfolding updateLinksBlocked
+halves-updated tbl occ l t h b =
+    let ls = linkAt tbl l .«idx_flip» ∷ linkAt tbl l .«link_idxs_lockout» in
+    let held = halves-hold occ ls t h b in
+    halves-cond (sameTrain t noTrain) _ _ (halves-reset tbl (holdAll occ ls t) ls held) held
+
+pub halves-marked : (tbl occ : List ℕ) (l : LinkIdx) (t : TrainIdx) → t .0 < 65536 → Trains16 occ → Trains16 (markOf tbl occ l t .occupancy)
+unfolding markOf
+halves-marked tbl occ l t h b = go (markRefusal tbl (length occ) l)
+  where
+    go : (n : ℕ) → Trains16 (markedBy n occ (updateLinksBlocked tbl occ l t) .occupancy)
+    go zero = halves-updated tbl occ l t h b
+    go (suc n) = b
+
+-- ---- a check keeps the yard's header
+
+module _ (yard occ : List ℕ) (a : CheckArgs) (report : List ℕ) (ok : yardFits yard ≡ true) where
+  abbrev after : List ℕ
+  after = checkedWith yard occ a report .yard
+
+  by : (P : List ℕ → Type 0) → P yard → P (yardAfter yard occ a (slotCount yard)) → P after
+  unfolding checkedWith
+  by P same new = go (checkFault yard occ a (length report) .number)
+    where
+      done : Checked
+      done = check (answerOf (λ t. slotVisit yard occ a t .row) (slotCount yard) (a .begin)) (yardAfter yard occ a (slotCount yard)) (reportAfter yard occ a report (slotCount yard))
+
+      go : (n : ℕ) → P (checkedBy n (checkFault yard occ a (length report) .place) done yard report .yard)
+      go zero = new
+      go (suc n) = same
+
+  pub fits-checked : yardFits after ≡ true
+  fits-checked = by (λ (x : List ℕ). yardFits x ≡ true) ok (after-fits yard occ a (fits yard ok) (slotCount yard) (omega arith) ∙ ok)
+
+  pub slots-checked : slotCount after ≡ slotCount yard
+  slots-checked =
+      by (λ (x : List ℕ). slotCount x ≡ slotCount yard) refl
+      (same-slots yard occ a (fits yard ok) (slotCount yard) (left yard occ a (fits yard ok) (slotCount yard) (omega arith)))
+
+  pub bytes-checked : Bytes yard → Bytes after
+  bytes-checked b = by (λ (x : List ℕ). Bytes x) b (after-bytes yard occ a (fits yard ok) (slotCount yard) (omega arith) b)

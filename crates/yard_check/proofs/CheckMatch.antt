@@ -1,0 +1,216 @@
+-- Demand 3 for one check: over a second numbering the same answer, and reports and yards that match. Assumes nothing.
+use mathlib.Core.Path.{_≡_, refl, sym, ap, ap₂, subst, _∙_}
+use mathlib.Core.Bool.{Bool, true, false, cond, not, _&&_}
+use mathlib.Core.List.{List}
+use Prim.Native.Nat.{ℕ, zero, suc, _+_, _*_, _-_, _%_, _≤_, _<_}
+use native.Mathlib.Omega.{arith}
+use lib.Dec.{leb, eqb, lit<}
+use lib.ListN.{length, getD}
+use borrow.Author.Tests.{eqb-true, eq-eqb, leb-true}
+use Rattle.link_rules.specs.LinkIdx.{noLink, occupied}
+use Rattle.link_rules.specs.Renumbering.{Renumbering}
+use Rattle.link_rules.specs.Matching.{OccupanciesMatch}
+use Rattle.link_rules.proofs.OctetLaws.{Bytes}
+use Rattle.link_rules.proofs.RenumberingLaws.{within}
+use Rattle.image.specs.ImageMatch.{ImagesMatch}
+use Rattle.image_fault.specs.ImageFault.{noFault, refused, orElse, imageFault}
+use Rattle.image_fault.specs.declared.Fault.{Fault}
+use Rattle.image_fault.proofs.ScanLaws.{both}
+use Rattle.image_fault.proofs.AcceptLaws.{or-else-clean}
+use Rattle.train_update.specs.Update.{Status, Success, Blocked, Faulty, Refused}
+use Rattle.update_image.specs.UpdateImage.{UpdatedImage, callFault, updatedImage}
+use Rattle.update_image.specs.UpdateMatch.{CallsMatch}
+use Rattle.update_image.proofs.UpdateLeaves.{Trains16}
+use Rattle.update_image.proofs.ImageRenumbering.{call-fault-match}
+use Rattle.yard_check.specs.Yard.{slotCount, partOf, yardFits, yardFault}
+use Rattle.yard_check.specs.Check.{CheckArgs, slotsFault, reportFault, checkFault, Row, updatedRow, isBlockedRow, isErredRow, isFinished, Visit, visitBy, visited, slotVisit, yardAfter, reportAfter, howMany, Answer, answerBy, answerOf, Checked, check, checkedBy, checkedWith}
+use Rattle.yard_check.specs.YardMatch.{YardsMatch, rRow, ReportsMatch, AnswersMatch, NotRefused, ArgsMatch}
+use Rattle.yard_check.specs.DemandThree.{Plain}
+use Rattle.yard_check.proofs.SlotLaws.{some, many-same, many-renumbered, leb-slots}
+use Rattle.yard_check.proofs.YardLaws.{Fits, fits, left, same-slots, part-bytes, part-done}
+use Rattle.yard_check.proofs.ReportLaws.{keptRow, report-length, report-row}
+use Rattle.yard_check.proofs.VisitMatch.{VisitsMatch, visit-match, visited-slot}
+
+-- ---- the holder of a row is 0 or the moved train
+
+holder-row : (s : Status) (moved rounds strays : ℕ) → updatedRow s moved rounds strays .holder ≤ moved
+holder-row Success moved rounds strays = omega arith
+holder-row Blocked moved rounds strays = omega arith
+holder-row (Faulty n) moved rounds strays = omega arith
+holder-row (Refused n i) moved rounds strays = omega arith
+
+holder-by : (n place : ℕ) (isDone isMoved : Bool) (moved : ℕ) (u : UpdatedImage) (img : List ℕ) → visitBy n place isDone isMoved moved u img .row .holder ≤ moved
+holder-by (suc n) place isDone isMoved moved u img = omega arith
+holder-by zero place true isMoved moved u img = omega arith
+holder-by zero place false true moved u img = omega arith
+holder-by zero place false false moved u img = holder-row (u .status) moved (u .rounds) (u .strays)
+
+holder-few : (occ : List ℕ) (a : CheckArgs) (t : ℕ) (img : List ℕ) → visited occ a t img .row .holder ≤ a .moved
+unfolding visited
+holder-few occ a t img =
+    holder-by (imageFault img (length occ) .number) (imageFault img (length occ) .place) (isFinished img) (eqb t (a .moved)) (a .moved)
+    (updatedImage img occ (a .blocking) (a .moved) (a .local) (a .limit)) img
+
+-- what the report keeps of a renumbered row
+kept-renumbered : (q : ℕ → ℕ) (r : Row) → r .holder < 65536 → q (r .holder) < 65536 → keptRow (rRow q r) ≡ rRow q (keptRow r)
+kept-renumbered q r h k =
+    let a : q (r .holder) % 65536 ≡ q (r .holder) = omega arith in
+    let b : r .holder % 65536 ≡ r .holder = omega arith in
+    rw (a, b)
+
+-- ---- answers
+
+answers : (k : ℕ) (d : Bool) (n n′ : ℕ) → AnswersMatch (answerBy k d n) (answerBy k d n′)
+answers zero d n n′ = refl
+answers (suc k) d n n′ = refl
+
+not-refused : (R : Type 0) → R → (k : ℕ) (d : Bool) (n : ℕ) → NotRefused R (answerBy k d n)
+not-refused R r zero d n = r
+not-refused R r (suc k) d n = r
+
+-- ---- the check
+
+-- the same answer, reports that match where it was not refused, and yards that match
+pub record ChecksMatch (p q : ℕ → ℕ) (slots : ℕ) (c c′ : Checked) : Type 0 where
+  pub answer : AnswersMatch (c .answer) (c′ .answer)
+  pub report : NotRefused (ReportsMatch q slots (c .report) (c′ .report)) (c .answer)
+  pub yards : YardsMatch p q (c .yard) (c′ .yard)
+
+module _ (p q : ℕ → ℕ) (yard yard′ occ occ′ : List ℕ) (a a′ : CheckArgs) (report report′ : List ℕ) (links : Renumbering (length occ - 1) p) (trains : Renumbering 65535 q)
+    (among : (t : ℕ) → t ≤ slotCount yard → q t ≤ slotCount yard) (ok : yardFits yard ≡ true) (ok′ : yardFits yard′ ≡ true) (m : YardsMatch p q yard yard′)
+    (o : OccupanciesMatch p q occ occ′) (b : Bytes yard) (b′ : Bytes yard′) (w : Trains16 occ) (g : ArgsMatch p q a a′) (long : length report′ ≡ length report) where
+  abbrev S : ℕ
+  S = slotCount yard
+
+  abbrev f : Fault
+  f = checkFault yard occ a (length report)
+
+  calls : CallsMatch p q occ occ′ (a .blocking) (a′ .blocking)
+  calls = record { links = links; lastTrain = 65535; fewTrains = lit< tt; trains = trains; occupancies = o; order = g .blocking }
+
+  -- the same refusal, or none in both
+  fault-same : checkFault yard′ occ′ a′ (length report′) ≡ f
+  unfolding checkFault slotsFault reportFault
+  fault-same =
+      rw (
+        g .moved,
+        g .limit,
+        g .begin,
+        call-fault-match p q occ occ′ (a .blocking) (a′ .blocking) calls (a .moved) (a .limit),
+        ok,
+        ok′,
+        m .slots,
+        leb-slots 65535 S q trains among (a .moved),
+        long,
+      )
+
+  module _ (clean : f .number ≡ 0) where
+    parts : (slotsFault S a .number ≡ 0) × (reportFault S (length report) .number ≡ 0)
+    unfolding checkFault
+    parts =
+        let x = or-else-clean (callFault occ (a .blocking) (a .moved) (a .limit)) _ clean .1 in
+        let y = or-else-clean (yardFault yard) _ x .1 in
+        or-else-clean (slotsFault S a) (reportFault S (length report)) y
+
+    moved-few : a .moved < 65536
+    unfolding slotsFault
+    moved-few = omega (arith, fits yard ok .few, leb-true (a .moved) S (both (leb (a .moved) S) _ (go (leb (a .moved) S && (leb 1 (a .begin) && leb (a .begin) (S + 1))) (parts .0)) .0))
+      where
+        go : (x : Bool) → cond x noFault (refused 15 0) .number ≡ 0 → x ≡ true
+        go true k = refl
+        go false k = absurd (omega arith)
+
+    report-long : length report ≡ 16 * S
+    unfolding reportFault
+    report-long = eqb-true (length report) (16 * S) (go (eqb (length report) (16 * S)) (parts .1))
+      where
+        go : (x : Bool) → cond x noFault (refused 16 0) .number ≡ 0 → x ≡ true
+        go true k = refl
+        go false k = absurd (omega arith)
+
+    module _ (begins : a .begin ≡ 1) (empty : getD occ 0 0 ≡ 0) (strays : (t : ℕ) → 1 ≤ t → t ≤ S → slotVisit yard occ a t .row .strays ≡ 0) where
+      abbrev row : ℕ → Row
+      row t = slotVisit yard occ a t .row
+
+      abbrev row′ : ℕ → Row
+      row′ t = slotVisit yard′ occ′ a′ t .row
+
+      zero-empty : occupied occ noLink ≡ false
+      unfolding occupied
+      zero-empty = ap not (eq-eqb (getD occ 0 0) 0 empty)
+
+      -- the renumbered slot
+      slot : (t : ℕ) → 1 ≤ t → t ≤ S → (1 ≤ q t) × (q t ≤ slotCount yard′)
+      slot t l k = (some 65535 S q trains t l, omega (arith, among t k, m .slots))
+
+      slots-match : (t : ℕ) → 1 ≤ t → t ≤ S → VisitsMatch p q (slotVisit yard occ a t) (slotVisit yard′ occ′ a′ (q t))
+      slots-match t l k =
+          let here = visited-slot yard occ a t begins l in
+          let there = visited-slot yard′ occ′ a′ (q t) (g .begin ∙ begins) (slot t l k .0) in
+          rw (here, there)
+          (visit-match p q occ occ′ a a′ g calls w moved-few zero-empty t (partOf yard t) (partOf yard′ (q t)) (m .images t l k)
+          (part-bytes yard (fits yard ok) t l k b) (part-bytes yard′ (fits yard′ ok′) (q t) (slot t l k .0) (slot t l k .1) b′)
+          (rw here at (strays t l k)))
+
+      -- as many rows of a kind that does not see the numbering
+      many : (test : Row → Bool) → ((r : Row) → test (rRow q r) ≡ test r) → howMany (λ t. test (row′ t)) S ≡ howMany (λ t. test (row t)) S
+      many test h =
+          sym (many-renumbered 65535 S q trains among (λ t. test (row′ t)))
+          ∙ many-same (λ t. test (row′ (q t))) (λ t. test (row t)) S (λ t l k. ap test (slots-match t l k .row) ∙ h (row t))
+
+      holder-fits : (t : ℕ) → 1 ≤ t → row t .holder < 65536
+      holder-fits t l = omega (arith, ap (λ (v : Visit). v .row .holder) (visited-slot yard occ a t begins l), holder-few occ a t (partOf yard t), moved-few)
+
+      reports : ReportsMatch q S (reportAfter yard occ a report S) (reportAfter yard′ occ′ a′ report′ (slotCount yard′))
+      reports =
+          record {
+            long = report-length yard′ occ′ a′ report′ (slotCount yard′) ∙ (long ∙ sym (report-length yard occ a report S));
+            rows = λ t l k.
+                let few = holder-fits t l in
+                report-row yard′ occ′ a′ report′ (slotCount yard′) (omega (arith, m .slots, long, report-long)) (q t) (slot t l k .0) (slot t l k .1)
+                ∙ (ap keptRow (slots-match t l k .row)
+                ∙ (kept-renumbered q (row t) few (omega (arith, within 65535 q trains (row t .holder) (omega arith)))
+                ∙ ap (rRow q) (sym (report-row yard occ a report S (omega (arith, report-long)) t l k))));
+          }
+
+      yards : YardsMatch p q (yardAfter yard occ a S) (yardAfter yard′ occ′ a′ (slotCount yard′))
+      yards =
+          let ft = fits yard ok in
+          let ft′ = fits yard′ ok′ in
+          let same = same-slots yard occ a ft S (left yard occ a ft S (omega arith)) in
+          let same′ = same-slots yard′ occ′ a′ ft′ (slotCount yard′) (left yard′ occ′ a′ ft′ (slotCount yard′) (omega arith)) in
+          record {
+            slots = same′ ∙ (m .slots ∙ sym same);
+            images = λ t l k.
+                let n : t ≤ S = omega (arith, same) in
+                rw (part-done yard occ a ft S (omega arith) t l n n, part-done yard′ occ′ a′ ft′ (slotCount yard′) (omega arith) (q t) (slot t l n .0) (slot t l n .1) (slot t l n .1))
+                (slots-match t l n .image);
+          }
+
+      done-match : ChecksMatch p q S (check (answerOf row S (a .begin)) (yardAfter yard occ a S) (reportAfter yard occ a report S))
+          (check (answerOf row′ (slotCount yard′) (a′ .begin)) (yardAfter yard′ occ′ a′ (slotCount yard′)) (reportAfter yard′ occ′ a′ report′ (slotCount yard′)))
+      unfolding answerOf
+      done-match =
+          record {
+            answer = rw (m .slots, many isErredRow (λ r. refl), many isBlockedRow (λ r. refl)) (answers (howMany (λ t. isErredRow (row t)) S) _ _ _);
+            report = not-refused _ reports (howMany (λ t. isErredRow (row t)) S) _ _;
+            yards = yards;
+          }
+
+  module _ (plain : f .number ≡ 0 → Plain yard occ a) where
+    abbrev done : Checked
+    done = check (answerOf (λ t. slotVisit yard occ a t .row) S (a .begin)) (yardAfter yard occ a S) (reportAfter yard occ a report S)
+
+    abbrev done′ : Checked
+    done′ = check (answerOf (λ t. slotVisit yard′ occ′ a′ t .row) (slotCount yard′) (a′ .begin)) (yardAfter yard′ occ′ a′ (slotCount yard′)) (reportAfter yard′ occ′ a′ report′ (slotCount yard′))
+
+    by : (n place : ℕ) → (n ≡ 0 → ChecksMatch p q S done done′) → ChecksMatch p q S (checkedBy n place done yard report) (checkedBy n place done′ yard′ report′)
+    by zero place h = h refl
+    by (suc n) place h = record { answer = (refl, refl); report = tt; yards = m }
+
+    -- the theorem, refused checks included
+    pub check-match : ChecksMatch p q S (checkedWith yard occ a report) (checkedWith yard′ occ′ a′ report′)
+    unfolding checkedWith
+    check-match =
+        subst (λ (x : Fault). ChecksMatch p q S (checkedBy (f .number) (f .place) done yard report) (checkedBy (x .number) (x .place) done′ yard′ report′)) (sym fault-same)
+        (by (f .number) (f .place) (λ e. let k = plain e in done-match e (k .begin) (k .zero-empty) (k .strays)))

@@ -1,0 +1,103 @@
+-- What a visit leaves: an image of the same length and train, and bytes. Assumes nothing.
+use mathlib.Core.Path.{_≡_, refl, ap, _∙_}
+use mathlib.Core.Logic.{_⊎_, inl, inr}
+use mathlib.Core.Bool.{Bool, true, false, cond}
+use mathlib.Core.List.{List}
+use Prim.Native.Nat.{ℕ, zero, suc, _+_, _*_, _-_}
+use native.Mathlib.Omega.{arith}
+use lib.Dec.{ltb, eqb}
+use lib.ListN.{length}
+use Rattle.link_rules.specs.Octets.{leAt}
+use Rattle.link_rules.proofs.OctetLaws.{Bytes}
+use Rattle.disp_structs.specs.Train.{Train}
+use Rattle.image.specs.Image.{nodePlace, divergePlace, putNode, putDiverge, putPathHeader}
+use Rattle.image.specs.Codec.{pathHeaderOf, putRecords, storedInto}
+use Rattle.image.proofs.Writers.{zero-writes, each-writes, le-outside}
+use Rattle.image.proofs.RecordLaws.{node-writes, diverge-writes}
+use Rattle.image.proofs.Parts.{putPath, clearPath, putDiverges, putCounts, counts-writes, indices-writes}
+use Rattle.image_fault.specs.ImageFault.{imageFault}
+use Rattle.train_update.specs.Update.{Status, Success, Blocked, Faulty, Refused, Updated, updateFreePath}
+use Rattle.update_image.specs.UpdateImage.{UpdatedImage, leftImage, answerBy, updateFault, updatedImage}
+use Rattle.update_image.proofs.UpdateLeaves.{length-kept, bytes-kept}
+use Rattle.yard_check.specs.Yard.{partOf}
+use Rattle.yard_check.specs.Check.{CheckArgs, unvisitedRow, visit, visitBy, visited, isFinished, slotVisit}
+
+-- ---- the train in the header of an image stays
+
+stored-train : (t : Train) (bs : List ℕ) → leAt 2 (storedInto t bs) 32 ≡ leAt 2 bs 32
+unfolding storedInto putPathHeader putRecords
+stored-train t bs =
+    let e = length (t .«est_times») in
+    let n = length (t .«disp_path») in
+    let m = length (t .«div_nodes») in
+    let b1 = putPath t bs in
+    let b2 = clearPath t b1 in
+    let b3 = putDiverges t b2 in
+    let b4 = putRecords t bs in
+    le-outside (indices-writes (pathHeaderOf t)) 2 32 (putCounts (pathHeaderOf t) b4) (inl (omega arith))
+    ∙ (le-outside (counts-writes (pathHeaderOf t)) 2 32 b4 (inr (omega arith))
+    ∙ (le-outside (zero-writes (t .divergeRoom - m) (divergePlace e m)) 2 32 b3 (inl (omega arith))
+    ∙ (le-outside (each-writes putDiverge 4 diverge-writes (t .«div_nodes») (divergePlace e 0)) 2 32 b2 (inl (omega arith))
+    ∙ (le-outside (zero-writes (8 * (e - n)) (nodePlace e n)) 2 32 b1 (inl (omega arith))
+    ∙ le-outside (each-writes putNode 32 node-writes (t .«disp_path») (nodePlace e 0)) 2 32 bs (inl (omega arith))))))
+
+left-train : (s : Status) (t : Train) (img : List ℕ) → leAt 2 (leftImage s t img) 32 ≡ leAt 2 img 32
+left-train Success t img = stored-train t img
+left-train Blocked t img = stored-train t img
+left-train (Faulty n) t img = stored-train t img
+left-train (Refused n i) t img = refl
+
+answer-train : (k place : ℕ) (u : Updated) (img : List ℕ) → leAt 2 (answerBy k place u img .image) 32 ≡ leAt 2 img 32
+answer-train zero place u img = left-train (u .status) (u .train) img
+answer-train (suc k) place u img = refl
+
+module _ (occ blocking : List ℕ) (moved : ℕ) (local : Bool) (limit : ℕ) (img : List ℕ) where
+  train-kept : leAt 2 (updatedImage img occ blocking moved local limit .image) 32 ≡ leAt 2 img 32
+  unfolding updatedImage
+  train-kept = answer-train (updateFault img occ blocking moved limit .number) (updateFault img occ blocking moved limit .place) _ img
+
+-- ---- by what the visit does
+
+module _ (P : List ℕ → Type 0) (img : List ℕ) (u : UpdatedImage) (same : P img) (after : P (u .image)) where
+  visit-by : (n place : ℕ) (isDone isMoved : Bool) (moved : ℕ) → P (visitBy n place isDone isMoved moved u img .image)
+  visit-by (suc n) place isDone isMoved moved = same
+  visit-by zero place true isMoved moved = same
+  visit-by zero place false true moved = same
+  visit-by zero place false false moved = after
+
+module _ (occ : List ℕ) (a : CheckArgs) (t : ℕ) (img : List ℕ) where
+  abbrev u : UpdatedImage
+  u = updatedImage img occ (a .blocking) (a .moved) (a .local) (a .limit)
+
+  by : (P : List ℕ → Type 0) → P img → P (u .image) → P (visited occ a t img .image)
+  unfolding visited
+  by P same after = visit-by P img u same after (imageFault img (length occ) .number) (imageFault img (length occ) .place) (isFinished img) (eqb t (a .moved)) (a .moved)
+
+  pub visit-length : length (visited occ a t img .image) ≡ length img
+  visit-length = by (λ (x : List ℕ). length x ≡ length img) refl (length-kept img occ (a .blocking) (a .moved) (a .local) (a .limit))
+
+  pub visit-bytes : Bytes img → Bytes (visited occ a t img .image)
+  visit-bytes b = by (λ (x : List ℕ). Bytes x) b (bytes-kept img occ (a .blocking) (a .moved) (a .local) (a .limit) b)
+
+  pub visit-train : leAt 2 (visited occ a t img .image) 32 ≡ leAt 2 img 32
+  visit-train = by (λ (x : List ℕ). leAt 2 x 32 ≡ leAt 2 img 32) refl (train-kept occ (a .blocking) (a .moved) (a .local) (a .limit) img)
+
+-- ---- of a slot, visited or not
+
+module _ (yard occ : List ℕ) (a : CheckArgs) (t : ℕ) where
+  at-slot : (P : List ℕ → Type 0) → P (partOf yard t) → P (visited occ a t (partOf yard t) .image) → P (slotVisit yard occ a t .image)
+  unfolding slotVisit
+  at-slot P same after = go (ltb t (a .begin))
+    where
+      go : (b : Bool) → P (cond b (visit unvisitedRow (partOf yard t)) (visited occ a t (partOf yard t)) .image)
+      go true = same
+      go false = after
+
+  pub slot-length : length (slotVisit yard occ a t .image) ≡ length (partOf yard t)
+  slot-length = at-slot (λ (x : List ℕ). length x ≡ length (partOf yard t)) refl (visit-length occ a t (partOf yard t))
+
+  pub slot-bytes : Bytes (partOf yard t) → Bytes (slotVisit yard occ a t .image)
+  slot-bytes b = at-slot (λ (x : List ℕ). Bytes x) b (visit-bytes occ a t (partOf yard t) b)
+
+  pub slot-train : leAt 2 (slotVisit yard occ a t .image) 32 ≡ leAt 2 (partOf yard t) 32
+  slot-train = at-slot (λ (x : List ℕ). leAt 2 x 32 ≡ leAt 2 (partOf yard t) 32) refl (visit-train occ a t (partOf yard t))

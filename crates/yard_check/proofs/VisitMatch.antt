@@ -1,0 +1,96 @@
+-- Demand 3 for the visit to one slot: over a second numbering the renumbered row, and images that match. Assumes nothing.
+use mathlib.Core.Path.{_≡_, refl, sym, ap, ap₂, subst, _∙_}
+use mathlib.Core.Bool.{Bool, true, false, cond}
+use mathlib.Core.List.{List}
+use Prim.Native.Nat.{ℕ, zero, suc, _≤_, _<_}
+use native.Mathlib.Omega.{arith}
+use lib.Dec.{ltb, eqb}
+use lib.ListN.{length}
+use borrow.Author.Tests.{le-ltb}
+use Rattle.link_rules.specs.LinkIdx.{noLink, occupied}
+use Rattle.link_rules.specs.Renumbering.{Renumbering}
+use Rattle.link_rules.proofs.OctetLaws.{Bytes}
+use Rattle.link_rules.proofs.RenumberingLaws.{eqb-renumbered}
+use Rattle.image.specs.ImageMatch.{ImagesMatch}
+use Rattle.image.proofs.MatchLaws.{path-count, header-high}
+use Rattle.image_fault.specs.ImageFault.{imageFault}
+use Rattle.image_fault.specs.declared.Fault.{Fault}
+use Rattle.image_fault.proofs.MatchLaws.{image-fault-match}
+use Rattle.train_update.specs.Update.{Status, Success, Blocked, Faulty, Refused}
+use Rattle.update_image.specs.UpdateImage.{UpdatedImage, updatedImage}
+use Rattle.update_image.specs.UpdateMatch.{CallsMatch, UpdatesMatch}
+use Rattle.update_image.proofs.UpdateLeaves.{Trains16}
+use Rattle.update_image.proofs.ImageRenumbering.{update-match}
+use Rattle.yard_check.specs.Yard.{partOf}
+use Rattle.yard_check.specs.Check.{CheckArgs, Row, unvisitedRow, updatedRow, isFinished, Visit, visit, visitBy, visited, slotVisit}
+use Rattle.yard_check.specs.YardMatch.{rRow, ArgsMatch}
+
+-- the renumbered row, and images that match
+pub record VisitsMatch (p q : ℕ → ℕ) (v v′ : Visit) : Type 0 where
+  pub row : v′ .row ≡ rRow q (v .row)
+  pub image : ImagesMatch p q (v .image) (v′ .image)
+
+-- where the holder is 0
+no-holder : (q : ℕ → ℕ) → q 0 ≡ 0 → (code place rounds strays faults : ℕ)
+    → _≡_ {A = Row} (record { code = code; place = place; rounds = rounds; holder = 0; strays = strays; faults = faults })
+    (record { code = code; place = place; rounds = rounds; holder = q 0; strays = strays; faults = faults })
+no-holder q e code place rounds strays faults =
+    ap (λ (h : ℕ). record { code = code; place = place; rounds = rounds; holder = h; strays = strays; faults = faults }) (sym e)
+
+row-match : (q : ℕ → ℕ) → q 0 ≡ 0 → (s : Status) (moved rounds strays : ℕ) → updatedRow s (q moved) rounds strays ≡ rRow q (updatedRow s moved rounds strays)
+row-match q e Success moved rounds strays = no-holder q e 3 0 rounds strays 0
+row-match q e Blocked moved rounds strays = refl
+row-match q e (Faulty n) moved rounds strays = no-holder q e 5 0 rounds strays n
+row-match q e (Refused n i) moved rounds strays = no-holder q e _ i rounds strays 0
+
+row-strays : (s : Status) (moved rounds strays : ℕ) → updatedRow s moved rounds strays .strays ≡ strays
+row-strays Success moved rounds strays = refl
+row-strays Blocked moved rounds strays = refl
+row-strays (Faulty n) moved rounds strays = refl
+row-strays (Refused n i) moved rounds strays = refl
+
+module _ (p q : ℕ → ℕ) (zero-stays : q 0 ≡ 0) (img img′ : List ℕ) (m : ImagesMatch p q img img′) (moved : ℕ) (u u′ : UpdatedImage) where
+  visit-by : (n place : ℕ) (isDone isMoved : Bool) → (u .strays ≡ 0 → UpdatesMatch p q u u′) → visitBy n place isDone isMoved moved u img .row .strays ≡ 0
+      → VisitsMatch p q (visitBy n place isDone isMoved moved u img) (visitBy n place isDone isMoved (q moved) u′ img′)
+  visit-by (suc n) place isDone isMoved h s = record { row = no-holder q zero-stays _ place 0 0 0; image = m }
+  visit-by zero place true isMoved h s = record { row = no-holder q zero-stays 1 0 0 0 0; image = m }
+  visit-by zero place false true h s = record { row = no-holder q zero-stays 2 0 0 0 0; image = m }
+  visit-by zero place false false h s =
+      let k = h (sym (row-strays (u .status) moved (u .rounds) (u .strays)) ∙ s) in
+      record { row = rw (k .status, k .rounds, k .strays) (row-match q zero-stays (u .status) moved (u .rounds) (u .strays)); image = k .images }
+
+finished-match : (p q : ℕ → ℕ) (img img′ : List ℕ) → ImagesMatch p q img img′ → isFinished img′ ≡ isFinished img
+unfolding isFinished
+finished-match p q img img′ m = ap₂ eqb (header-high p q img img′ m 2 36 (omega arith) (omega arith)) (path-count p q img img′ m)
+
+module _ (p q : ℕ → ℕ) (occ occ′ : List ℕ) (a a′ : CheckArgs) (g : ArgsMatch p q a a′) (c : CallsMatch p q occ occ′ (a .blocking) (a′ .blocking))
+    (w : Trains16 occ) (few : a .moved < 65536) (empty : occupied occ noLink ≡ false) where
+  module _ (t : ℕ) (img img′ : List ℕ) (m : ImagesMatch p q img img′) (b : Bytes img) (b′ : Bytes img′) where
+    abbrev u : UpdatedImage
+    u = updatedImage img occ (a .blocking) (a .moved) (a .local) (a .limit)
+
+    abbrev u′ : UpdatedImage
+    u′ = updatedImage img′ occ′ (a′ .blocking) (q (a .moved)) (a .local) (a .limit)
+
+    abbrev f : Fault
+    f = imageFault img (length occ)
+
+    fault-same : imageFault img′ (length occ′) ≡ f
+    fault-same = rw (c .occupancies .long) (image-fault-match p q (length occ) (c .lastTrain) (c .links) (c .trains) img img′ m)
+
+    second : visited occ′ a′ (q t) img′ ≡ visitBy (f .number) (f .place) (isFinished img) (eqb t (a .moved)) (q (a .moved)) u′ img′
+    unfolding visited
+    second = rw (g .moved, g .local, g .limit, fault-same, finished-match p q img img′ m, eqb-renumbered (c .lastTrain) q (c .trains) t (a .moved))
+
+    pub visit-match : visited occ a t img .row .strays ≡ 0 → VisitsMatch p q (visited occ a t img) (visited occ′ a′ (q t) img′)
+    unfolding visited
+    visit-match s =
+        subst (λ (v : Visit). VisitsMatch p q (visited occ a t img) v) (sym second)
+        (visit-by p q (c .trains .zero-stays) img img′ m (a .moved) u u′ (f .number) (f .place) (isFinished img) (eqb t (a .moved))
+        (update-match p q occ occ′ (a .blocking) (a′ .blocking) c (a .moved) (a .local) (a .limit) img img′ m b b′ w few empty) s)
+
+-- from slot 1 on every slot is visited
+pub visited-slot : (yard occ : List ℕ) (a : CheckArgs) (t : ℕ) → a .begin ≡ 1 → 1 ≤ t → slotVisit yard occ a t ≡ visited occ a t (partOf yard t)
+unfolding slotVisit
+visited-slot yard occ a t e h =
+    ap (λ (b : Bool). cond b (visit unvisitedRow (partOf yard t)) (visited occ a t (partOf yard t))) (le-ltb t (a .begin) (omega arith))
