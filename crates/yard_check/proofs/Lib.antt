@@ -9,3 +9,5 @@ pub mod VisitMatch
 pub mod CheckMatch
 pub mod CallLaws
 pub mod DemandThree
+pub mod MatchTests
+pub mod SidingRenumbered
