@@ -11,3 +11,5 @@ pub mod CallLaws
 pub mod DemandThree
 pub mod MatchTests
 pub mod SidingRenumbered
+pub mod DecimalLaws
+pub mod SheetExample

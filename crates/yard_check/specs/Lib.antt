@@ -3,3 +3,4 @@ pub mod Check
 pub mod YardMatch
 pub mod Calls
 pub mod DemandThree
+pub mod Sheet
