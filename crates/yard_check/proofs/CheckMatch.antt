@@ -1,33 +1,31 @@
 -- Demand 3 for one check: over a second numbering the same answer, and reports and yards that match. Assumes nothing.
-use mathlib.Core.Path.{_≡_, refl, sym, ap, ap₂, subst, _∙_}
-use mathlib.Core.Bool.{Bool, true, false, cond, not, _&&_}
+use mathlib.Core.Path.{_≡_, refl, sym, ap, subst, _∙_}
+use mathlib.Core.Bool.{Bool, true, false, not}
 use mathlib.Core.List.{List}
-use Prim.Native.Nat.{ℕ, zero, suc, _+_, _*_, _-_, _%_, _≤_, _<_}
+use Prim.Native.Nat.{ℕ, zero, suc, _*_, _-_, _%_, _≤_, _<_}
 use native.Mathlib.Omega.{arith}
-use lib.Dec.{leb, eqb, lit<}
+use lib.Dec.{eqb, lit<}
 use lib.ListN.{length, getD}
-use borrow.Author.Tests.{eqb-true, eq-eqb, leb-true}
+use borrow.Author.Tests.{eq-eqb}
 use Rattle.link_rules.specs.LinkIdx.{noLink, occupied}
 use Rattle.link_rules.specs.Renumbering.{Renumbering}
 use Rattle.link_rules.specs.Matching.{OccupanciesMatch}
 use Rattle.link_rules.proofs.OctetLaws.{Bytes}
 use Rattle.link_rules.proofs.RenumberingLaws.{within}
-use Rattle.image.specs.ImageMatch.{ImagesMatch}
-use Rattle.image_fault.specs.ImageFault.{noFault, refused, orElse, imageFault}
+use Rattle.image_fault.specs.ImageFault.{imageFault}
 use Rattle.image_fault.specs.declared.Fault.{Fault}
-use Rattle.image_fault.proofs.ScanLaws.{both}
-use Rattle.image_fault.proofs.AcceptLaws.{or-else-clean}
 use Rattle.train_update.specs.Update.{Status, Success, Blocked, Faulty, Refused}
-use Rattle.update_image.specs.UpdateImage.{UpdatedImage, callFault, updatedImage}
+use Rattle.update_image.specs.UpdateImage.{UpdatedImage, updatedImage}
 use Rattle.update_image.specs.UpdateMatch.{CallsMatch}
 use Rattle.update_image.proofs.UpdateLeaves.{Trains16}
 use Rattle.update_image.proofs.ImageRenumbering.{call-fault-match}
-use Rattle.yard_check.specs.Yard.{slotCount, partOf, yardFits, yardFault}
-use Rattle.yard_check.specs.Check.{CheckArgs, slotsFault, reportFault, checkFault, Row, updatedRow, isBlockedRow, isErredRow, isFinished, Visit, visitBy, visited, slotVisit, yardAfter, reportAfter, howMany, Answer, answerBy, answerOf, Checked, check, checkedBy, checkedWith}
+use Rattle.yard_check.specs.Yard.{slotCount, partOf, yardFits}
+use Rattle.yard_check.specs.Check.{CheckArgs, slotsFault, reportFault, checkFault, Row, updatedRow, isBlockedRow, isErredRow, isFinished, Visit, visitBy, visited, slotVisit, yardAfter, reportAfter, howMany, answerBy, answerOf, Checked, check, checkedBy, checkedWith}
 use Rattle.yard_check.specs.YardMatch.{YardsMatch, rRow, ReportsMatch, AnswersMatch, NotRefused, ArgsMatch}
 use Rattle.yard_check.specs.DemandThree.{Plain}
 use Rattle.yard_check.proofs.SlotLaws.{some, many-same, many-renumbered, leb-slots}
-use Rattle.yard_check.proofs.YardLaws.{Fits, fits, left, same-slots, part-bytes, part-done}
+use Rattle.yard_check.proofs.YardLaws.{fits, left, same-slots, part-bytes, part-done}
+use Rattle.yard_check.proofs.CheckLaws.{taken}
 use Rattle.yard_check.proofs.ReportLaws.{keptRow, report-length, report-row}
 use Rattle.yard_check.proofs.VisitMatch.{VisitsMatch, visit-match, visited-slot}
 
@@ -105,28 +103,11 @@ module _ (p q : ℕ → ℕ) (yard yard′ occ occ′ : List ℕ) (a a′ : Chec
       )
 
   module _ (clean : f .number ≡ 0) where
-    parts : (slotsFault S a .number ≡ 0) × (reportFault S (length report) .number ≡ 0)
-    unfolding checkFault
-    parts =
-        let x = or-else-clean (callFault occ (a .blocking) (a .moved) (a .limit)) _ clean .1 in
-        let y = or-else-clean (yardFault yard) _ x .1 in
-        or-else-clean (slotsFault S a) (reportFault S (length report)) y
-
     moved-few : a .moved < 65536
-    unfolding slotsFault
-    moved-few = omega (arith, fits yard ok .few, leb-true (a .moved) S (both (leb (a .moved) S) _ (go (leb (a .moved) S && (leb 1 (a .begin) && leb (a .begin) (S + 1))) (parts .0)) .0))
-      where
-        go : (x : Bool) → cond x noFault (refused 15 0) .number ≡ 0 → x ≡ true
-        go true k = refl
-        go false k = absurd (omega arith)
+    moved-few = omega (arith, fits yard ok .few, taken yard occ a (length report) clean .moved)
 
     report-long : length report ≡ 16 * S
-    unfolding reportFault
-    report-long = eqb-true (length report) (16 * S) (go (eqb (length report) (16 * S)) (parts .1))
-      where
-        go : (x : Bool) → cond x noFault (refused 16 0) .number ≡ 0 → x ≡ true
-        go true k = refl
-        go false k = absurd (omega arith)
+    report-long = taken yard occ a (length report) clean .report-long
 
     module _ (begins : a .begin ≡ 1) (empty : getD occ 0 0 ≡ 0) (strays : (t : ℕ) → 1 ≤ t → t ≤ S → slotVisit yard occ a t .row .strays ≡ 0) where
       abbrev row : ℕ → Row

@@ -1,22 +1,21 @@
 -- Demand 3, proved: one call keeps two worlds one yard under two numberings and gives outcomes that match; then every list of calls. Assumes nothing.
-use mathlib.Core.Path.{_≡_, refl, sym, subst, _∙_}
+use mathlib.Core.Path.{_≡_, _∙_}
 use mathlib.Core.List.{List, [], _∷_}
-use Prim.Native.Nat.{ℕ, _-_, _≤_}
+use Prim.Native.Nat.{ℕ, _-_}
 use native.Mathlib.Omega.{arith}
 use lib.ListN.{length}
-use Rattle.link_rules.specs.Network.{linkCount}
 use Rattle.link_rules.specs.Renumbering.{Renumbering, rLink, rTrain}
 use Rattle.link_rules.specs.declared.link_idx.LinkIdx.{LinkIdx}
 use Rattle.link_rules.specs.declared.link_idx.TrainIdx.{TrainIdx}
 use Rattle.link_rules.proofs.MarkLaws.{length-marked}
 use Rattle.link_rules.proofs.MarkRenumbering.{markOf-r}
-use Rattle.yard_check.specs.Yard.{slotCount}
 use Rattle.yard_check.specs.Check.{CheckArgs}
-use Rattle.yard_check.specs.YardMatch.{ReportsMatch, NotRefused, ArgsMatch}
+use Rattle.yard_check.specs.YardMatch.{ArgsMatch}
 use Rattle.yard_check.specs.Calls.{World, Call, mark, check, run, runAll}
-use Rattle.yard_check.specs.DemandThree.{OneYard, CallsMatch, Each, Premise, Premises, OutcomesMatch, DemandThree}
+use Rattle.yard_check.specs.DemandThree.{OneYard, CallsMatch, Premise, OutcomesMatch, DemandThree}
 use Rattle.yard_check.proofs.CheckMatch.{check-match}
-use Rattle.yard_check.proofs.CallLaws.{halves-marked, fits-checked, slots-checked, bytes-checked}
+use Rattle.yard_check.proofs.CheckLaws.{fits-kept, slots-kept, bytes-kept}
+use Rattle.yard_check.proofs.MarkedTrains.{halves-marked}
 
 -- what one call answers and leaves, and that the next may come
 pub record Kept (p q : ℕ → ℕ) (w w′ : World) (c c′ : Call) : Type 0 where
@@ -59,7 +58,7 @@ module _ (p q : ℕ → ℕ) (w w′ : World) (y : OneYard p q w w′) where
   check-kept a a′ report report′ g long h =
       let links : Renumbering (length (w .occupancy) - 1) p = rw (y .long) (y .links) in
       let m = check-match p q (w .yard) (w′ .yard) (w .occupancy) (w′ .occupancy) a a′ report report′ links (y .trains) (y .slots) (y .yard) (y .yard′) (y .yards) (y .occupancies) (y .bytes) (y .bytes′) (y .halves) g long h in
-      let same = slots-checked (w .yard) (w .occupancy) a report (y .yard) in
+      let same = slots-kept (w .yard) (w .occupancy) a report (y .yard) in
       record {
         outcomes = record { answers = (m .answer, rw same (m .report)); occupancies = y .occupancies; yards = m .yards };
         worlds =
@@ -72,11 +71,11 @@ module _ (p q : ℕ → ℕ) (w w′ : World) (y : OneYard p q w w′) where
               tables = y .tables;
               long = y .long;
               occupancies = y .occupancies;
-              yard = fits-checked (w .yard) (w .occupancy) a report (y .yard);
-              yard′ = fits-checked (w′ .yard) (w′ .occupancy) a′ report′ (y .yard′);
+              yard = fits-kept (w .yard) (w .occupancy) a report (y .yard);
+              yard′ = fits-kept (w′ .yard) (w′ .occupancy) a′ report′ (y .yard′);
               yards = m .yards;
-              bytes = bytes-checked (w .yard) (w .occupancy) a report (y .yard) (y .bytes);
-              bytes′ = bytes-checked (w′ .yard) (w′ .occupancy) a′ report′ (y .yard′) (y .bytes′);
+              bytes = bytes-kept (w .yard) (w .occupancy) a report (y .yard) (y .bytes);
+              bytes′ = bytes-kept (w′ .yard) (w′ .occupancy) a′ report′ (y .yard′) (y .bytes′);
               halves = y .halves;
             };
       }

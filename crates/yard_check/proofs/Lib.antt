@@ -5,9 +5,10 @@ pub mod PatchLaws
 pub mod VisitLaws
 pub mod YardLaws
 pub mod ReportLaws
+pub mod CheckLaws
 pub mod VisitMatch
 pub mod CheckMatch
-pub mod CallLaws
+pub mod MarkedTrains
 pub mod DemandThree
 pub mod MatchTests
 pub mod SidingRenumbered

@@ -1,9 +1,9 @@
 -- What a visit leaves: an image of the same length and train, and bytes. Assumes nothing.
-use mathlib.Core.Path.{_≡_, refl, ap, _∙_}
-use mathlib.Core.Logic.{_⊎_, inl, inr}
+use mathlib.Core.Path.{_≡_, refl, _∙_}
+use mathlib.Core.Logic.{inl, inr}
 use mathlib.Core.Bool.{Bool, true, false, cond}
 use mathlib.Core.List.{List}
-use Prim.Native.Nat.{ℕ, zero, suc, _+_, _*_, _-_}
+use Prim.Native.Nat.{ℕ, zero, suc, _*_, _-_}
 use native.Mathlib.Omega.{arith}
 use lib.Dec.{ltb, eqb}
 use lib.ListN.{length}
@@ -16,7 +16,7 @@ use Rattle.image.proofs.Writers.{zero-writes, each-writes, le-outside}
 use Rattle.image.proofs.RecordLaws.{node-writes, diverge-writes}
 use Rattle.image.proofs.Parts.{putPath, clearPath, putDiverges, putCounts, counts-writes, indices-writes}
 use Rattle.image_fault.specs.ImageFault.{imageFault}
-use Rattle.train_update.specs.Update.{Status, Success, Blocked, Faulty, Refused, Updated, updateFreePath}
+use Rattle.train_update.specs.Update.{Status, Success, Blocked, Faulty, Refused, Updated}
 use Rattle.update_image.specs.UpdateImage.{UpdatedImage, leftImage, answerBy, updateFault, updatedImage}
 use Rattle.update_image.proofs.UpdateLeaves.{length-kept, bytes-kept}
 use Rattle.yard_check.specs.Yard.{partOf}
@@ -92,6 +92,10 @@ module _ (yard occ : List ℕ) (a : CheckArgs) (t : ℕ) where
       go : (b : Bool) → P (cond b (visit unvisitedRow (partOf yard t)) (visited occ a t (partOf yard t)) .image)
       go true = same
       go false = after
+
+  -- what holds of its image, and of that image updated, holds of what the visit leaves
+  pub slot-keeps : (P : List ℕ → Type 0) → P (partOf yard t) → P (updatedImage (partOf yard t) occ (a .blocking) (a .moved) (a .local) (a .limit) .image) → P (slotVisit yard occ a t .image)
+  slot-keeps P same after = at-slot P same (by occ a t (partOf yard t) P same after)
 
   pub slot-length : length (slotVisit yard occ a t .image) ≡ length (partOf yard t)
   slot-length = at-slot (λ (x : List ℕ). length x ≡ length (partOf yard t)) refl (visit-length occ a t (partOf yard t))

@@ -4,11 +4,10 @@ use mathlib.Core.Bool.{Bool, true, false, cond}
 use mathlib.Core.List.{List}
 use Prim.Native.Nat.{ℕ, zero, suc, _≤_, _<_}
 use native.Mathlib.Omega.{arith}
-use lib.Dec.{ltb, eqb}
+use lib.Dec.{eqb}
 use lib.ListN.{length}
 use borrow.Author.Tests.{le-ltb}
 use Rattle.link_rules.specs.LinkIdx.{noLink, occupied}
-use Rattle.link_rules.specs.Renumbering.{Renumbering}
 use Rattle.link_rules.proofs.OctetLaws.{Bytes}
 use Rattle.link_rules.proofs.RenumberingLaws.{eqb-renumbered}
 use Rattle.image.specs.ImageMatch.{ImagesMatch}

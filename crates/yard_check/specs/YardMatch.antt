@@ -1,6 +1,5 @@
 -- Matching (document 01) of yards, and of reports and answers of a check: p renumbers links, q trains, and slots with them. Assumes nothing.
 use mathlib.Core.Path.{_≡_}
-use mathlib.Core.Bool.{Bool}
 use mathlib.Core.List.{List, map}
 use Prim.Native.Nat.{ℕ, _≤_}
 use lib.ListN.{length}

@@ -1,27 +1,21 @@
--- What a call leaves as it was: an occupancy of u16, and a yard past 14, of bytes, with as many slots. Assumes nothing.
-use mathlib.Core.Path.{_≡_, refl, _∙_}
+-- Mark and release keep an occupancy of u16. Assumes nothing.
+use mathlib.Core.Path.{_≡_}
 use mathlib.Core.Logic.{⊎-elim}
 use mathlib.Core.Bool.{Bool, true, false, cond}
 use mathlib.Core.List.{List, [], _∷_}
 use Prim.Native.Nat.{ℕ, zero, suc, _≤_, _<_}
 use native.Mathlib.Omega.{arith}
 use lib.Dec.{ltb}
-use lib.ListN.{length, getD, set}
+use lib.ListN.{length, set}
 use lib.Seq.{getD-set-same, getD-set-other, set-out}
 use Rattle.link_rules.specs.LinkIdx.{noTrain, sameTrain, holder, hold, occupied}
 use Rattle.link_rules.specs.Network.{linkAt}
 use Rattle.link_rules.specs.AdvanceRewind.{holdAll, refilled, resetLinkTrainIdx, resetAll, updateLinksBlocked, markRefusal, markedBy, markOf}
 use Rattle.link_rules.specs.declared.link_idx.LinkIdx.{LinkIdx}
 use Rattle.link_rules.specs.declared.link_idx.TrainIdx.{TrainIdx}
-use Rattle.link_rules.proofs.OctetLaws.{Bytes}
 use Rattle.est_times.proofs.Counting.{same-or-not}
 use Rattle.image.proofs.Writers.{side}
 use Rattle.update_image.proofs.UpdateLeaves.{Trains16}
-use Rattle.yard_check.specs.Yard.{slotCount, yardFits}
-use Rattle.yard_check.specs.Check.{CheckArgs, checkFault, yardAfter, Checked, check, checkedBy, checkedWith, answerOf, reportAfter, slotVisit}
-use Rattle.yard_check.proofs.YardLaws.{fits, left, same-slots, after-fits, after-bytes}
-
--- ---- mark and release keep an occupancy of u16
 
 halves-set : (occ : List ℕ) (k x : ℕ) → x < 65536 → Trains16 occ → Trains16 (set occ k x)
 halves-set occ k x l b i =
@@ -68,31 +62,3 @@ halves-marked tbl occ l t h b = go (markRefusal tbl (length occ) l)
     go : (n : ℕ) → Trains16 (markedBy n occ (updateLinksBlocked tbl occ l t) .occupancy)
     go zero = halves-updated tbl occ l t h b
     go (suc n) = b
-
--- ---- a check keeps the yard's header
-
-module _ (yard occ : List ℕ) (a : CheckArgs) (report : List ℕ) (ok : yardFits yard ≡ true) where
-  abbrev after : List ℕ
-  after = checkedWith yard occ a report .yard
-
-  by : (P : List ℕ → Type 0) → P yard → P (yardAfter yard occ a (slotCount yard)) → P after
-  unfolding checkedWith
-  by P same new = go (checkFault yard occ a (length report) .number)
-    where
-      done : Checked
-      done = check (answerOf (λ t. slotVisit yard occ a t .row) (slotCount yard) (a .begin)) (yardAfter yard occ a (slotCount yard)) (reportAfter yard occ a report (slotCount yard))
-
-      go : (n : ℕ) → P (checkedBy n (checkFault yard occ a (length report) .place) done yard report .yard)
-      go zero = new
-      go (suc n) = same
-
-  pub fits-checked : yardFits after ≡ true
-  fits-checked = by (λ (x : List ℕ). yardFits x ≡ true) ok (after-fits yard occ a (fits yard ok) (slotCount yard) (omega arith) ∙ ok)
-
-  pub slots-checked : slotCount after ≡ slotCount yard
-  slots-checked =
-      by (λ (x : List ℕ). slotCount x ≡ slotCount yard) refl
-      (same-slots yard occ a (fits yard ok) (slotCount yard) (left yard occ a (fits yard ok) (slotCount yard) (omega arith)))
-
-  pub bytes-checked : Bytes yard → Bytes after
-  bytes-checked b = by (λ (x : List ℕ). Bytes x) b (after-bytes yard occ a (fits yard ok) (slotCount yard) (omega arith) b)

@@ -1,0 +1,214 @@
+-- What a check leaves and answers: refusals, lengths, images that pass 6 to 9; and its visits one after the other, as a loop makes them. Assumes nothing.
+use mathlib.Core.Path.{_≡_, refl, sym, ap, _∙_}
+use mathlib.Core.Bool.{Bool, true, false, cond, _&&_}
+use mathlib.Core.List.{List}
+use Prim.Native.Nat.{ℕ, zero, suc, _+_, _*_, _-_, _≤_, _<_}
+use native.Mathlib.Omega.{arith}
+use lib.Dec.{leb, eqb}
+use lib.ListN.{length, drop, take-append-drop}
+use lib.Seq.{drop-drop}
+use borrow.Author.Tests.{eqb-true, leb-true, eq-eqb, ne-eqb, lt-ltb, le-ltb}
+use Rattle.link_rules.proofs.OctetLaws.{Bytes}
+use Rattle.image_fault.specs.ImageFault.{noFault, refused, imageFault}
+use Rattle.image_fault.specs.declared.Fault.{Fault}
+use Rattle.image_fault.proofs.ScanLaws.{both}
+use Rattle.image_fault.proofs.AcceptLaws.{or-else-clean}
+use Rattle.update_image.specs.UpdateImage.{UpdatedImage, callFault, updatedImage}
+use Rattle.update_image.proofs.UpdateLeaves.{Trains16, left-accepted}
+use Rattle.yard_check.specs.Yard.{slotCount, partBegin, partEnd, partOf, withPart, yardFits, yardFault}
+use Rattle.yard_check.specs.Check.{CheckArgs, slotsFault, reportFault, checkFault, Row, unvisitedRow, refusedRow, finishedRow, movedRow, updatedRow, isErredRow, isFinished, visit, visitBy, visited, slotVisit, yardAfter, reportAfter, howMany, firstNot, Refused, answerBy, answerOf, Checked, check, checkedBy, checkedWith}
+use Rattle.yard_check.proofs.VisitLaws.{slot-keeps}
+use Rattle.yard_check.proofs.YardLaws.{Fits, fits, part-long, part-bytes, left, same-slots, part-done, part-later, after-fits, after-bytes}
+use Rattle.yard_check.proofs.ReportLaws.{report-length}
+
+-- ---- refusals
+
+-- a check that is not refused: the yard passes 14, moved is a slot, begin is one or S + 1, the report has room
+pub record Taken (yard occ : List ℕ) (a : CheckArgs) (long : ℕ) : Type 0 where
+  pub call : callFault occ (a .blocking) (a .moved) (a .limit) .number ≡ 0
+  pub yard-fits : yardFits yard ≡ true
+  pub moved : a .moved ≤ slotCount yard
+  pub begin-low : 1 ≤ a .begin
+  pub begin-high : a .begin ≤ slotCount yard + 1
+  pub report-long : long ≡ 16 * slotCount yard
+
+clean-test : (n : ℕ) (x : Bool) → cond x noFault (refused (suc n) 0) .number ≡ 0 → x ≡ true
+clean-test n true k = refl
+clean-test n false k = absurd (omega arith)
+
+pub taken : (yard occ : List ℕ) (a : CheckArgs) (long : ℕ) → checkFault yard occ a long .number ≡ 0 → Taken yard occ a long
+unfolding checkFault slotsFault reportFault
+taken yard occ a long h =
+    let S = slotCount yard in
+    let x = or-else-clean (callFault occ (a .blocking) (a .moved) (a .limit)) _ h in
+    let y = or-else-clean (yardFault yard) _ (x .1) in
+    let z = or-else-clean (slotsFault S a) (reportFault S long) (y .1) in
+    let s = both (leb (a .moved) S) _ (clean-test 14 (leb (a .moved) S && (leb 1 (a .begin) && leb (a .begin) (S + 1))) (z .0)) in
+    let b = both (leb 1 (a .begin)) (leb (a .begin) (S + 1)) (s .1) in
+    record {
+      call = x .0;
+      yard-fits = clean-test 13 (yardFits yard) (y .0);
+      moved = leb-true (a .moved) S (s .0);
+      begin-low = leb-true 1 (a .begin) (b .0);
+      begin-high = leb-true (a .begin) (S + 1) (b .1);
+      report-long = eqb-true long (16 * S) (clean-test 15 (eqb long (16 * S)) (z .1));
+    }
+
+-- the answer of a check that is not refused
+never : (rows : ℕ → Row) (slots begin n place : ℕ) → answerOf rows slots begin ≡ Refused n place → ⊥
+unfolding answerOf
+never rows slots begin n place = go (howMany (λ t. isErredRow (rows t)) slots) _ _
+  where
+    go : (k : ℕ) (d : Bool) (m : ℕ) → answerBy k d m ≡ Refused n place → ⊥
+    go zero d m e = let z : _≡_ {A = ℕ} 0 1 = cc in omega arith
+    go (suc k) d m e = let z : _≡_ {A = ℕ} 0 1 = cc in omega arith
+
+module _ (yard occ : List ℕ) (a : CheckArgs) (report : List ℕ) where
+  abbrev f : Fault
+  f = checkFault yard occ a (length report)
+
+  abbrev after : Checked
+  after = checkedWith yard occ a report
+
+  abbrev done : Checked
+  done = check (answerOf (λ t. slotVisit yard occ a t .row) (slotCount yard) (a .begin)) (yardAfter yard occ a (slotCount yard)) (reportAfter yard occ a report (slotCount yard))
+
+  by : (P : Checked → Type 0) → ((n : ℕ) → f .number ≡ suc n → P (check (Refused (suc n) (f .place)) yard report)) → (f .number ≡ 0 → P done) → P after
+  unfolding checkedWith
+  by P halt ok = go (f .number) refl
+    where
+      go : (n : ℕ) → f .number ≡ n → P (checkedBy n (f .place) done yard report)
+      go zero e = ok e
+      go (suc n) e = halt n e
+
+  -- a refused check leaves the yard and the report
+  pub refused-leaves : (n place : ℕ) → after .answer ≡ Refused n place → (after .yard ≡ yard) × (after .report ≡ report)
+  refused-leaves n place =
+      by (λ (c : Checked). c .answer ≡ Refused n place → (c .yard ≡ yard) × (c .report ≡ report))
+      (λ k e h. (refl, refl))
+      (λ e h. absurd (never (λ t. slotVisit yard occ a t .row) (slotCount yard) (a .begin) n place h))
+
+  -- the lengths are kept
+  pub yard-length : length (after .yard) ≡ length yard
+  yard-length =
+      by (λ (c : Checked). length (c .yard) ≡ length yard) (λ k e. refl)
+      (λ e. left yard occ a (fits yard (taken yard occ a (length report) e .yard-fits)) (slotCount yard) (omega arith) .long)
+
+  pub report-kept : length (after .report) ≡ length report
+  report-kept = by (λ (c : Checked). length (c .report) ≡ length report) (λ k e. refl) (λ e. report-length yard occ a report (slotCount yard))
+
+  -- a yard past 14 stays past it, with as many slots, and of bytes
+  module _ (ok : yardFits yard ≡ true) where
+    pub fits-kept : yardFits (after .yard) ≡ true
+    fits-kept = by (λ (c : Checked). yardFits (c .yard) ≡ true) (λ k e. ok) (λ e. after-fits yard occ a (fits yard ok) (slotCount yard) (omega arith) ∙ ok)
+
+    pub slots-kept : slotCount (after .yard) ≡ slotCount yard
+    slots-kept =
+        by (λ (c : Checked). slotCount (c .yard) ≡ slotCount yard) (λ k e. refl)
+        (λ e. same-slots yard occ a (fits yard ok) (slotCount yard) (left yard occ a (fits yard ok) (slotCount yard) (omega arith)))
+
+    pub bytes-kept : Bytes yard → Bytes (after .yard)
+    bytes-kept b = by (λ (c : Checked). Bytes (c .yard)) (λ k e. b) (λ e. after-bytes yard occ a (fits yard ok) (slotCount yard) (omega arith) b)
+
+-- ---- a visit, case by case
+
+module _ (occ : List ℕ) (a : CheckArgs) (t : ℕ) (img : List ℕ) where
+  abbrev fault : Fault
+  fault = imageFault img (length occ)
+
+  abbrev u : UpdatedImage
+  u = updatedImage img occ (a .blocking) (a .moved) (a .local) (a .limit)
+
+  pub visit-refused : (n : ℕ) → fault .number ≡ suc n → visited occ a t img ≡ visit (refusedRow (suc n) (fault .place) 0 0) img
+  unfolding visited
+  visit-refused n e = ap (λ (k : ℕ). visitBy k (fault .place) (isFinished img) (eqb t (a .moved)) (a .moved) u img) e
+
+  pub visit-finished : fault .number ≡ 0 → isFinished img ≡ true → visited occ a t img ≡ visit finishedRow img
+  unfolding visited
+  visit-finished e d = rw (e, d)
+
+  pub visit-moved : fault .number ≡ 0 → isFinished img ≡ false → t ≡ a .moved → visited occ a t img ≡ visit movedRow img
+  unfolding visited
+  visit-moved e d m = rw (e, d, eq-eqb t (a .moved) m)
+
+  pub visit-updated : fault .number ≡ 0 → isFinished img ≡ false → (t ≡ a .moved → ⊥)
+      → visited occ a t img ≡ visit (updatedRow (u .status) (a .moved) (u .rounds) (u .strays)) (u .image)
+  unfolding visited
+  visit-updated e d m = rw (e, d, ne-eqb t (a .moved) m)
+
+-- ---- the slots in order
+
+module _ (yard occ : List ℕ) (a : CheckArgs) (f : Fits yard) where
+  -- a slot's own image put back changes nothing
+  pub part-back : (t : ℕ) → 1 ≤ t → t ≤ slotCount yard → withPart yard t (partOf yard t) ≡ yard
+  unfolding withPart partOf
+  part-back t l m =
+      let b = partBegin yard t in
+      let e = partEnd yard t in
+      let k : b + (e - b) ≡ e = omega (arith, part-long yard f t l m) in
+      let d : drop (e - b) (drop b yard) ≡ drop e yard = drop-drop (e - b) b yard ∙ ap (λ (n : ℕ). drop n yard) k in
+      rw (← d, take-append-drop (e - b) (drop b yard)) (take-append-drop b yard)
+
+  -- below begin nothing changes; from begin on each slot is visited as the visits before it left it
+  pub slot-unvisited : (t : ℕ) → t < a .begin → slotVisit yard occ a t ≡ visit unvisitedRow (partOf yard t)
+  unfolding slotVisit
+  slot-unvisited t h = ap (λ (b : Bool). cond b (visit unvisitedRow (partOf yard t)) (visited occ a t (partOf yard t))) (lt-ltb t (a .begin) h)
+
+  pub slot-turn : (n : ℕ) → n < slotCount yard → a .begin ≤ suc n → slotVisit yard occ a (suc n) ≡ visited occ a (suc n) (partOf (yardAfter yard occ a n) (suc n))
+  unfolding slotVisit
+  slot-turn n h l =
+      ap (λ (b : Bool). cond b (visit unvisitedRow (partOf yard (suc n))) (visited occ a (suc n) (partOf yard (suc n)))) (le-ltb (suc n) (a .begin) l)
+      ∙ ap (visited occ a (suc n)) (sym (part-later yard occ a f n (omega arith) (suc n) (omega arith) (omega arith) (omega arith)))
+
+  pub yard-before : (n : ℕ) → n < a .begin → n ≤ slotCount yard → yardAfter yard occ a n ≡ yard
+  unfolding yardAfter
+  yard-before zero h l = refl
+  yard-before (suc n) h l = rw (yard-before n (omega arith) (omega arith), slot-unvisited (suc n) h) (part-back (suc n) (omega arith) l)
+
+  -- an image that passes 6 to 9 passes them again
+  pub accepted-after : Bytes yard → Trains16 occ → a .moved < 65536 → ((t : ℕ) → 1 ≤ t → t ≤ slotCount yard → imageFault (partOf yard t) (length occ) .number ≡ 0)
+      → (t : ℕ) → 1 ≤ t → t ≤ slotCount yard → imageFault (partOf (yardAfter yard occ a (slotCount yard)) t) (length occ) .number ≡ 0
+  accepted-after b w few ok t l m =
+      rw (part-done yard occ a f (slotCount yard) (omega arith) t l m m)
+      (slot-keeps yard occ a t (λ (x : List ℕ). imageFault x (length occ) .number ≡ 0) (ok t l m)
+      (left-accepted (partOf yard t) occ (a .blocking) (a .moved) (a .local) (a .limit) (part-bytes yard f t l m b) w few (ok t l m)))
+
+pub accepted-kept : (yard occ : List ℕ) (a : CheckArgs) (report : List ℕ) → yardFits yard ≡ true → Bytes yard → Trains16 occ
+    → ((t : ℕ) → 1 ≤ t → t ≤ slotCount yard → imageFault (partOf yard t) (length occ) .number ≡ 0)
+    → (t : ℕ) → 1 ≤ t → t ≤ slotCount yard → imageFault (partOf (checkedWith yard occ a report .yard) t) (length occ) .number ≡ 0
+accepted-kept yard occ a report ok b w h =
+    by yard occ a report (λ (c : Checked). (t : ℕ) → 1 ≤ t → t ≤ slotCount yard → imageFault (partOf (c .yard) t) (length occ) .number ≡ 0) (λ k e. h)
+    (λ e. accepted-after yard occ a (fits yard ok) b w (omega (arith, taken yard occ a (length report) e .moved, fits yard ok .few)) h)
+
+-- ---- the next begin, slot by slot: it moves on where it stands at a finished slot (dispatch.rs 78-80)
+
+and-false : (a b : Bool) → b ≡ false → (a && b) ≡ false
+and-false true b h = h
+and-false false b h = refl
+
+first-end : (test : ℕ → Bool) (t : ℕ) → firstNot test 0 t ≡ t
+unfolding firstNot
+first-end test t = refl
+
+first-pass : (test : ℕ → Bool) (k t : ℕ) → test t ≡ true → firstNot test (suc k) t ≡ firstNot test k (t + 1)
+unfolding firstNot
+first-pass test k t e = rw (e, firstNot)
+
+first-stop : (test : ℕ → Bool) (k t : ℕ) → test t ≡ false → firstNot test (suc k) t ≡ t
+unfolding firstNot
+first-stop test k t e = rw (e, firstNot)
+
+pub next-turn : (test : ℕ → Bool) (k t : ℕ) → firstNot test (suc k) t ≡ cond (test (t + k) && eqb (firstNot test k t) (t + k)) (t + k + 1) (firstNot test k t)
+next-turn test zero t = go (test t) refl
+  where
+    go : (b : Bool) → test t ≡ b → firstNot test 1 t ≡ cond (test (t + 0) && eqb (firstNot test 0 t) (t + 0)) (t + 0 + 1) (firstNot test 0 t)
+    go true e = let x : t + 0 ≡ t = omega arith in rw (x, first-pass test 0 t e, first-end test t, first-end test (t + 1), e, eq-eqb t t refl)
+    go false e = let x : t + 0 ≡ t = omega arith in rw (x, first-stop test 0 t e, first-end test t, e)
+next-turn test (suc k) t = go (test t) refl (next-turn test k (t + 1))
+  where
+    go : (b : Bool) → test t ≡ b → firstNot test (suc k) (t + 1) ≡ cond (test (t + 1 + k) && eqb (firstNot test k (t + 1)) (t + 1 + k)) (t + 1 + k + 1) (firstNot test k (t + 1))
+        → firstNot test (suc (suc k)) t ≡ cond (test (t + suc k) && eqb (firstNot test (suc k) t) (t + suc k)) (t + suc k + 1) (firstNot test (suc k) t)
+    go true e r =
+        let x : t + 1 + k ≡ t + suc k = omega arith in
+        rw (first-pass test (suc k) t e, first-pass test k t e) (rw x at r)
+    go false e r = rw (first-stop test (suc k) t e, first-stop test k t e) (sym (ap (λ (b : Bool). cond b (t + suc k + 1) t) (and-false (test (t + suc k)) _ (ne-eqb t (t + suc k) (λ h. omega arith)))))
