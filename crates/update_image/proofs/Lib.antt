@@ -5,5 +5,6 @@ pub mod StoredGood
 pub mod AcceptedBytes
 pub mod UpdateAnswers
 pub mod UpdateLeaves
+pub mod UpdateCounts
 pub mod ImageRenumbering
 pub mod Examples

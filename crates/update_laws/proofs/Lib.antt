@@ -29,4 +29,5 @@ pub mod Fitting
 pub mod Updates
 pub mod TopNever
 pub mod Tops
+pub mod Tally
 pub mod Examples

@@ -123,7 +123,7 @@ pub record TopGood (links : ℕ) (was t : Train) (split k : ℕ) : Type 0 where
   pub split-low : 1 ≤ split
   pub div-low : 1 ≤ k
 
-top-hands : (links : ℕ) (g : Given) (was t : Train) (split k : ℕ) (e : Ended) → TopGood links was t split k → roundOf g t split k ≡ ok e → Hands g was (StaysAccepted links was) (TopGood links was) e
+pub top-hands : (links : ℕ) (g : Given) (was t : Train) (split k : ℕ) (e : Ended) → TopGood links was t split k → roundOf g t split k ≡ ok e → Hands g was (StaysAccepted links was) (TopGood links was) e
 top-hands links g was t split k e w q = go e (round-good links g t (w .stays .accepted) split k (w .split-low) (w .div-low) q)
   where
     go : (e : Ended) → EndsGood links t e → Hands g was (StaysAccepted links was) (TopGood links was) e
