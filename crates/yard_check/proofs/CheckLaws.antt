@@ -81,6 +81,11 @@ module _ (yard occ : List ℕ) (a : CheckArgs) (report : List ℕ) where
       go zero e = ok e
       go (suc n) e = halt n e
 
+  -- a check that is not refused
+  pub taken-done : f .number ≡ 0 → after ≡ done
+  unfolding checkedWith
+  taken-done e = ap (λ (n : ℕ). checkedBy n (f .place) done yard report) e
+
   -- a refused check leaves the yard and the report
   pub refused-leaves : (n place : ℕ) → after .answer ≡ Refused n place → (after .yard ≡ yard) × (after .report ≡ report)
   refused-leaves n place =

@@ -18,14 +18,15 @@ use Rattle.train_update.specs.Update.{Status, Success, Blocked, Faulty, Refused
 use Rattle.update_image.specs.UpdateImage.{UpdatedImage, updatedImage}
 use Rattle.update_image.specs.UpdateMatch.{CallsMatch}
 use Rattle.update_image.proofs.UpdateLeaves.{Trains16}
+use Rattle.update_image.proofs.UpdateCounts.{image-counts}
 use Rattle.update_image.proofs.ImageRenumbering.{call-fault-match}
 use Rattle.yard_check.specs.Yard.{slotCount, partOf, yardFits}
-use Rattle.yard_check.specs.Check.{CheckArgs, slotsFault, reportFault, checkFault, Row, updatedRow, isBlockedRow, isErredRow, isFinished, Visit, visitBy, visited, slotVisit, yardAfter, reportAfter, howMany, answerBy, answerOf, Checked, check, checkedBy, checkedWith}
+use Rattle.yard_check.specs.Check.{CheckArgs, slotsFault, reportFault, checkFault, Row, rowAt, updatedRow, isBlockedRow, isErredRow, isFinished, Visit, visitBy, visited, slotVisit, yardAfter, reportAfter, howMany, answerBy, answerOf, Checked, check, checkedBy, checkedWith}
 use Rattle.yard_check.specs.YardMatch.{YardsMatch, rRow, ReportsMatch, AnswersMatch, NotRefused, ArgsMatch}
 use Rattle.yard_check.specs.DemandThree.{Plain}
 use Rattle.yard_check.proofs.SlotLaws.{some, many-same, many-renumbered, leb-slots}
 use Rattle.yard_check.proofs.YardLaws.{fits, left, same-slots, part-bytes, part-done}
-use Rattle.yard_check.proofs.CheckLaws.{taken}
+use Rattle.yard_check.proofs.CheckLaws.{taken, taken-done}
 use Rattle.yard_check.proofs.ReportLaws.{keptRow, report-length, report-row}
 use Rattle.yard_check.proofs.VisitMatch.{VisitsMatch, visit-match, visited-slot}
 
@@ -48,6 +49,25 @@ unfolding visited
 holder-few occ a t img =
     holder-by (imageFault img (length occ) .number) (imageFault img (length occ) .place) (isFinished img) (eqb t (a .moved)) (a .moved)
     (updatedImage img occ (a .blocking) (a .moved) (a .local) (a .limit)) img
+
+-- ---- the strays of a row fit the report
+
+strays-row : (s : Status) (moved rounds strays : ℕ) → updatedRow s moved rounds strays .strays ≤ strays
+strays-row Success moved rounds strays = omega arith
+strays-row Blocked moved rounds strays = omega arith
+strays-row (Faulty n) moved rounds strays = omega arith
+strays-row (Refused n i) moved rounds strays = omega arith
+
+strays-by : (n place : ℕ) (isDone isMoved : Bool) (moved : ℕ) (u : UpdatedImage) (img : List ℕ) → visitBy n place isDone isMoved moved u img .row .strays ≤ u .strays
+strays-by (suc n) place isDone isMoved moved u img = omega arith
+strays-by zero place true isMoved moved u img = omega arith
+strays-by zero place false true moved u img = omega arith
+strays-by zero place false false moved u img = strays-row (u .status) moved (u .rounds) (u .strays)
+
+strays-few : (occ : List ℕ) (a : CheckArgs) (t : ℕ) (img : List ℕ) → Bytes img → a .limit < 65536 → visited occ a t img .row .strays < 4294967296
+unfolding visited
+strays-few occ a t img b h =
+    omega (arith, image-counts img occ (a .blocking) (a .moved) (a .local) (a .limit) b .strays, strays-by (imageFault img (length occ) .number) (imageFault img (length occ) .place) (isFinished img) (eqb t (a .moved)) (a .moved) (updatedImage img occ (a .blocking) (a .moved) (a .local) (a .limit)) img)
 
 -- what the report keeps of a renumbered row
 kept-renumbered : (q : ℕ → ℕ) (r : Row) → r .holder < 65536 → q (r .holder) < 65536 → keptRow (rRow q r) ≡ rRow q (keptRow r)
@@ -178,7 +198,15 @@ module _ (p q : ℕ → ℕ) (yard yard′ occ occ′ : List ℕ) (a a′ : Chec
             yards = yards;
           }
 
-  module _ (plain : f .number ≡ 0 → Plain yard occ a) where
+  -- a report that shows no stray has counted none
+  none-counted : a .limit < 65536 → f .number ≡ 0 → a .begin ≡ 1 → ((t : ℕ) → 1 ≤ t → t ≤ S → rowAt (checkedWith yard occ a report .report) t .strays ≡ 0)
+      → (t : ℕ) → 1 ≤ t → t ≤ S → slotVisit yard occ a t .row .strays ≡ 0
+  none-counted few clean begins shown t l k =
+      let shows : keptRow (slotVisit yard occ a t .row) .strays ≡ 0 =
+      ap (λ (r : Row). r .strays) (sym (report-row yard occ a report S (omega (arith, report-long clean)) t l k) ∙ ap (λ (c : Checked). rowAt (c .report) t) (sym (taken-done yard occ a report clean))) ∙ shown t l k in
+      omega (arith, shows, ap (λ (v : Visit). v .row .strays) (visited-slot yard occ a t begins l), strays-few occ a t (partOf yard t) (part-bytes yard (fits yard ok) t l k b) few)
+
+  module _ (few : a .limit < 65536) (plain : f .number ≡ 0 → Plain yard occ a report) where
     abbrev done : Checked
     done = check (answerOf (λ t. slotVisit yard occ a t .row) S (a .begin)) (yardAfter yard occ a S) (reportAfter yard occ a report S)
 
@@ -194,4 +222,4 @@ module _ (p q : ℕ → ℕ) (yard yard′ occ occ′ : List ℕ) (a a′ : Chec
     unfolding checkedWith
     check-match =
         subst (λ (x : Fault). ChecksMatch p q S (checkedBy (f .number) (f .place) done yard report) (checkedBy (x .number) (x .place) done′ yard′ report′)) (sym fault-same)
-        (by (f .number) (f .place) (λ e. let k = plain e in done-match e (k .begin) (k .zero-empty) (k .strays)))
+        (by (f .number) (f .place) (λ e. let k = plain e in done-match e (k .begin) (k .zero-empty) (none-counted few e (k .begin) (k .strays))))

@@ -57,7 +57,7 @@ module _ (p q : ℕ → ℕ) (w w′ : World) (y : OneYard p q w w′) where
   unfolding run
   check-kept a a′ report report′ g long h =
       let links : Renumbering (length (w .occupancy) - 1) p = rw (y .long) (y .links) in
-      let m = check-match p q (w .yard) (w′ .yard) (w .occupancy) (w′ .occupancy) a a′ report report′ links (y .trains) (y .slots) (y .yard) (y .yard′) (y .yards) (y .occupancies) (y .bytes) (y .bytes′) (y .halves) g long h in
+      let m = check-match p q (w .yard) (w′ .yard) (w .occupancy) (w′ .occupancy) a a′ report report′ links (y .trains) (y .slots) (y .yard) (y .yard′) (y .yards) (y .occupancies) (y .bytes) (y .bytes′) (y .halves) g long (h .0) (h .1) in
       let same = slots-kept (w .yard) (w .occupancy) a report (y .yard) in
       record {
         outcomes = record { answers = (m .answer, rw same (m .report)); occupancies = y .occupancies; yards = m .yards };

@@ -14,7 +14,7 @@ use Rattle.link_rules.specs.Matching.{rRecord}
 use Rattle.link_rules.specs.declared.refusal.Answer.the-variants.{Done as Marked}
 use Rattle.free_path.specs.Order.{swap}
 use Rattle.yard_check.specs.Yard.{partOf}
-use Rattle.yard_check.specs.Check.{Done}
+use Rattle.yard_check.specs.Check.{rowFrom, Done}
 use Rattle.yard_check.specs.Calls.{World, Call, mark, check, marked, checked, run, runAll}
 use Rattle.yard_check.specs.DemandThree.{OneYard, CallsMatch, Each, Premises, OutcomesMatch}
 use Rattle.yard_check.proofs.Siding.{words, siding, diverted, plain, twoSlots, everything}
@@ -77,7 +77,7 @@ calls′ =
 
 -- what the examples compute with
 unfoldable world : ℕ
-unfolding everything swapped table holdAll refilled resetLinkTrainIdx resetAll updateLinksBlocked markRefusal markOf lockouts tableHeaderFits recordFits lockoutFits tableFits run runAll entriesBelow sameBytes renumbered imagesMatch
+unfolding everything swapped table holdAll refilled resetLinkTrainIdx resetAll updateLinksBlocked markRefusal markOf lockouts tableHeaderFits recordFits lockoutFits tableFits rowFrom run runAll entriesBelow sameBytes renumbered imagesMatch
 world = 0
 
 -- ---- the calls, computed
@@ -149,7 +149,7 @@ same-calls = ((refl, refl), ((record { blocking = swap 2 3 []; moved = refl; beg
 
 premises : Premises first calls
 unfolding world
-premises = (lit< tt, ((λ h. record { begin = refl; zero-empty = refl; strays = two-cases _ refl refl }), (lit< tt, tt)))
+premises = (lit< tt, ((lit< tt, λ h. record { begin = refl; zero-empty = refl; strays = two-cases _ refl refl }), (lit< tt, tt)))
 
 matched : Each (OutcomesMatch swapped swapped) (runAll first calls) (runAll second calls′)
 matched = demand-three swapped swapped first second calls calls′ one-yard same-calls premises

@@ -9,7 +9,7 @@ use Rattle.link_rules.specs.Network.{linkCount, tableFits}
 use Rattle.link_rules.specs.Renumbering.{Renumbering, rLink, rTrain}
 use Rattle.link_rules.specs.Matching.{TablesMatch, OccupanciesMatch}
 use Rattle.yard_check.specs.Yard.{slotCount, yardFits}
-use Rattle.yard_check.specs.Check.{CheckArgs, checkFault, slotVisit}
+use Rattle.yard_check.specs.Check.{CheckArgs, checkFault, rowAt, checkedWith}
 use Rattle.yard_check.specs.YardMatch.{YardsMatch, ReportsMatch, AnswersMatch, NotRefused, ArgsMatch}
 use Rattle.yard_check.specs.Calls.{World, Call, mark, check, Answered, marked, checked, Outcome, run, runAll}
 
@@ -54,16 +54,16 @@ Each R (x ∷ xs) (y ∷ ys) = R x y × Each R xs ys
 
 -- ---- the premises over the first yard
 
--- a check begins at slot 1, finds entry 0 of the occupancy empty, and counts no stray in any slot
-pub record Plain (yard occ : List ℕ) (a : CheckArgs) : Type 0 where
+-- a check begins at slot 1, finds entry 0 of the occupancy empty, and reports no stray in any slot
+pub record Plain (yard occ : List ℕ) (a : CheckArgs) (report : List ℕ) : Type 0 where
   pub begin : a .begin ≡ 1
   pub zero-empty : getD occ 0 0 ≡ 0
-  pub strays : (t : ℕ) → 1 ≤ t → t ≤ slotCount yard → slotVisit yard occ a t .row .strays ≡ 0
+  pub strays : (t : ℕ) → 1 ≤ t → t ≤ slotCount yard → rowAt (checkedWith yard occ a report .report) t .strays ≡ 0
 
--- so does each check that is not refused; the train of a mark is a u16
+-- so does each check that is not refused; the train of a mark and the round limit of a check are u16
 abbrev pub Premise : World → Call → Type 0
 Premise w (mark l t) = t .0 < 65536
-Premise w (check a report) = checkFault (w .yard) (w .occupancy) a (length report) .number ≡ 0 → Plain (w .yard) (w .occupancy) a
+Premise w (check a report) = (a .limit < 65536) × (checkFault (w .yard) (w .occupancy) a (length report) .number ≡ 0 → Plain (w .yard) (w .occupancy) a report)
 
 -- each call's on what the calls before it left
 abbrev pub Premises : World → List Call → Type 0
