@@ -54,13 +54,13 @@ Each R (x ∷ xs) (y ∷ ys) = R x y × Each R xs ys
 
 -- ---- the premises over the first yard
 
--- a check begins at slot 1, finds entry 0 of the occupancy empty, and reports no stray in any slot
+-- a check that begins at slot 1, finds entry 0 of the occupancy empty, and reports no stray in any slot
 pub record Plain (yard occ : List ℕ) (a : CheckArgs) (report : List ℕ) : Type 0 where
   pub begin : a .begin ≡ 1
   pub zero-empty : getD occ 0 0 ≡ 0
   pub strays : (t : ℕ) → 1 ≤ t → t ≤ slotCount yard → rowAt (checkedWith yard occ a report .report) t .strays ≡ 0
 
--- so does each check that is not refused; the train of a mark and the round limit of a check are u16
+-- each check that is not refused is such a one; the train of a mark and the round limit of a check are u16
 abbrev pub Premise : World → Call → Type 0
 Premise w (mark l t) = t .0 < 65536
 Premise w (check a report) = (a .limit < 65536) × (checkFault (w .yard) (w .occupancy) a (length report) .number ≡ 0 → Plain (w .yard) (w .occupancy) a report)
