@@ -15,7 +15,7 @@ use Rattle.yard_check.specs.Calls.{World, Call, mark, check, run, runAll
 use Rattle.yard_check.specs.DemandThree.{OneYard, CallsMatch, Premise, OutcomesMatch, DemandThree}
 use Rattle.yard_check.proofs.CheckMatch.{check-match}
 use Rattle.yard_check.proofs.CheckLaws.{fits-kept, slots-kept, bytes-kept}
-use Rattle.yard_check.proofs.MarkedTrains.{halves-marked}
+use Rattle.yard_check.proofs.MarkedTrains.{trains16-marked}
 
 -- what one call answers and leaves, and that the next may come
 pub record Kept (p q : ℕ → ℕ) (w w′ : World) (c c′ : Call) : Type 0 where
@@ -46,7 +46,7 @@ module _ (p q : ℕ → ℕ) (w w′ : World) (y : OneYard p q w w′) where
               yards = y .yards;
               bytes = y .bytes;
               bytes′ = y .bytes′;
-              halves = halves-marked (w .table) (w .occupancy) l t h (y .halves);
+              entries = trains16-marked (w .table) (w .occupancy) l t h (y .entries);
             };
       }
 
@@ -57,7 +57,7 @@ module _ (p q : ℕ → ℕ) (w w′ : World) (y : OneYard p q w w′) where
   unfolding run
   check-kept a a′ report report′ g long h =
       let links : Renumbering (length (w .occupancy) - 1) p = rw (y .long) (y .links) in
-      let m = check-match p q (w .yard) (w′ .yard) (w .occupancy) (w′ .occupancy) a a′ report report′ links (y .trains) (y .slots) (y .yard) (y .yard′) (y .yards) (y .occupancies) (y .bytes) (y .bytes′) (y .halves) g long (h .0) (h .1) in
+      let m = check-match p q (w .yard) (w′ .yard) (w .occupancy) (w′ .occupancy) a a′ report report′ links (y .trains) (y .slots) (y .yard) (y .yard′) (y .yards) (y .occupancies) (y .bytes) (y .bytes′) (y .entries) g long (h .0) (h .1) in
       let same = slots-kept (w .yard) (w .occupancy) a report (y .yard) in
       record {
         outcomes = record { answers = (m .answer, rw same (m .report)); occupancies = y .occupancies; yards = m .yards };
@@ -76,7 +76,7 @@ module _ (p q : ℕ → ℕ) (w w′ : World) (y : OneYard p q w w′) where
               yards = m .yards;
               bytes = bytes-kept (w .yard) (w .occupancy) a report (y .yard) (y .bytes);
               bytes′ = bytes-kept (w′ .yard) (w′ .occupancy) a′ report′ (y .yard′) (y .bytes′);
-              halves = y .halves;
+              entries = y .entries;
             };
       }
 

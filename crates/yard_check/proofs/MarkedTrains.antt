@@ -17,8 +17,8 @@ use Rattle.est_times.proofs.Counting.{same-or-not}
 use Rattle.image.proofs.Writers.{side}
 use Rattle.update_image.proofs.UpdateLeaves.{Trains16}
 
-halves-set : (occ : List ℕ) (k x : ℕ) → x < 65536 → Trains16 occ → Trains16 (set occ k x)
-halves-set occ k x l b i =
+trains16-set : (occ : List ℕ) (k x : ℕ) → x < 65536 → Trains16 occ → Trains16 (set occ k x)
+trains16-set occ k x l b i =
     ⊎-elim
     (λ (h : k < length occ). ⊎-elim
     (λ (q : i ≡ k). rw q (omega (arith, getD-set-same occ k x 0 h)))
@@ -27,38 +27,38 @@ halves-set occ k x l b i =
     (λ (h : length occ ≤ k). rw (set-out occ k x h) (b i))
     (side k (length occ))
 
-halves-cond : (v : Bool) (xs ys : List ℕ) → Trains16 xs → Trains16 ys → Trains16 (cond v xs ys)
-halves-cond true xs ys a b = a
-halves-cond false xs ys a b = b
+trains16-cond : (v : Bool) (xs ys : List ℕ) → Trains16 xs → Trains16 ys → Trains16 (cond v xs ys)
+trains16-cond true xs ys a b = a
+trains16-cond false xs ys a b = b
 
-halves-hold : (occ : List ℕ) (ls : List LinkIdx) (t : TrainIdx) → t .0 < 65536 → Trains16 occ → Trains16 (holdAll occ ls t)
+trains16-hold : (occ : List ℕ) (ls : List LinkIdx) (t : TrainIdx) → t .0 < 65536 → Trains16 occ → Trains16 (holdAll occ ls t)
 unfolding holdAll
-halves-hold occ [] t l b = b
-halves-hold occ (x ∷ xs) t l b = halves-hold (hold occ x t) xs t l (halves-set occ (x .0) (t .0) l b)
+trains16-hold occ [] t l b = b
+trains16-hold occ (x ∷ xs) t l b = trains16-hold (hold occ x t) xs t l (trains16-set occ (x .0) (t .0) l b)
 
-halves-refilled : (occ : List ℕ) (l : LinkIdx) (ls : List LinkIdx) → Trains16 occ → Trains16 (refilled occ l ls)
+trains16-refilled : (occ : List ℕ) (l : LinkIdx) (ls : List LinkIdx) → Trains16 occ → Trains16 (refilled occ l ls)
 unfolding refilled
-halves-refilled occ l [] b = b
-halves-refilled occ l (x ∷ xs) b = halves-cond (occupied occ x) _ _ (halves-set occ (l .0) (holder occ x .0) (b (x .0)) b) (halves-refilled occ l xs b)
+trains16-refilled occ l [] b = b
+trains16-refilled occ l (x ∷ xs) b = trains16-cond (occupied occ x) _ _ (trains16-set occ (l .0) (holder occ x .0) (b (x .0)) b) (trains16-refilled occ l xs b)
 
-halves-reset : (tbl occ : List ℕ) (ls : List LinkIdx) → Trains16 occ → Trains16 (resetAll tbl occ ls)
+trains16-reset : (tbl occ : List ℕ) (ls : List LinkIdx) → Trains16 occ → Trains16 (resetAll tbl occ ls)
 unfolding resetAll resetLinkTrainIdx
-halves-reset tbl occ [] b = b
-halves-reset tbl occ (l ∷ ls) b =
-    halves-reset tbl (resetLinkTrainIdx tbl occ l) ls
-    (halves-cond (ltb 1 (length (linkAt tbl l .«link_idxs_lockout»))) _ _ (halves-refilled occ l (linkAt tbl l .«link_idxs_lockout») b) b)
+trains16-reset tbl occ [] b = b
+trains16-reset tbl occ (l ∷ ls) b =
+    trains16-reset tbl (resetLinkTrainIdx tbl occ l) ls
+    (trains16-cond (ltb 1 (length (linkAt tbl l .«link_idxs_lockout»))) _ _ (trains16-refilled occ l (linkAt tbl l .«link_idxs_lockout») b) b)
 
-halves-updated : (tbl occ : List ℕ) (l : LinkIdx) (t : TrainIdx) → t .0 < 65536 → Trains16 occ → Trains16 (updateLinksBlocked tbl occ l t)
+trains16-updated : (tbl occ : List ℕ) (l : LinkIdx) (t : TrainIdx) → t .0 < 65536 → Trains16 occ → Trains16 (updateLinksBlocked tbl occ l t)
 unfolding updateLinksBlocked
-halves-updated tbl occ l t h b =
+trains16-updated tbl occ l t h b =
     let ls = linkAt tbl l .«idx_flip» ∷ linkAt tbl l .«link_idxs_lockout» in
-    let held = halves-hold occ ls t h b in
-    halves-cond (sameTrain t noTrain) _ _ (halves-reset tbl (holdAll occ ls t) ls held) held
+    let held = trains16-hold occ ls t h b in
+    trains16-cond (sameTrain t noTrain) _ _ (trains16-reset tbl (holdAll occ ls t) ls held) held
 
-pub halves-marked : (tbl occ : List ℕ) (l : LinkIdx) (t : TrainIdx) → t .0 < 65536 → Trains16 occ → Trains16 (markOf tbl occ l t .occupancy)
+pub trains16-marked : (tbl occ : List ℕ) (l : LinkIdx) (t : TrainIdx) → t .0 < 65536 → Trains16 occ → Trains16 (markOf tbl occ l t .occupancy)
 unfolding markOf
-halves-marked tbl occ l t h b = go (markRefusal tbl (length occ) l)
+trains16-marked tbl occ l t h b = go (markRefusal tbl (length occ) l)
   where
     go : (n : ℕ) → Trains16 (markedBy n occ (updateLinksBlocked tbl occ l t) .occupancy)
-    go zero = halves-updated tbl occ l t h b
+    go zero = trains16-updated tbl occ l t h b
     go (suc n) = b

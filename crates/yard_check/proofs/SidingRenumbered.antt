@@ -140,7 +140,7 @@ one-yard =
       yards = record { slots = refl; images = two-cases _ (images-match swapped swapped (partOf (first .yard) 1) (partOf (second .yard) 2) refl) (images-match swapped swapped (partOf (first .yard) 2) (partOf (second .yard) 1) refl) };
       bytes = entries-below 256 (first .yard) (lit< tt) refl;
       bytes′ = entries-below 256 (second .yard) (lit< tt) refl;
-      halves = entries-below 65536 (first .occupancy) (lit< tt) refl;
+      entries = entries-below 65536 (first .occupancy) (lit< tt) refl;
     }
 
 same-calls : Each (CallsMatch swapped swapped) calls calls′

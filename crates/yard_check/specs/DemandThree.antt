@@ -31,10 +31,10 @@ pub record OneYard (p q : ℕ → ℕ) (w w′ : World) : Type 0 where
   pub yard : yardFits (w .yard) ≡ true
   pub yard′ : yardFits (w′ .yard) ≡ true
   pub yards : YardsMatch p q (w .yard) (w′ .yard)
-  -- the buffers are of u8 and of u16
+  -- the yards are of u8, the occupancy of u16
   pub bytes : (i : ℕ) → getD (w .yard) i 0 < 256
   pub bytes′ : (i : ℕ) → getD (w′ .yard) i 0 < 256
-  pub halves : (i : ℕ) → getD (w .occupancy) i 0 < 65536
+  pub entries : (i : ℕ) → getD (w .occupancy) i 0 < 65536
 
 -- ---- the calls
 
