@@ -1,10 +1,17 @@
--- Answers as numbers of 32 bits, for C. Assumes nothing.
+-- Answers as numbers, for C. Assumes nothing.
 use Prim.Native.Nat.{ℕ, _+_, _*_}
+use mathlib.Core.Path.{_≡_}
+use mathlib.Core.Bool.{Bool}
+use mathlib.Core.List.{List}
+use lib.Dec.{ltb}
+use lib.ListN.{set}
 use lib.Ieee.{Float}
 use Rattle.link_rules.specs.declared.refusal.Answer.{Answer}
 use Rattle.link_rules.specs.declared.refusal.Answer.the-variants.{Done, Refused}
 use Rattle.image_fault.specs.declared.Fault.{Fault}
 use Rattle.train_disp.specs.declared.Order.{Order}
+use Rattle.train_update.specs.Update.{Status, Success, Blocked, Faulty, Refused as RefusedBy}
+use Rattle.update_image.specs.UpdateImage.{UpdatedImage}
 
 -- 0 where the call is done, else document 01's number, with the place in the upper 16 bits
 abbrev pub answerWord : Answer → ℕ
@@ -25,3 +32,39 @@ orderOf train search fixed room links =
       «diverge_room» = room;
       links = links;
     }
+
+-- ---- an update
+
+-- a flag of C: any number but 0 is true
+abbrev pub flagOf : ℕ → Bool
+flagOf n = ltb 0 n
+
+-- 0 where the update is not refused
+abbrev pub statusWord : Status → ℕ
+statusWord Success = 0
+statusWord Blocked = 0
+statusWord (Faulty n) = 0
+statusWord (RefusedBy n place) = n + 65536 * place
+
+-- document 01's code of a slot that is updated so
+abbrev pub codeOf : Status → ℕ
+codeOf Success = 3
+codeOf Blocked = 4
+codeOf (Faulty n) = 5
+codeOf (RefusedBy n place) = 16 + n
+
+abbrev pub errorsOf : Status → ℕ
+errorsOf Success = 0
+errorsOf Blocked = 0
+errorsOf (Faulty n) = n
+errorsOf (RefusedBy n place) = 0
+
+-- code, errors, rounds and strays in the first four words; a word past the end stays out
+abbrev pub updateWords : UpdatedImage → List ℕ → List ℕ
+updateWords u ws = set (set (set (set ws 0 (codeOf (u .status))) 1 (errorsOf (u .status))) 2 (u .rounds)) 3 (u .strays)
+
+-- the update u as C sees it: the number that is returned, the image and the words that are left
+pub record Told (u : UpdatedImage) (r : ℕ) (image ws₀ ws : List ℕ) : Type 0 where
+  pub word : r ≡ statusWord (u .status)
+  pub bytes : image ≡ u .image
+  pub words : ws ≡ updateWords u ws₀

@@ -4,13 +4,18 @@ ghost use mathlib.Core.Path.{_≡_};
 ghost use Rattle.link_rules.specs.AdvanceRewind.{markOf};
 ghost use Rattle.image_fault.specs.ImageFault.{imageFault};
 ghost use Rattle.train_disp.specs.TrainDisp.{laidOut};
-ghost use Rattle.free_path_c.specs.Words.{answerWord, faultWord, orderOf};
+ghost use lib.ListN.{set};
+ghost use Rattle.update_image.specs.UpdateImage.{updatedImage};
+ghost use Rattle.update_free_path.specs.Updates.{statusOf};
+ghost use Rattle.free_path_c.specs.Words.{answerWord, faultWord, orderOf, flagOf, statusWord, codeOf, errorsOf, Told};
 use disp_structs::Metres;
 use link_rules::advance_rewind;
 use link_rules::link_idx::LinkIdx;
 use link_rules::link_idx::TrainIdx;
 use link_rules::refusal::Answer;
 use train_disp::Order;
+use update_free_path;
+use update_free_path::answer::Status;
 
 // Marks a link for a train, or releases it with train 0. Answers 0, or the refusal's number with its place in the upper 16 bits.
 #[no_mangle]
@@ -66,4 +71,81 @@ pub extern "C" fn lavtoeu_lay_out(
         links: links,
     };
     answer_word(train_disp::lay_out(est, order, image))
+}
+
+// Updates the train of an image. Answers 0, or the refusal's number with its place in the upper 16 bits, and puts into the first four words of `answer`
+// document 01's code (3 success, 4 blocked, 5 faulty, 16 + n refused by n), the number of errors, the rounds and the strays. Any local but 0 is yes.
+#[no_mangle]
+pub extern "C" fn lavtoeu_update(
+    image: &mut [u8],
+    occupancy: &[u16],
+    blocking: &[u32],
+    moved: u16,
+    local: u32,
+    limit: u16,
+    answer: &mut [u64],
+) -> u32
+    ensures { λ r. ⌜ Told (updatedImage (now (image .entry)) (now (occupancy .entry)) (now (blocking .entry)) moved (flagOf local) limit) r (now (image .exit)) (now (answer .entry)) (now (answer .exit)) ⌝ }
+{
+    let x = update_free_path::update_free_path(
+        image,
+        occupancy,
+        blocking,
+        TrainIdx(moved),
+        flag_of(local),
+        limit,
+    );
+    let s = x.status;
+    put_word(answer, 0, code_of(s));
+    put_word(answer, 1, errors_of(s));
+    put_word(answer, 2, x.rounds as u64);
+    put_word(answer, 3, x.strays);
+    status_word(s)
+}
+
+fn flag_of(n: u32) -> bool
+    ensures { λ r. ⌜ r ≡ flagOf n ⌝ }
+{
+    0 < n
+}
+
+fn put_word(answer: &mut [u64], at: usize, x: u64)
+    ensures { λ _. ⌜ now (answer .exit) ≡ set (now (answer .entry)) at x ⌝ }
+{
+    if at < answer.len() {
+        answer[at] = x;
+    }
+}
+
+fn status_word(s: Status) -> u32
+    ensures { λ r. ⌜ r ≡ statusWord (statusOf s) ⌝ }
+{
+    match s {
+        Status::Success => 0,
+        Status::Blocked => 0,
+        Status::Faulty(n) => 0,
+        Status::Refused(r) => (r.number as u32) + 65536 * (r.place as u32),
+    }
+}
+
+fn code_of(s: Status) -> u64
+    ensures { λ r. ⌜ r ≡ codeOf (statusOf s) ⌝ }
+{
+    match s {
+        Status::Success => 3,
+        Status::Blocked => 4,
+        Status::Faulty(n) => 5,
+        Status::Refused(r) => 16 + (r.number as u64),
+    }
+}
+
+fn errors_of(s: Status) -> u64
+    ensures { λ r. ⌜ r ≡ errorsOf (statusOf s) ⌝ }
+{
+    match s {
+        Status::Success => 0,
+        Status::Blocked => 0,
+        Status::Faulty(n) => n,
+        Status::Refused(r) => 0,
+    }
 }

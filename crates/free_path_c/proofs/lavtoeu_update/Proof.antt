@@ -1,0 +1,72 @@
+use mathlib.Core.Path.{_∙_, ap}
+use mathlib.Core.Bool.{Bool}
+use denote.Ref.{now}
+use Rattle.update_image.specs.UpdateImage.{UpdatedImage, updatedImage}
+use Rattle.free_path_c.specs.Words.{statusWord, updateWords}
+use borrow.Author.Needs.{needs}
+use Rattle.free_path_c.proofs.lavtoeu_update.Statement.{statement}
+use Rattle.free_path_c.proofs.lavtoeu_update.Tie as tie
+
+flag-of-requires : tie.Need-flag-of-requires
+flag-of-requires c κs = search needs
+
+update-free-path-requires : tie.Need-update-free-path-requires
+update-free-path-requires c κs = search needs
+
+code-of-requires : tie.Need-code-of-requires
+code-of-requires c κs = search needs
+
+put-word-requires : tie.Need-put-word-requires
+put-word-requires c κs = search needs
+
+errors-of-requires : tie.Need-errors-of-requires
+errors-of-requires c κs = search needs
+
+put-word-requires-2 : tie.Need-put-word-requires-2
+put-word-requires-2 c κs = search needs
+
+cast-put-word : tie.Need-cast-put-word
+cast-put-word c = search needs
+
+put-word-requires-3 : tie.Need-put-word-requires-3
+put-word-requires-3 c κs = search needs
+
+put-word-requires-4 : tie.Need-put-word-requires-4
+put-word-requires-4 c κs = search needs
+
+status-word-requires : tie.Need-status-word-requires
+status-word-requires c κs = search needs
+
+same-length : tie.Need-same-length
+same-length c = search needs
+
+same-length-2 : tie.Need-same-length-2
+same-length-2 c = search needs
+
+returns : tie.Need-returns
+returns c =
+    let a = c .before .before .before .before .before .before .before .before .before .before .before .before .before .before .before .before .before .before .before .before .before .before .before .before .before .before .before .before .before .args in
+    let e = c .before .before .before .before .before .before .before .before .before .before .before .before .before .before .before .before .before .before .before .before .before .before .update-free-path .ensures ∙ ap (λ (b : Bool). updatedImage (now (a .image)) (now (a .occupancy)) (now (a .blocking)) (a .moved) b (a .limit)) (c .before .before .before .before .before .before .before .before .before .before .before .before .before .before .before .before .before .before .before .before .before .before .before .flag-of .ensures) in
+    record {
+      word = c .status-word .ensures ∙ ap (λ (u : UpdatedImage). statusWord (u .status)) e;
+      bytes = ap (λ (u : UpdatedImage). u .image) e;
+      words = rw (c .before .before .before .put-word4 .ensures, c .before .before .before .before .before .before .before .put-word3 .ensures, c .before .before .before .before .before .before .before .before .before .before .before .before .put-word2 .ensures, c .before .before .before .before .before .before .before .before .before .before .before .before .before .errors-of .ensures, c .before .before .before .before .before .before .before .before .before .before .before .before .before .before .before .before .before .put-word .ensures, c .before .before .before .before .before .before .before .before .before .before .before .before .before .before .before .before .before .before .code-of .ensures) (ap (λ (u : UpdatedImage). updateWords u (now (a .answer))) e);
+    }
+
+pub lavtoeu-update-spec : {M : Type 1} → statement M
+lavtoeu-update-spec =
+    tie.close
+    (tie.spec
+    flag-of-requires
+    update-free-path-requires
+    code-of-requires
+    put-word-requires
+    errors-of-requires
+    put-word-requires-2
+    cast-put-word
+    put-word-requires-3
+    put-word-requires-4
+    status-word-requires
+    same-length
+    same-length-2
+    returns)

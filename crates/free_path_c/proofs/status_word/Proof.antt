@@ -1,0 +1,60 @@
+use mathlib.Core.Path.{sym, ap}
+use Rattle.update_free_path.specs.Updates.{statusOf}
+use Rattle.update_free_path.specs.declared.answer.Status.{Status}
+use Rattle.free_path_c.specs.Words.{statusWord}
+use borrow.Author.Needs.{needs}
+use Rattle.free_path_c.proofs.status_word.Statement.{statement}
+use Rattle.free_path_c.proofs.status_word.Tie as tie
+
+enum-told : tie.Need-enum-told
+enum-told c = search needs
+
+enum-told-2 : tie.Need-enum-told-2
+enum-told-2 c = search needs
+
+enum-known-s : tie.Need-enum-known-s
+enum-known-s c = search needs
+
+enum-known-s-2 : tie.Need-enum-known-s-2
+enum-known-s-2 c = search needs
+
+cast-result : tie.Need-cast-result
+cast-result c = search needs
+
+cast-result-2 : tie.Need-cast-result-2
+cast-result-2 c = search needs
+
+mul-result : tie.Need-mul-result
+mul-result c = search needs
+
+add-result : tie.Need-add-result
+add-result c = search needs
+
+returns : tie.Need-returns
+returns c = search needs
+
+returns-2 : tie.Need-returns-2
+returns-2 c = search needs
+
+returns-3 : tie.Need-returns-3
+returns-3 c = search needs
+
+returns-4 : tie.Need-returns-4
+returns-4 c = sym (ap (λ (s : Status). statusWord (statusOf s)) (c .before .before .before .s2 .given .1))
+
+pub status-word-spec : {M : Type 1} → statement M
+status-word-spec =
+    tie.close
+    (tie.spec
+    enum-told
+    enum-told-2
+    enum-known-s
+    enum-known-s-2
+    cast-result
+    cast-result-2
+    mul-result
+    add-result
+    returns
+    returns-2
+    returns-3
+    returns-4)
