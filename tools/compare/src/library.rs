@@ -1,9 +1,9 @@
 //! The exported functions of the proved library, each over a case.
 
-use oracle::cases::{Case, LAY_OUT, MARK};
-use oracle::layout::{u16_bytes, u16s};
+use oracle::cases::{Case, LAY_OUT, MARK, UPDATE};
+use oracle::layout::{u16_bytes, u16s, u32s};
 
-pub const KINDS: [&str; 3] = ["mark", "image", "layout"];
+pub const KINDS: [&str; 5] = ["mark", "image", "layout", "update", "update-large"];
 
 extern "C" {
     fn lavtoeu_image_fault(image: *const u8, n: usize, links: u32) -> u32;
@@ -19,6 +19,19 @@ extern "C" {
         k: usize,
     ) -> u32;
     fn lavtoeu_mark(table: *const u8, n: usize, occupancy: *mut u16, k: usize, link: u32, train: u16) -> u32;
+    fn lavtoeu_update(
+        image: *mut u8,
+        n: usize,
+        occupancy: *const u16,
+        k: usize,
+        blocking: *const u32,
+        b: usize,
+        moved: u16,
+        local: u32,
+        limit: u16,
+        answer: *mut u64,
+        words: usize,
+    ) -> u32;
 }
 
 /// Where the answer of an operation has the refusal's number.
@@ -36,6 +49,7 @@ pub fn answered(asked: &Case) -> Case {
     match case.op {
         MARK => mark(&mut case),
         LAY_OUT => lay_out(&mut case),
+        UPDATE => update(&mut case),
         op => panic!("no operation {op}"),
     }
     case
@@ -65,6 +79,53 @@ fn lay_out(case: &mut Case) {
         lavtoeu_lay_out(est.as_ptr(), est.len(), a[0] as u16, search, fixed, a[1], a[2], image.as_mut_ptr(), image.len())
     };
     put_word(case, word);
+    case.outs = [image, vec![]];
+}
+
+/// The call alone, on buffers of the caller: the word that it returns, and the four words of its answer.
+pub fn update_in(
+    image: &mut [u8],
+    occ: &[u16],
+    blocking: &[u32],
+    moved: u16,
+    local: bool,
+    limit: u16,
+) -> (u32, [u64; 4]) {
+    let mut answer = [0; 4];
+    // SAFETY: each pointer goes with its own length, and the function keeps to them.
+    let word = unsafe {
+        lavtoeu_update(
+            image.as_mut_ptr(),
+            image.len(),
+            occ.as_ptr(),
+            occ.len(),
+            blocking.as_ptr(),
+            blocking.len(),
+            moved,
+            local as u32,
+            limit,
+            answer.as_mut_ptr(),
+            answer.len(),
+        )
+    };
+    (word, answer)
+}
+
+/// The answer as the oracle writes it; a code that does not fit the word becomes a kind that no answer has.
+fn update(case: &mut Case) {
+    let mut image = case.ins[0].clone();
+    let (occ, blocking) = (u16s(&case.ins[1]), u32s(&case.ins[2]));
+    let a = case.args;
+    let (word, [code, errors, rounds, strays]) =
+        update_in(&mut image, &occ, &blocking, a[0] as u16, a[1] != 0, a[2] as u16);
+    let (number, place) = (word & 0xffff, word >> 16);
+    let kind = match code {
+        3..=5 if number == 0 => code as u32 - 3,
+        code if number != 0 && code == 16 + number as u64 => 3,
+        _ => u32::MAX,
+    };
+    let small = |n: u64| u32::try_from(n).unwrap_or(u32::MAX);
+    case.answer = [kind, number, place, small(errors), small(rounds), small(strays), 0, 0];
     case.outs = [image, vec![]];
 }
 

@@ -3,15 +3,17 @@
 
 mod library;
 mod time;
+mod update_time;
+mod updates;
 
-use oracle::cases::Case;
+use oracle::cases::{Case, UPDATE};
 use oracle::layout::read_image;
 use oracle::{calls, gen, model, rng::Rng};
 use std::io::Write;
 use std::process::exit;
 
-const USAGE: &str = "usage: compare KIND SEED COUNT, or compare time SEED
-KIND: mark, layout, image. The first case that differs is written to the file `different.case`.";
+const USAGE: &str = "usage: compare KIND SEED COUNT, compare time SEED, or compare update-time SEED
+KIND: mark, layout, image, update, update-large. The first case that differs is written to the file `different.case`.";
 
 fn usage() -> ! {
     eprintln!("{USAGE}");
@@ -28,15 +30,24 @@ fn some_train(rng: &mut Rng) -> gen::UpdateCase {
     }
 }
 
-/// The number of cases whose answers differ, and how many were refused by each number.
+/// The number of cases whose answers differ, how many were refused by each number, and of updates how many came from
+/// each generator and how many ended as success, blocked and faulty.
+#[derive(Default)]
 struct Tally {
     differ: u64,
     refused: [u64; 32],
+    sources: [u64; updates::SOURCES.len()],
+    kinds: [u64; 4],
 }
 
 impl Tally {
     fn add(&mut self, asked: &Case) {
-        let judged = asked.clone().answered();
+        let mut judged = asked.clone().answered();
+        // the line of a panic is not part of an answer
+        judged.line = 0;
+        if judged.op == UPDATE {
+            self.kinds[judged.answer[0] as usize] += 1;
+        }
         let number = judged.answer[library::number_at(judged.op)] as usize;
         self.refused[number.min(31)] += 1;
         if library::answered(asked) != judged {
@@ -47,6 +58,11 @@ impl Tally {
             }
             self.differ += 1;
         }
+    }
+
+    fn add_update(&mut self, (source, asked): (usize, Case)) {
+        self.sources[source] += 1;
+        self.add(&asked);
     }
 
     /// Refusals 6 to 9 of an image, half of them damaged.
@@ -77,8 +93,10 @@ fn main() {
     let args: Vec<String> = std::env::args().skip(1).collect();
     let number = |s: &String| s.parse::<u64>().unwrap_or_else(|_| usage());
     if let [word, seed] = &args[..] {
-        if word == "time" {
-            return time::run(number(seed));
+        match word.as_str() {
+            "time" => return time::run(number(seed)),
+            "update-time" => return update_time::run(number(seed)),
+            _ => usage(),
         }
     }
     let [kind, seed, count] = &args[..] else { usage() };
@@ -86,16 +104,25 @@ fn main() {
         usage();
     }
     let mut rng = Rng::new(number(seed));
-    let mut tally = Tally { differ: 0, refused: [0; 32] };
+    let mut updates = updates::Updates::new(rng.clone());
+    let mut tally = Tally::default();
     for _ in 0..number(count) {
         match kind.as_str() {
             "image" => tally.add_image(&mut rng),
+            "update" => tally.add_update(updates.next()),
+            "update-large" => tally.add_update(updates.next_large()),
             _ => tally.add(&calls::by_name(kind, &mut rng).unwrap_or_else(|| usage())),
         }
     }
     println!("{kind}: {count} cases, {} differ", tally.differ);
     for (n, &k) in tally.refused.iter().enumerate().filter(|(_, &k)| k > 0) {
         println!("  {} {n}: {k}", if n == 0 { "done, not refused" } else { "refused" });
+    }
+    for (name, &k) in ["success", "blocked", "faulty"].iter().zip(&tally.kinds).filter(|(_, &k)| k > 0) {
+        println!("  {name}: {k}");
+    }
+    for (name, &k) in updates::SOURCES.iter().zip(&tally.sources).filter(|(_, &k)| k > 0) {
+        println!("  from {name}: {k}");
     }
     exit(if tally.differ == 0 { 0 } else { 1 });
 }

@@ -1,6 +1,7 @@
 //! Times of the proved library and of the oracle on the same bytes, in one run.
 
 use crate::library;
+use crate::update_time;
 use oracle::cases::{Case, LAY_OUT, MARK};
 use oracle::layout::{read_image, read_table, u16s};
 use oracle::model::Kept;
@@ -98,4 +99,5 @@ pub fn run(seed: u64) {
         print(name, items.len(), ours, theirs);
     }
     mark_alone(&mut rng);
+    update_time::run(seed);
 }

@@ -699,6 +699,11 @@ fn wide_update(rng: &mut Rng) -> UpdateCase {
 pub fn long_update(rng: &mut Rng) -> UpdateCase {
     let twin = rng.chance(50);
     let k = if twin { rng.from(100, 254) } else { rng.from(100, 511) };
+    chain_update(rng, k, twin)
+}
+
+/// The same with a chain of k + 1 nodes, and with the alternate where twin is set.
+pub fn chain_update(rng: &mut Rng, k: usize, twin: bool) -> UpdateCase {
     let l = k + 2;
     let mut est: Vec<Est> =
         (0..=k).map(|i| Est { next: (i as u32 + 1) % (k as u32 + 1), ..no_est() }).collect();

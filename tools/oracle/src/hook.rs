@@ -28,6 +28,8 @@ pub struct Run {
     /// Entries into the search loop in this round, and the most in a round.
     pub entries: usize,
     pub entries_most: usize,
+    /// The same over all rounds.
+    pub entries_all: usize,
 }
 
 const BRANCH_ROOM: usize = 256;
@@ -80,6 +82,7 @@ pub fn entry() {
     RUN.with(|r| {
         let mut r = r.borrow_mut();
         r.entries += 1;
+        r.entries_all += 1;
         r.entries_most = r.entries_most.max(r.entries);
     });
 }

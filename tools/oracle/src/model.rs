@@ -427,6 +427,35 @@ pub fn update_plain(
     (Outcome::Success, 0)
 }
 
+/// A train as ALTRIOS keeps it between two updates, and the arguments of one, for times: no bytes are read or written.
+#[derive(Clone)]
+pub struct KeptTrain {
+    train: plain::train_disp::TrainDisp,
+    links_blocked: Vec<TrainIdx>,
+    blocking: Vec<LinkIdx>,
+    moved: TrainIdx,
+    local: bool,
+}
+
+impl KeptTrain {
+    /// None where the image is refused by 6 to 9.
+    pub fn new(image: &[u8], occ: &[u16], blocking: &[u32], moved: u16, local: bool) -> Option<KeptTrain> {
+        let t = read_image(image, occ.len()).ok()?;
+        Some(KeptTrain {
+            train: load_plain(&t),
+            links_blocked: trains(occ),
+            blocking: links(blocking),
+            moved: train_idx(moved),
+            local,
+        })
+    }
+
+    /// update_free_path of the plain text; true where it has no errors.
+    pub fn update(&mut self) -> bool {
+        self.train.update_free_path(self.moved, &self.blocking, self.local, &self.links_blocked).is_ok()
+    }
+}
+
 // ---- check
 
 #[derive(Debug, Clone, Copy, PartialEq, Eq)]

@@ -134,11 +134,12 @@ impl Hasher for IdHasher {
 }
 pub type IntSet<T> = HashSet<T, BuildHasherDefault<IdHasher>>;
 
-/// In place of get_unchecked: a read outside its list panics at the caller's line.
+/// In place of get_unchecked: a read outside its list panics at the caller's line. The edition for times reads unchecked.
 pub trait GetChecked<T> {
     fn get_checked(&self, i: usize) -> &T;
     fn get_checked_mut(&mut self, i: usize) -> &mut T;
 }
+#[cfg(not(unchecked))]
 impl<T> GetChecked<T> for [T] {
     #[track_caller]
     #[inline]
@@ -149,5 +150,18 @@ impl<T> GetChecked<T> for [T] {
     #[inline]
     fn get_checked_mut(&mut self, i: usize) -> &mut T {
         &mut self[i]
+    }
+}
+#[cfg(unchecked)]
+impl<T> GetChecked<T> for [T] {
+    #[inline]
+    fn get_checked(&self, i: usize) -> &T {
+        // SAFETY: only updates that the checked edition ran without a panic are timed.
+        unsafe { self.get_unchecked(i) }
+    }
+    #[inline]
+    fn get_checked_mut(&mut self, i: usize) -> &mut T {
+        // SAFETY: as above.
+        unsafe { self.get_unchecked_mut(i) }
     }
 }

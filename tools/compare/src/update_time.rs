@@ -1,0 +1,185 @@
+//! Times of an update, on the same bytes in one run: the library's call, and the Rust built as for release, without overflow
+//! checks and without hooks, once over bytes and once on structs that are kept.
+
+use crate::library;
+use crate::updates;
+use oracle::cases::Case;
+use oracle::gen::{self, UpdateCase};
+use oracle::layout::u32_at;
+use oracle::rng::Rng;
+use oracle::{calls, hook};
+use release::model::{update_plain, KeptTrain};
+use std::hint::black_box;
+use std::time::Instant;
+
+/// Updates of one kind, and what they do on average.
+struct Family {
+    name: String,
+    items: Vec<UpdateCase>,
+    ests: f64,
+    nodes: f64,
+    rounds: f64,
+    steps: f64,
+}
+
+/// The answer, where the update is not refused.
+fn accepted(c: &UpdateCase) -> Option<Case> {
+    let case = calls::of_update(c).answered();
+    (case.answer[1] == 0).then_some(case)
+}
+
+/// A family of updates that are not refused and that some test takes, which is given rounds and search steps.
+fn family(
+    name: String,
+    count: usize,
+    mut make: impl FnMut() -> UpdateCase,
+    takes: impl Fn(u32, usize) -> bool,
+) -> Family {
+    let mut f = Family { name, items: vec![], ests: 0.0, nodes: 0.0, rounds: 0.0, steps: 0.0 };
+    for _ in 0..200 * count {
+        if f.items.len() == count {
+            break;
+        }
+        let c = make();
+        let Some(case) = accepted(&c) else { continue };
+        let steps = hook::state().entries_all;
+        if !takes(case.answer[4], steps) {
+            continue;
+        }
+        f.ests += u32_at(&c.image, 4) as f64;
+        f.nodes += u32_at(&c.image, 8) as f64;
+        f.rounds += case.answer[4] as f64;
+        f.steps += steps as f64;
+        f.items.push(c);
+    }
+    f
+}
+
+/// Microseconds of one call, the best of some runs over all items; the items are copied before the clock starts.
+fn best<T: Clone>(items: &[T], turns: usize, mut f: impl FnMut(usize, &mut T)) -> f64 {
+    let mut best = f64::INFINITY;
+    for _ in 0..turns {
+        let mut copies = items.to_vec();
+        let start = Instant::now();
+        for (i, x) in copies.iter_mut().enumerate() {
+            f(i, x);
+        }
+        best = best.min(start.elapsed().as_secs_f64() * 1e6 / items.len() as f64);
+    }
+    best
+}
+
+fn print(f: &Family, turns: usize) {
+    if f.items.is_empty() {
+        return println!("{:<34}no update of this kind was found", f.name);
+    }
+    let images: Vec<Vec<u8>> = f.items.iter().map(|c| c.image.clone()).collect();
+    let kept: Vec<KeptTrain> = f
+        .items
+        .iter()
+        .map(|c| KeptTrain::new(&c.image, &c.occ, &c.blocking, c.moved, c.local).expect("an accepted image"))
+        .collect();
+    let ours = best(&images, turns, |i, image| {
+        let c = &f.items[i];
+        black_box(library::update_in(black_box(image), &c.occ, &c.blocking, c.moved, c.local, c.limit));
+    });
+    let bytes = best(&images, turns, |i, image| {
+        let c = &f.items[i];
+        black_box(update_plain(black_box(image), &c.occ, &c.blocking, c.moved, c.local));
+    });
+    let alone = best(&kept, turns, |_, train| {
+        black_box(black_box(train).update());
+    });
+    let n = f.items.len() as f64;
+    println!(
+        "{:<34}{:>6}{:>7.0}{:>7.0}{:>7.1}{:>8.0}{:>10.2}{:>10.2}{:>10.2}{:>7.2}{:>7.2}",
+        f.name,
+        f.items.len(),
+        f.ests / n,
+        f.nodes / n,
+        f.rounds / n,
+        f.steps / n,
+        ours,
+        bytes,
+        alone,
+        ours / bytes,
+        ours / alone
+    );
+}
+
+/// A small train of the odd generator.
+fn small(rng: &mut Rng) -> Family {
+    family("odd, small".into(), 500, || gen::odd_update(rng), |_, _| true)
+}
+
+/// Slots of tidy yards with at most so many sections.
+fn tidy(rng: &mut Rng, name: &str, most: usize, count: usize, takes: impl Fn(u32, usize) -> bool) -> Family {
+    let mut waiting = vec![];
+    let make = || loop {
+        match waiting.pop() {
+            Some(c) => return c,
+            None => waiting = updates::tidy_checks(rng, most).iter().flat_map(updates::slots).collect(),
+        }
+    };
+    family(name.into(), count, make, takes)
+}
+
+/// A chain of E nodes whose end is held: the search goes along all of it.
+fn chain(rng: &mut Rng, e: usize) -> Family {
+    family(format!("chain, end held, E = {e}"), 50, || gen::chain_update(rng, e - 1, false), |_, n| n > 0)
+}
+
+/// The same chain with nothing held: no search.
+fn open_chain(rng: &mut Rng, e: usize) -> Family {
+    let make = || {
+        let mut c = gen::chain_update(rng, e - 1, false);
+        c.occ[1] = 0;
+        c
+    };
+    family(format!("chain, end free, E = {e}"), 50, make, |_, n| n == 0)
+}
+
+/// Two chains of E / 2 nodes, the first of which is held at its end.
+fn twin(rng: &mut Rng, e: usize) -> Family {
+    family(format!("two chains, E = {e}"), 50, || gen::chain_update(rng, (e - 1) / 2, true), |_, n| n > 0)
+}
+
+/// A net with alternates at most nodes.
+fn dense(rng: &mut Rng, e: usize) -> Family {
+    family(format!("dense, E = {e}"), 50, || gen::dense_update(rng, e, 2 * e), |_, n| n > 0)
+}
+
+/// A comb: the pool grows with the square of its depth.
+fn comb(rng: &mut Rng, depth: usize) -> Family {
+    family(format!("comb, depth {depth}"), 50, || gen::comb(rng, depth, 1_024, 0), |_, n| n > 0)
+}
+
+pub fn run(seed: u64) {
+    let mut rng = Rng::new(seed);
+    let rng = &mut rng;
+    println!(
+        "{:<34}{:>6}{:>7}{:>7}{:>7}{:>8}{:>10}{:>10}{:>10}{:>7}{:>7}",
+        "update", "items", "E", "N", "rounds", "steps", "library", "Rust,", "Rust,", "ratio", "ratio"
+    );
+    println!("{:>79}{:>10}{:>10}{:>14}", "us", "bytes", "alone", "");
+    print(&small(rng), 100);
+    print(&tidy(rng, "tidy, to 7 sections, no search", 7, 500, |_, n| n == 0), 100);
+    print(&tidy(rng, "tidy, to 7 sections, search", 7, 500, |_, n| n > 0), 100);
+    print(&tidy(rng, "tidy, to 30 sections, no search", 30, 200, |_, n| n == 0), 100);
+    print(&tidy(rng, "tidy, to 30 sections, search", 30, 200, |_, n| n > 0), 100);
+    for e in [16, 64, 128, 256, 512] {
+        print(&open_chain(rng, e), 50);
+    }
+    for e in [16, 64, 128, 256, 512] {
+        print(&chain(rng, e), 50);
+    }
+    for e in [16, 64, 128, 256, 511] {
+        print(&twin(rng, e), 50);
+    }
+    for e in [16, 64, 128, 256, 512] {
+        print(&dense(rng, e), 50);
+    }
+    for depth in [10, 20, 40, 60] {
+        print(&comb(rng, depth), 50);
+    }
+}

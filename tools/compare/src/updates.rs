@@ -1,0 +1,156 @@
+//! Updates of every generator of the oracle, one after the other.
+
+use oracle::cases::Case;
+use oracle::gen::{self, UpdateCase};
+use oracle::layout::{read_image, read_yard};
+use oracle::rng::Rng;
+use oracle::yards::{tidy_run, CheckCase};
+use oracle::{calls, model};
+
+/// Where an update comes from, for the counts.
+pub const SOURCES: [&str; 12] = [
+    "mix", "odd", "changed", "twin", "views", "dense", "damaged", "tidy", "comb", "deposit", "long", "large",
+];
+const MIX: usize = 0;
+const ODD: usize = 1;
+const CHANGED: usize = 2;
+const TWIN: usize = 3;
+const VIEWS: usize = 4;
+const DENSE: usize = 5;
+const DAMAGED: usize = 6;
+const TIDY: usize = 7;
+const COMB: usize = 8;
+const DEPOSIT: usize = 9;
+const LONG: usize = 10;
+const LARGE: usize = 11;
+
+pub struct Updates {
+    rng: Rng,
+    waiting: Vec<(usize, Case)>,
+}
+
+impl Updates {
+    pub fn new(rng: Rng) -> Updates {
+        Updates { rng, waiting: vec![] }
+    }
+
+    /// The next update and its source. Most are small.
+    pub fn next(&mut self) -> (usize, Case) {
+        while self.waiting.is_empty() {
+            match self.rng.below(1_000) {
+                0 => self.tidy(),
+                1..=150 => self.odd_steps(),
+                _ => self.small(),
+            }
+        }
+        self.waiting.pop().expect("a case")
+    }
+
+    /// The next large update and its source.
+    pub fn next_large(&mut self) -> (usize, Case) {
+        let rng = &mut self.rng;
+        let (source, c) = match rng.below(10) {
+            0..=1 => {
+                let (depth, q) = (rng.from(50, 66), rng.pick(&[40, 80, 1_024]));
+                let stored = rng.pick(&[0, 0, 5]);
+                (COMB, gen::comb(rng, depth, q, stored))
+            }
+            2..=3 => {
+                let stored = rng.pick(&[1, 20, 500, 1_020, 1_021, 1_022]);
+                let q = (stored + rng.from(2, 6)).min(1_024);
+                (DEPOSIT, gen::deposit(rng, stored, q))
+            }
+            4 => (LONG, gen::long_update(rng)),
+            5 => {
+                let mut c = gen::large_update(rng);
+                c.image = gen::damaged(rng, &c.image, c.occ.len());
+                (DAMAGED, c)
+            }
+            6 => {
+                let mut c = gen::large_update(rng);
+                c.image = gen::changed(rng, &c.image, c.occ.len());
+                (CHANGED, c)
+            }
+            _ => (LARGE, gen::large_update(rng)),
+        };
+        (source, calls::of_update(&c))
+    }
+
+    fn push(&mut self, source: usize, c: &UpdateCase) {
+        self.waiting.push((source, calls::of_update(c)));
+    }
+
+    fn small(&mut self) {
+        let rng = &mut self.rng;
+        let (source, c) = match rng.below(100) {
+            0..=39 => {
+                let case = calls::update(rng);
+                return self.waiting.push((MIX, case));
+            }
+            40..=54 => (ODD, gen::odd_update(rng)),
+            55..=69 => (TWIN, gen::twin_update(rng)),
+            70..=79 => (VIEWS, gen::views_update(rng)),
+            80..=89 => (DENSE, calls::dense(rng)),
+            _ => {
+                let mut c = if rng.chance(50) { gen::twin_update(rng) } else { calls::dense(rng) };
+                c.image = gen::damaged(rng, &c.image, c.occ.len());
+                (DAMAGED, c)
+            }
+        };
+        self.push(source, &c);
+    }
+
+    /// An odd train updated some times, changed between, with other trains about.
+    fn odd_steps(&mut self) {
+        let mut c = gen::odd_update(&mut self.rng);
+        for _ in 0..self.rng.from(2, 5) {
+            self.push(CHANGED, &c);
+            let rng = &mut self.rng;
+            let l = c.occ.len();
+            model::update(&mut c.image, &c.occ, &c.blocking, c.moved, c.local, c.limit);
+            c.image = gen::changed(rng, &c.image, l);
+            c.occ = gen::odd_occupancy(rng, l);
+            c.moved = rng.from(1, 5) as u16;
+            if let Ok(t) = read_image(&c.image, l) {
+                c.blocking = gen::odd_blocking(rng, &t, &c.occ);
+            }
+        }
+    }
+
+    /// The slots of the checks of a tidy run, each updated alone, as it is and changed.
+    fn tidy(&mut self) {
+        for c in tidy_checks(&mut self.rng, 7) {
+            for mut u in slots(&c) {
+                self.push(TIDY, &u);
+                for _ in 0..2 {
+                    u.image = gen::changed(&mut self.rng, &u.image, u.occ.len());
+                    self.push(TIDY, &u);
+                }
+            }
+        }
+    }
+}
+
+/// The checks of a run of a tidy yard with at most so many sections.
+pub fn tidy_checks(rng: &mut Rng, most: usize) -> Vec<CheckCase> {
+    let (sections, trains) = (rng.from(1, most), rng.from(1, 4));
+    let mut seen = vec![];
+    tidy_run(rng, sections, trains, 30, |c| seen.push(c.clone()));
+    seen
+}
+
+/// The updates of a check's slots but the moved train's.
+pub fn slots(c: &CheckCase) -> Vec<UpdateCase> {
+    let parts = read_yard(&c.yard).expect("an accepted yard");
+    let others = parts.into_iter().enumerate().filter(|(i, _)| i + 1 != c.moved as usize);
+    others
+        .map(|(_, part)| UpdateCase {
+            image: c.yard[part].to_vec(),
+            occ: c.occ.clone(),
+            blocking: c.blocking.clone(),
+            moved: c.moved,
+            local: c.local,
+            limit: c.limit,
+        })
+        .collect()
+}
