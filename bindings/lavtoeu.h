@@ -1,0 +1,48 @@
+/* The calls of the proved free path core of a dispatch yard, for C on x86-64.
+ *
+ * Link with libfree_path_c.a (`rt staticlib free_path_c`). Every call is total: any bytes, lengths and numbers get an
+ * answer. A pointer goes with the length that follows it, counted in elements; with length 0 it is not read. No buffer that a
+ * call writes may overlap another of its buffers. A refused call changes no buffer but the words of `answer`.
+ *
+ * A refusal is a number with its place in the upper 16 bits; 0 is none. The layouts and the numbers are in the README and in
+ * docs/REFUSALS.md. */
+#ifndef LAVTOEU_H
+#define LAVTOEU_H
+
+#include <stddef.h>
+#include <stdint.h>
+
+#ifdef __cplusplus
+extern "C" {
+#endif
+
+/* The number and the place of a refusal. */
+static inline uint16_t lavtoeu_number(uint32_t refusal) { return (uint16_t)(refusal & 0xffff); }
+static inline uint16_t lavtoeu_place(uint32_t refusal) { return (uint16_t)(refusal >> 16); }
+
+/* Marks a link for a train, or releases it with train 0. Refused by 1, 2, 3. */
+uint32_t lavtoeu_mark(const uint8_t *table, size_t table_len, uint16_t *occupancy, size_t occupancy_len, uint32_t link, uint16_t train);
+
+/* The first refusal of an image over a number of links by 6 to 9. */
+uint32_t lavtoeu_image_fault(const uint8_t *image, size_t image_len, uint32_t links);
+
+/* Lays a new train out in an image buffer: est records of 32 bytes each, the train, dist_disp_path_search and dist_fixed_max in
+ * metres, Q (room for diverge nodes) and L (number of links). Refused by 5 to 9 and 11. */
+uint32_t lavtoeu_lay_out(const uint8_t *est, size_t est_len, uint16_t train, double search, double fixed, uint32_t room, uint32_t links, uint8_t *image, size_t image_len);
+
+/* The words of an update's answer. */
+enum { LAVTOEU_CODE = 0, LAVTOEU_ERRORS = 1, LAVTOEU_ROUNDS = 2, LAVTOEU_STRAYS = 3, LAVTOEU_UPDATE_WORDS = 4 };
+
+/* Codes, as a report has them. 16 + n is refused by n. */
+enum { LAVTOEU_UNVISITED = 0, LAVTOEU_FINISHED = 1, LAVTOEU_MOVED = 2, LAVTOEU_SUCCESS = 3, LAVTOEU_BLOCKED = 4, LAVTOEU_FAULTY = 5, LAVTOEU_REFUSED = 16 };
+
+/* Updates the train of an image: the occupancy, the blocking list, the moved train, local (0 is no), the round limit. The first
+ * four words of the answer get the code, the number of errors where it is FAULTY, the rounds entered and the strays counted;
+ * words past answer_len are left out. Refused by 2 and 4 to 13. */
+uint32_t lavtoeu_update(uint8_t *image, size_t image_len, const uint16_t *occupancy, size_t occupancy_len, const uint32_t *blocking, size_t blocking_len, uint16_t moved, uint32_t local, uint16_t limit, uint64_t *answer, size_t answer_len);
+
+#ifdef __cplusplus
+}
+#endif
+
+#endif

@@ -1,0 +1,195 @@
+//! Safe calls into the proved free path core of a dispatch yard.
+//!
+//! Every function takes slices and numbers, is total, and answers as document 01 of the project says: a refusal has a
+//! number and a place, and a refused call changes no buffer. The layouts of link table, image, yard, report and bundle are
+//! in the project's README.
+//!
+//! ```
+//! use lavtoeu::{mark, Refusal};
+//!
+//! // A table of two links, each the other's flip, with no lockouts: size, L, K, offset; flip, start, count for each link.
+//! let words: [u32; 10] = [40, 2, 0, 40, 1, 0, 0, 0, 0, 0];
+//! let table: Vec<u8> = words.iter().flat_map(|w| w.to_le_bytes()).collect();
+//! let mut occupancy = [0, 0];
+//! assert_eq!(mark(&table, &mut occupancy, 1, 9), Ok(()));
+//! assert_eq!(occupancy, [9, 0]);
+//! assert_eq!(mark(&table, &mut occupancy, 2, 9), Err(Refusal { number: 3, place: 0 }));
+//! ```
+
+use std::fmt;
+
+mod raw {
+    extern "C" {
+        pub fn lavtoeu_mark(table: *const u8, table_len: usize, occupancy: *mut u16, occupancy_len: usize, link: u32, train: u16) -> u32;
+        pub fn lavtoeu_image_fault(image: *const u8, image_len: usize, links: u32) -> u32;
+        pub fn lavtoeu_lay_out(
+            est: *const u8,
+            est_len: usize,
+            train: u16,
+            search: f64,
+            fixed: f64,
+            room: u32,
+            links: u32,
+            image: *mut u8,
+            image_len: usize,
+        ) -> u32;
+        pub fn lavtoeu_update(
+            image: *mut u8,
+            image_len: usize,
+            occupancy: *const u16,
+            occupancy_len: usize,
+            blocking: *const u32,
+            blocking_len: usize,
+            moved: u16,
+            local: u32,
+            limit: u16,
+            answer: *mut u64,
+            answer_len: usize,
+        ) -> u32;
+    }
+}
+
+/// A refusal: document 01's number, and the place of the record at fault where there is one, else 0.
+#[derive(Clone, Copy, Debug, PartialEq, Eq, Hash)]
+pub struct Refusal {
+    pub number: u16,
+    pub place: u16,
+}
+
+impl Refusal {
+    fn of(word: u32) -> Result<(), Refusal> {
+        match word {
+            0 => Ok(()),
+            _ => Err(Refusal { number: (word & 0xffff) as u16, place: (word >> 16) as u16 }),
+        }
+    }
+
+    /// What the number means, in a few words.
+    pub fn meaning(self) -> &'static str {
+        match self.number {
+            1 => "bad link table",
+            2 => "occupancy of a wrong length",
+            3 => "no such link",
+            4 => "bad blocking list",
+            5 => "train, moved train or round limit 0",
+            6 => "not laid out as an image",
+            7 => "a value out of range",
+            8 => "a cycle of est records",
+            9 => "a path or diverge nodes out of order",
+            10 => "the trip is finished",
+            11 => "no room",
+            12 => "another round is due at the limit",
+            13 => "the Rust would panic",
+            14 => "bad yard",
+            15 => "moved train or begin outside the slots",
+            16 => "report of a wrong length",
+            17 => "bad bundle",
+            _ => "no number of document 01",
+        }
+    }
+}
+
+impl fmt::Display for Refusal {
+    fn fmt(&self, f: &mut fmt::Formatter) -> fmt::Result {
+        write!(f, "refused {} ({}) at {}", self.number, self.meaning(), self.place)
+    }
+}
+
+impl std::error::Error for Refusal {}
+
+/// Marks a link for a train, or releases it with train 0: the flip and each lockout of the link.
+pub fn mark(table: &[u8], occupancy: &mut [u16], link: u32, train: u16) -> Result<(), Refusal> {
+    // SAFETY: each pointer goes with its own length, and the function keeps to them.
+    Refusal::of(unsafe { raw::lavtoeu_mark(table.as_ptr(), table.len(), occupancy.as_mut_ptr(), occupancy.len(), link, train) })
+}
+
+/// What a layout is told besides the est records.
+#[derive(Clone, Copy, Debug)]
+pub struct Order {
+    pub train: u16,
+    /// dist_disp_path_search, in metres.
+    pub search: f64,
+    /// dist_fixed_max, in metres.
+    pub fixed: f64,
+    /// Q, room for diverge nodes.
+    pub room: u32,
+    /// L, the number of links.
+    pub links: u32,
+}
+
+/// How long the image of a train is: e est records, room for q diverge nodes.
+pub fn image_size(e: usize, q: usize) -> usize {
+    64 + 64 * e + 4 * q
+}
+
+/// Writes the image of a new train into the buffer, its path along next from est 0. `est` has 32 bytes for each est record.
+pub fn lay_out(est: &[u8], order: Order, image: &mut [u8]) -> Result<(), Refusal> {
+    let o = order;
+    // SAFETY: each pointer goes with its own length, and the function keeps to them.
+    Refusal::of(unsafe {
+        raw::lavtoeu_lay_out(est.as_ptr(), est.len(), o.train, o.search, o.fixed, o.room, o.links, image.as_mut_ptr(), image.len())
+    })
+}
+
+/// Refusals 6 to 9 of an image over a number of links.
+pub fn judge(image: &[u8], links: u32) -> Result<(), Refusal> {
+    // SAFETY: the pointer goes with its own length, and the function keeps to it.
+    Refusal::of(unsafe { raw::lavtoeu_image_fault(image.as_ptr(), image.len(), links) })
+}
+
+/// What an update and a check are told besides the image or the yard.
+#[derive(Clone, Copy, Debug)]
+pub struct Move<'a> {
+    /// One train for each link, 0 for an empty one.
+    pub occupancy: &'a [u16],
+    /// The links that the moved train blocks, repeats and all.
+    pub blocking: &'a [u32],
+    pub moved: u16,
+    pub local: bool,
+    /// The round limit.
+    pub limit: u16,
+}
+
+/// How an update that was not refused ended.
+#[derive(Clone, Copy, Debug, PartialEq, Eq)]
+pub enum Status {
+    Success,
+    Blocked,
+    /// With this many errors of the free path.
+    Faulty(u64),
+}
+
+/// An update: its status or its refusal, the rounds entered and the strays counted.
+#[derive(Clone, Copy, Debug, PartialEq, Eq)]
+pub struct Updated {
+    pub status: Result<Status, Refusal>,
+    pub rounds: u16,
+    pub strays: u64,
+}
+
+/// Updates the free path of the train of an image.
+pub fn update(image: &mut [u8], m: Move) -> Updated {
+    let mut words = [0u64; 4];
+    // SAFETY: each pointer goes with its own length, and the function keeps to them.
+    let word = unsafe {
+        raw::lavtoeu_update(
+            image.as_mut_ptr(),
+            image.len(),
+            m.occupancy.as_ptr(),
+            m.occupancy.len(),
+            m.blocking.as_ptr(),
+            m.blocking.len(),
+            m.moved,
+            m.local as u32,
+            m.limit,
+            words.as_mut_ptr(),
+            words.len(),
+        )
+    };
+    let status = Refusal::of(word).map(|()| match words[0] {
+        4 => Status::Blocked,
+        5 => Status::Faulty(words[1]),
+        _ => Status::Success,
+    });
+    Updated { status, rounds: words[2] as u16, strays: words[3] }
+}
