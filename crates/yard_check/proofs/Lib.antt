@@ -4,8 +4,11 @@ pub mod SlotLaws
 pub mod PatchLaws
 pub mod VisitLaws
 pub mod YardLaws
+pub mod PartLaws
 pub mod ReportLaws
 pub mod CheckLaws
+pub mod RowLaws
+pub mod TurnLaws
 pub mod VisitMatch
 pub mod CheckMatch
 pub mod MarkedTrains

@@ -1,5 +1,6 @@
 pub mod Yard
 pub mod Check
+pub mod Checks
 pub mod YardMatch
 pub mod Calls
 pub mod DemandThree

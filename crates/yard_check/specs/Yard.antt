@@ -1,5 +1,5 @@
 -- The yard (document 01, Layouts): u32 size, u32 S, S u32 offsets, then the images; slot t (1 to S) holds train t. Refusal 14. Assumes nothing.
-use Prim.Native.Nat.{ℕ, _+_, _*_, _-_}
+use Prim.Native.Nat.{ℕ, _+_, _*_, _-_, min, max}
 use mathlib.Core.Bool.{Bool, cond, _&&_}
 use mathlib.Core.List.{List, _++_}
 use lib.Dec.{ltb, leb, eqb}
@@ -27,6 +27,13 @@ partEnd yard t = cond (ltb t (slotCount yard)) (partBegin yard (t + 1)) (length 
 -- the image of slot t: the slot's own part of the yard
 unfoldable pub partOf : List ℕ → ℕ → List ℕ
 partOf yard t = take (partEnd yard t - partBegin yard t) (drop (partBegin yard t) yard)
+
+-- where the part lies within the yard, whatever the offsets are
+unfoldable pub partFrom : List ℕ → ℕ → ℕ
+partFrom yard t = min (partBegin yard t) (length yard)
+
+unfoldable pub partUntil : List ℕ → ℕ → ℕ
+partUntil yard t = max (partFrom yard t) (min (partEnd yard t) (length yard))
 
 -- the yard with another image in slot t
 unfoldable pub withPart : List ℕ → ℕ → List ℕ → List ℕ

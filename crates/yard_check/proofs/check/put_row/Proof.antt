@@ -1,0 +1,62 @@
+use Rattle.yard_check.specs.Check.{putRow}
+use borrow.Author.Needs.{needs}
+use Rattle.yard_check.proofs.check.put_row.Statement.{statement}
+use Rattle.yard_check.proofs.check.put_row.Tie as tie
+
+put-u16-requires : tie.Need-put-u16-requires
+put-u16-requires c κs = search needs
+
+add-put-u16 : tie.Need-add-put-u16
+add-put-u16 c = search needs
+
+put-u16-requires-2 : tie.Need-put-u16-requires-2
+put-u16-requires-2 c κs = search needs
+
+add-put-u16-2 : tie.Need-add-put-u16-2
+add-put-u16-2 c = search needs
+
+put-u16-requires-3 : tie.Need-put-u16-requires-3
+put-u16-requires-3 c κs = search needs
+
+add-put-u16-3 : tie.Need-add-put-u16-3
+add-put-u16-3 c = search needs
+
+put-u16-requires-4 : tie.Need-put-u16-requires-4
+put-u16-requires-4 c κs = search needs
+
+add-put-u32 : tie.Need-add-put-u32
+add-put-u32 c = search needs
+
+put-u32-requires : tie.Need-put-u32-requires
+put-u32-requires c κs = search needs
+
+add-put-u32-2 : tie.Need-add-put-u32-2
+add-put-u32-2 c = search needs
+
+put-u32-requires-2 : tie.Need-put-u32-requires-2
+put-u32-requires-2 c κs = search needs
+
+same-length : tie.Need-same-length
+same-length c = search needs
+
+returns : tie.Need-returns
+unfolding putRow
+returns c = cc
+
+pub put-row-spec : {M : Type 1} → statement M
+put-row-spec =
+    tie.close
+    (tie.spec
+    put-u16-requires
+    add-put-u16
+    put-u16-requires-2
+    add-put-u16-2
+    put-u16-requires-3
+    add-put-u16-3
+    put-u16-requires-4
+    add-put-u32
+    put-u32-requires
+    add-put-u32-2
+    put-u32-requires-2
+    same-length
+    returns)

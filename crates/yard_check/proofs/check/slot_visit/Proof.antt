@@ -1,0 +1,72 @@
+use mathlib.Core.Path.{sym, ap, subst, _∙_}
+use mathlib.Core.List.{List}
+use Prim.Native.Nat.{ℕ}
+use native.Mathlib.Omega.{arith}
+use denote.Ref.{now}
+use Rattle.yard_check.specs.Check.{visited}
+use Rattle.yard_check.specs.Checks.{argsOf, SlotVisited}
+use Rattle.yard_check.proofs.TurnLaws.{slot-kept, slot-left, lent-up, lent-inside, lent-part, part-returned}
+use borrow.Author.Needs.{needs}
+use Rattle.yard_check.proofs.check.slot_visit.Statement.{statement}
+use Rattle.yard_check.proofs.check.slot_visit.Tie as tie
+
+plain-row-requires : tie.Need-plain-row-requires
+plain-row-requires c κs = search needs
+
+returns : tie.Need-returns
+returns c =
+    let a = c .before .before .before .before .before .before .args in
+    slot-kept (now (a .yard)) (now (a .occ)) (argsOf (now (a .blocking)) (a .a)) (a .t) (c .before .before .before .before .before .before .pre) (c .before .if1 .taken) (c .plain-row .result) (c .plain-row .ensures)
+
+part-from-requires : tie.Need-part-from-requires
+part-from-requires c κs = search needs
+
+part-until-requires : tie.Need-part-until-requires
+part-until-requires c κs = search needs
+
+sub-visit : tie.Need-sub-visit
+sub-visit c =
+    let a = c .before .before .before .before .before .before .before .before .before .args in
+    omega (arith, lent-up (now (a .yard)) (now (a .occ)) (argsOf (now (a .blocking)) (a .a)) (a .t) (c .before .before .before .before .before .before .before .before .before .pre) (c .before .before .part-from .result) (c .part-until .result) (c .before .before .part-from .ensures) (c .part-until .ensures))
+
+part-visit-start : tie.Need-part-visit-start
+part-visit-start c =
+    let a = c .before .before .before .before .before .before .before .before .before .args in
+    omega (arith, lent-up (now (a .yard)) (now (a .occ)) (argsOf (now (a .blocking)) (a .a)) (a .t) (c .before .before .before .before .before .before .before .before .before .pre) (c .before .before .part-from .result) (c .part-until .result) (c .before .before .part-from .ensures) (c .part-until .ensures))
+
+part-visit-end : tie.Need-part-visit-end
+part-visit-end c =
+    let a = c .before .before .before .before .before .before .before .before .before .args in
+    omega (arith, lent-inside (now (a .yard)) (now (a .occ)) (argsOf (now (a .blocking)) (a .a)) (a .t) (c .before .before .before .before .before .before .before .before .before .pre) (c .before .before .part-from .result) (c .part-until .result) (c .before .before .part-from .ensures) (c .part-until .ensures))
+
+visit-requires : tie.Need-visit-requires
+visit-requires c κs = c .before .before .before .before .before .before .before .before .before .before .pre .call
+
+same-length : tie.Need-same-length
+same-length c = search needs
+
+returns-2 : tie.Need-returns-2
+returns-2 c =
+    let a = c .before .before .before .before .before .before .before .before .before .before .before .before .before .args in
+    let A = argsOf (now (a .blocking)) (a .a) in
+    let p = c .before .before .before .before .before .before .part-from in
+    let q = c .before .before .before .before .part-until in
+    let w = c .before .before .visit in
+    subst (λ (left : List ℕ). SlotVisited (now (a .yard)) (now (a .occ)) A (a .t) (w .result) left)
+    (sym (part-returned (now (a .yard)) (now (a .occ)) A (a .t) (c .before .before .before .before .before .before .before .before .before .before .before .before .before .pre) (p .result) (q .result) (p .ensures) (q .ensures) (w .last .0)))
+    (slot-left (now (a .yard)) (now (a .occ)) A (a .t) (c .before .before .before .before .before .before .before .before .before .before .before .before .before .pre) (c .before .before .before .before .before .before .before .before .if1 .left) (w .result) (w .last .0) (w .ensures ∙ ap (visited (now (a .occ)) A (a .t)) (lent-part (now (a .yard)) (now (a .occ)) A (a .t) (c .before .before .before .before .before .before .before .before .before .before .before .before .before .pre) (p .result) (q .result) (p .ensures) (q .ensures))))
+
+pub slot-visit-spec : {M : Type 1} → statement M
+slot-visit-spec =
+    tie.close
+    (tie.spec
+    plain-row-requires
+    returns
+    part-from-requires
+    part-until-requires
+    sub-visit
+    part-visit-start
+    part-visit-end
+    visit-requires
+    same-length
+    returns-2)

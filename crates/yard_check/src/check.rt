@@ -1,0 +1,312 @@
+// check_deadlock (document 01, Check; dispatch.rs 45-91): the refusals, the visits to the slots, the report, the answer.
+// A slot is worked by update_free_path alone, of which only the promise is used.
+use crate::yard;
+use image::codec;
+use image_fault;
+use image_fault::Fault;
+use link_rules::link_idx::TrainIdx;
+use link_rules::octets;
+use link_rules::refusal::Refusal;
+use update_call;
+use update_free_path;
+use update_free_path::answer::Status;
+use update_free_path::answer::Updated;
+ghost use mathlib.Core.Path.{_≡_};
+ghost use mathlib.Core.Bool.{cond, not, _&&_};
+ghost use mathlib.Core.List.{[]};
+ghost use Prim.Native.Nat.{_+_, _≤_, _<_};
+ghost use lib.Dec.{eqb};
+ghost use lib.ListN.{length};
+ghost use Rattle.image_fault.specs.ImageFault.{imageFault, orElse};
+ghost use Rattle.update_image.specs.UpdateImage.{callFault};
+ghost use Rattle.update_free_path.specs.Updates as Updates;
+ghost use Rattle.yard_check.specs.Check as Check;
+ghost use Rattle.yard_check.specs.Checks.{argsOf, rowOf, answeredOf, checkedOf, staysRow, ColumnsFit, talliedOf, tallyAfter, NextTurn, Visits, SlotVisited, AllVisited};
+
+pub enum Answer {
+    Refused(Refusal),
+    Erred(u32),
+    Done { deadlock: bool, next: u16 },
+}
+
+// What a check is given beside the slices.
+pub(crate) struct Args {
+    pub moved: TrainIdx,
+    pub begin: u16,
+    pub local: bool,
+    pub limit: u16,
+}
+
+// A record of the report.
+pub(crate) struct Row {
+    pub code: u16,
+    pub place: u16,
+    pub rounds: u16,
+    pub holder: TrainIdx,
+    pub strays: u32,
+    pub faults: u32,
+}
+
+// The slots that erred, those that are blocked, and the first one that is not finished.
+pub(crate) struct Tally {
+    pub erred: u32,
+    pub blocked: u32,
+    pub next: u16,
+}
+
+// ---- refusals 2, 4, 5, 14, 15 and 16, in this order
+
+fn fault(number: u16) -> Fault
+    ensures { λ r. ⌜ r ≡ record { number = number; place = 0 } ⌝ }
+{
+    Fault {
+        number: number,
+        place: 0,
+    }
+}
+
+// 15, 16; long is the length of the report.
+fn slots_fault(slots: u32, a: Args, long: usize) -> Fault
+    ensures { λ r. ⌜ r ≡ orElse (Check.slotsFault slots (argsOf [] a)) (Check.reportFault slots long) ⌝ }
+{
+    if slots < a.moved.0 as u32 {
+        return fault(15);
+    }
+    if a.begin < 1 {
+        return fault(15);
+    }
+    if slots < (a.begin - 1) as u32 {
+        return fault(15);
+    }
+    if long != 16 * (slots as usize) {
+        return fault(16);
+    }
+    fault(0)
+}
+
+fn check_fault(yard: &[u8], occ: &[u16], blocking: &[u32], a: Args, long: usize) -> Fault
+    ensures { λ r. ⌜ r ≡ Check.checkFault (now (yard .entry)) (now (occ .entry)) (argsOf (now (blocking .entry)) a) long ⌝ }
+{
+    let f = update_call::call_fault(occ, blocking, a.moved, a.limit);
+    if f.number != 0 {
+        return f;
+    }
+    if yard::yard_fits(yard) {
+        return slots_fault(yard::slot_count(yard), a, long);
+    }
+    fault(14)
+}
+
+// ---- the report's records
+
+fn plain_row(code: u16) -> Row
+    ensures { λ r. ⌜ rowOf r ≡ Check.plainRow code ⌝ }
+{
+    Row {
+        code: code,
+        place: 0,
+        rounds: 0,
+        holder: TrainIdx(0),
+        strays: 0,
+        faults: 0,
+    }
+}
+
+fn refused_row(number: u16, place: u16, rounds: u16, strays: u32) -> Row
+    requires { ⌜ number ≤ 13 ⌝ }
+    ensures { λ r. ⌜ rowOf r ≡ Check.refusedRow number place rounds strays ⌝ }
+{
+    Row {
+        code: 16 + number,
+        place: place,
+        rounds: rounds,
+        holder: TrainIdx(0),
+        strays: strays,
+        faults: 0,
+    }
+}
+
+// Success, blocked or faulty.
+fn worked_row(code: u16, u: Updated, holder: TrainIdx, faults: u32) -> Row
+    requires { ⌜ u .strays < 4294967296 ⌝ }
+    ensures { λ r. ⌜ rowOf r ≡ record { code = code; place = 0; rounds = u .rounds; holder = holder .0; strays = u .strays; faults = faults } ⌝ }
+{
+    Row {
+        code: code,
+        place: 0,
+        rounds: u.rounds,
+        holder: holder,
+        strays: u.strays as u32,
+        faults: faults,
+    }
+}
+
+fn updated_row(u: Updated, moved: TrainIdx) -> Row
+    requires { ⌜ ColumnsFit (Updates.statusOf (u .status)) (u .strays) ⌝ }
+    ensures { λ r. ⌜ rowOf r ≡ Check.updatedRow (Updates.statusOf (u .status)) (moved .0) (u .rounds) (u .strays) ⌝ }
+{
+    let s = u.status;
+    match s {
+        Status::Success => worked_row(3, u, TrainIdx(0), 0),
+        Status::Blocked => worked_row(4, u, moved, 0),
+        Status::Faulty(n) => worked_row(5, u, TrainIdx(0), n as u32),
+        Status::Refused(f) => refused_row(f.number, f.place, u.rounds, u.strays as u32),
+    }
+}
+
+fn put_row(report: &mut [u8], at: usize, r: Row)
+    requires { ⌜ at ≤ 1008 ⌝ }
+    ensures { λ _. ⌜ now (report .exit) ≡ Check.putRow (rowOf r) at (now (report .entry)) ⌝ }
+{
+    octets::put_u16(report, at, r.code);
+    octets::put_u16(report, at + 2, r.place);
+    octets::put_u16(report, at + 4, r.rounds);
+    octets::put_u16(report, at + 6, r.holder.0);
+    octets::put_u32(report, at + 8, r.strays);
+    octets::put_u32(report, at + 12, r.faults);
+}
+
+// ---- the visit to a slot (dispatch.rs 61-81)
+
+// is_finished (train_disp/mod.rs 75-77): free equals N.
+fn is_finished(img: &[u8]) -> bool
+    ensures { λ r. ⌜ r ≡ Check.isFinished (now (img .entry)) ⌝ }
+{
+    octets::u16_at(img, 36) as u32 == codec::path_count(img)
+}
+
+// The row of a slot that is not updated: refused by 6 to 9, else this code.
+fn stays_row(img: &[u8], occ: &[u16], code: u16) -> Row
+    requires { ⌜ length (now occ) ≤ 4000 ⌝ }
+    ensures { λ r. ⌜ rowOf r ≡ staysRow (imageFault (now (img .entry)) (length (now (occ .entry))) .number) (imageFault (now (img .entry)) (length (now (occ .entry))) .place) code ⌝ }
+{
+    let f = image_fault::image_fault(img, occ.len() as u32);
+    if f.number != 0 {
+        return refused_row(f.number, f.place, 0, 0);
+    }
+    plain_row(code)
+}
+
+// Of slot t, img being its part of the yard. Finished and moved are asked before the update.
+fn visit(img: &mut [u8], occ: &[u16], blocking: &[u32], a: Args, t: u16) -> Row
+    requires { ⌜ callFault (now occ) (now blocking) (a .moved .0) (a .limit) .number ≡ 0 ⌝ }
+    ensures { λ r. ⌜ Check.visit (rowOf r) (now (img .exit)) ≡ Check.visited (now (occ .entry)) (argsOf (now (blocking .entry)) a) t (now (img .entry)) ⌝ }
+{
+    if is_finished(img) {
+        return stays_row(img, occ, 1);
+    }
+    if t == a.moved.0 {
+        return stays_row(img, occ, 2);
+    }
+    let u = update_free_path::update_free_path(img, occ, blocking, a.moved, a.local, a.limit);
+    updated_row(u, a.moved)
+}
+
+// The slot's own part of the yard is lent to the visit. Slots below begin are not visited.
+fn slot_visit(yard: &mut [u8], occ: &[u16], blocking: &[u32], a: Args, t: u16) -> Row
+    requires { ⌜ Visits (now yard) (now occ) (argsOf (now blocking) a) t ⌝ }
+    ensures { λ r. ⌜ SlotVisited (now (yard .entry)) (now (occ .entry)) (argsOf (now (blocking .entry)) a) t r (now (yard .exit)) ⌝ }
+{
+    if t < a.begin {
+        return plain_row(0);
+    }
+    let from = yard::part_from(yard, t as u32);
+    let until = yard::part_until(yard, t as u32);
+    visit(&mut yard[from..until], occ, blocking, a, t)
+}
+
+// ---- all slots
+
+fn one_if(b: bool) -> u32
+    ensures { λ r. ⌜ r ≡ cond b 1 0 ⌝ }
+{
+    if b { 1 } else { 0 }
+}
+
+// It moves on where it stands at a finished slot (78-80).
+fn next_begin(next: u16, finished: bool, t: u16) -> u16
+    requires { ⌜ t ≤ 63 ⌝ }
+    ensures { λ r. ⌜ r ≡ cond (finished && eqb next t) (t + 1) next ⌝ }
+{
+    if finished {
+        if next == t {
+            return t + 1;
+        }
+    }
+    next
+}
+
+fn tallied(y: Tally, r: Row, t: u16) -> Tally
+    requires { ⌜ NextTurn y t ⌝ }
+    ensures { λ x. ⌜ x ≡ talliedOf y (rowOf r) t ⌝ }
+{
+    Tally {
+        erred: one_if(5 <= r.code) + y.erred,
+        blocked: one_if(r.code == 4) + y.blocked,
+        next: next_begin(y.next, r.code == 1, t),
+    }
+}
+
+// Every slot, after a blocked, faulty or refused one too.
+fn visits(yard: &mut [u8], occ: &[u16], blocking: &[u32], a: Args, report: &mut [u8]) -> Tally
+    requires { ⌜ Check.checkFault (now yard) (now occ) (argsOf (now blocking) a) (length (now report)) .number ≡ 0 ⌝ }
+    ensures { λ x. ⌜ AllVisited (now (yard .entry)) (now (occ .entry)) (argsOf (now (blocking .entry)) a) (now (report .entry)) x (now (yard .exit)) (now (report .exit)) ⌝ }
+{
+    let slots = yard::slot_count(yard) as u16;
+    let mut y = Tally {
+        erred: 0,
+        blocked: 0,
+        next: a.begin,
+    };
+    let mut n: u16 = 0;
+    while n < slots {
+        let r = slot_visit(yard, occ, blocking, a, n + 1);
+        put_row(report, 16 * (n as usize), r);
+        y = tallied(y, r, n + 1);
+        n += 1;
+    }
+    y
+}
+
+// ---- the answer
+
+fn answered(y: Tally) -> Answer
+    ensures { λ r. ⌜ answeredOf r ≡ Check.answerBy (y .erred) (not (eqb (y .blocked) 0)) (y .next) ⌝ }
+{
+    if y.erred != 0 {
+        return Answer::Erred(y.erred);
+    }
+    Answer::Done {
+        deadlock: y.blocked != 0,
+        next: y.next,
+    }
+}
+
+// Visits every slot from begin on. Refused by 2, 4, 5, 14, 15 and 16: then nothing is changed.
+pub fn check_deadlock(
+    yard: &mut [u8],
+    occ: &[u16],
+    blocking: &[u32],
+    moved: TrainIdx,
+    begin: u16,
+    local: bool,
+    limit: u16,
+    report: &mut [u8],
+) -> Answer
+    ensures { λ x. ⌜ checkedOf x (now (yard .exit)) (now (report .exit)) ≡ Check.checked (now (yard .entry)) (now (occ .entry)) (now (blocking .entry)) (moved .0) begin local limit (now (report .entry)) ⌝ }
+{
+    let a = Args {
+        moved: moved,
+        begin: begin,
+        local: local,
+        limit: limit,
+    };
+    let f = check_fault(yard, occ, blocking, a, report.len());
+    if f.number != 0 {
+        return Answer::Refused(Refusal {
+            number: f.number,
+            place: f.place,
+        });
+    }
+    answered(visits(yard, occ, blocking, a, report))
+}
