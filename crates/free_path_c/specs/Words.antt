@@ -1,7 +1,7 @@
 -- Answers as numbers, for C. Assumes nothing.
 use Prim.Native.Nat.{ℕ, _+_, _*_}
 use mathlib.Core.Path.{_≡_}
-use mathlib.Core.Bool.{Bool}
+use mathlib.Core.Bool.{Bool, cond}
 use mathlib.Core.List.{List}
 use lib.Dec.{ltb}
 use lib.ListN.{set}
@@ -12,6 +12,7 @@ use Rattle.image_fault.specs.declared.Fault.{Fault}
 use Rattle.train_disp.specs.declared.Order.{Order}
 use Rattle.train_update.specs.Update.{Status, Success, Blocked, Faulty, Refused as RefusedBy}
 use Rattle.update_image.specs.UpdateImage.{UpdatedImage}
+use Rattle.yard_check.specs.Check as Check
 
 -- 0 where the call is done, else document 01's number, with the place in the upper 16 bits
 abbrev pub answerWord : Answer → ℕ
@@ -68,3 +69,39 @@ pub record Told (u : UpdatedImage) (r : ℕ) (image ws₀ ws : List ℕ) : Type 
   pub word : r ≡ statusWord (u .status)
   pub bytes : image ≡ u .image
   pub words : ws ≡ updateWords u ws₀
+
+-- ---- a check
+
+-- 0 where the check is not refused
+abbrev pub checkWord : Check.Answer → ℕ
+checkWord (Check.Refused n place) = n + 65536 * place
+checkWord (Check.Erred n) = 0
+checkWord (Check.Done deadlock next) = 0
+
+-- how many slots erred
+abbrev pub erredOf : Check.Answer → ℕ
+erredOf (Check.Refused n place) = 0
+erredOf (Check.Erred n) = n
+erredOf (Check.Done deadlock next) = 0
+
+-- 1 where there is a deadlock
+abbrev pub deadlockOf : Check.Answer → ℕ
+deadlockOf (Check.Refused n place) = 0
+deadlockOf (Check.Erred n) = 0
+deadlockOf (Check.Done deadlock next) = cond deadlock 1 0
+
+abbrev pub nextOf : Check.Answer → ℕ
+nextOf (Check.Refused n place) = 0
+nextOf (Check.Erred n) = 0
+nextOf (Check.Done deadlock next) = next
+
+-- slots that erred, deadlock and next begin in the first three words; a word past the end stays out
+abbrev pub checkWords : Check.Answer → List ℕ → List ℕ
+checkWords a ws = set (set (set ws 0 (erredOf a)) 1 (deadlockOf a)) 2 (nextOf a)
+
+-- the check k as C sees it: the number that is returned, the yard, the report and the words that are left
+pub record ToldCheck (k : Check.Checked) (r : ℕ) (yard report ws₀ ws : List ℕ) : Type 0 where
+  pub word : r ≡ checkWord (k .answer)
+  pub yardBytes : yard ≡ k .yard
+  pub reportBytes : report ≡ k .report
+  pub words : ws ≡ checkWords (k .answer) ws₀

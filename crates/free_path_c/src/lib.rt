@@ -1,13 +1,16 @@
 // The calls for C and Rust: every function is exported under its plain name with the prefix `lavtoeu_`, takes numbers and slices
 // (a pointer and a length), is total for every argument, and calls the proved function of the same name.
 ghost use mathlib.Core.Path.{_≡_};
+ghost use mathlib.Core.Bool.{cond};
 ghost use Rattle.link_rules.specs.AdvanceRewind.{markOf};
 ghost use Rattle.image_fault.specs.ImageFault.{imageFault};
 ghost use Rattle.train_disp.specs.TrainDisp.{laidOut};
 ghost use lib.ListN.{set};
 ghost use Rattle.update_image.specs.UpdateImage.{updatedImage};
 ghost use Rattle.update_free_path.specs.Updates.{statusOf};
-ghost use Rattle.free_path_c.specs.Words.{answerWord, faultWord, orderOf, flagOf, statusWord, codeOf, errorsOf, Told};
+ghost use Rattle.yard_check.specs.Check.{checked};
+ghost use Rattle.yard_check.specs.Checks.{answeredOf};
+ghost use Rattle.free_path_c.specs.Words.{answerWord, faultWord, orderOf, flagOf, statusWord, codeOf, errorsOf, Told, checkWord, erredOf, deadlockOf, nextOf, ToldCheck};
 use disp_structs::Metres;
 use link_rules::advance_rewind;
 use link_rules::link_idx::LinkIdx;
@@ -16,6 +19,7 @@ use link_rules::refusal::Answer;
 use train_disp::Order;
 use update_free_path;
 use update_free_path::answer::Status;
+use yard_check::check;
 
 // Marks a link for a train, or releases it with train 0. Answers 0, or the refusal's number with its place in the upper 16 bits.
 #[no_mangle]
@@ -147,5 +151,86 @@ fn errors_of(s: Status) -> u64
         Status::Blocked => 0,
         Status::Faulty(n) => n,
         Status::Refused(r) => 0,
+    }
+}
+
+// Checks a yard: the occupancy, the blocking list, the moved train, the slot to begin with, local (0 is no), the round limit; the report gets 16 bytes for each slot. Of the
+// answer's words the first gets the number of slots that erred, the second 1 where there is a deadlock, the third the next begin. Answers 0, or the refusal as lavtoeu_mark does.
+#[no_mangle]
+pub extern "C" fn lavtoeu_check(
+    yard: &mut [u8],
+    occupancy: &[u16],
+    blocking: &[u32],
+    moved: u16,
+    begin: u16,
+    local: u32,
+    limit: u16,
+    report: &mut [u8],
+    answer: &mut [u64],
+) -> u32
+    ensures { λ r. ⌜ ToldCheck (checked (now (yard .entry)) (now (occupancy .entry)) (now (blocking .entry)) moved begin (flagOf local) limit (now (report .entry))) r (now (yard .exit)) (now (report .exit)) (now (answer .entry)) (now (answer .exit)) ⌝ }
+{
+    let x = check::check_deadlock(
+        yard,
+        occupancy,
+        blocking,
+        TrainIdx(moved),
+        begin,
+        flag_of(local),
+        limit,
+        report,
+    );
+    put_word(answer, 0, erred_of(x));
+    put_word(answer, 1, deadlock_of(x));
+    put_word(answer, 2, next_of(x));
+    check_word(x)
+}
+
+fn check_word(x: check::Answer) -> u32
+    ensures { λ r. ⌜ r ≡ checkWord (answeredOf x) ⌝ }
+{
+    match x {
+        check::Answer::Refused(r) => (r.number as u32) + 65536 * (r.place as u32),
+        check::Answer::Erred(n) => 0,
+        check::Answer::Done { deadlock, next } => 0,
+    }
+}
+
+fn erred_of(x: check::Answer) -> u64
+    ensures { λ r. ⌜ r ≡ erredOf (answeredOf x) ⌝ }
+{
+    match x {
+        check::Answer::Refused(r) => 0,
+        check::Answer::Erred(n) => n as u64,
+        check::Answer::Done { deadlock, next } => 0,
+    }
+}
+
+fn bit_of(b: bool) -> u64
+    ensures { λ r. ⌜ r ≡ cond b 1 0 ⌝ }
+{
+    if b {
+        return 1;
+    }
+    0
+}
+
+fn deadlock_of(x: check::Answer) -> u64
+    ensures { λ r. ⌜ r ≡ deadlockOf (answeredOf x) ⌝ }
+{
+    match x {
+        check::Answer::Refused(r) => 0,
+        check::Answer::Erred(n) => 0,
+        check::Answer::Done { deadlock, next } => bit_of(deadlock),
+    }
+}
+
+fn next_of(x: check::Answer) -> u64
+    ensures { λ r. ⌜ r ≡ nextOf (answeredOf x) ⌝ }
+{
+    match x {
+        check::Answer::Refused(r) => 0,
+        check::Answer::Erred(n) => 0,
+        check::Answer::Done { deadlock, next } => next as u64,
     }
 }
