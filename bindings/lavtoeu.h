@@ -41,6 +41,14 @@ enum { LAVTOEU_UNVISITED = 0, LAVTOEU_FINISHED = 1, LAVTOEU_MOVED = 2, LAVTOEU_S
  * words past answer_len are left out. Refused by 2 and 4 to 13. */
 uint32_t lavtoeu_update(uint8_t *image, size_t image_len, const uint16_t *occupancy, size_t occupancy_len, const uint32_t *blocking, size_t blocking_len, uint16_t moved, uint32_t local, uint16_t limit, uint64_t *answer, size_t answer_len);
 
+/* The words of a check's answer. */
+enum { LAVTOEU_ERRED = 0, LAVTOEU_DEADLOCK = 1, LAVTOEU_NEXT = 2, LAVTOEU_CHECK_WORDS = 3 };
+
+/* Checks a yard from slot begin on; the report gets 16 bytes for each slot: u16 code, place, rounds, holder; u32 strays, faults. The
+ * first three words of the answer get the number of slots that erred; where it is 0, 1 for a deadlock, and the next begin. Refused by
+ * 2, 4, 5, 14, 15, 16. */
+uint32_t lavtoeu_check(uint8_t *yard, size_t yard_len, const uint16_t *occupancy, size_t occupancy_len, const uint32_t *blocking, size_t blocking_len, uint16_t moved, uint16_t begin, uint32_t local, uint16_t limit, uint8_t *report, size_t report_len, uint64_t *answer, size_t answer_len);
+
 #ifdef __cplusplus
 }
 #endif

@@ -46,6 +46,22 @@ mod raw {
             answer: *mut u64,
             answer_len: usize,
         ) -> u32;
+        pub fn lavtoeu_check(
+            yard: *mut u8,
+            yard_len: usize,
+            occupancy: *const u16,
+            occupancy_len: usize,
+            blocking: *const u32,
+            blocking_len: usize,
+            moved: u16,
+            begin: u16,
+            local: u32,
+            limit: u16,
+            report: *mut u8,
+            report_len: usize,
+            answer: *mut u64,
+            answer_len: usize,
+        ) -> u32;
     }
 }
 
@@ -192,4 +208,100 @@ pub fn update(image: &mut [u8], m: Move) -> Updated {
         _ => Status::Success,
     });
     Updated { status, rounds: words[2] as u16, strays: words[3] }
+}
+
+/// A yard of images, slot t for the t-th, which must hold train t.
+pub fn yard(images: &[&[u8]]) -> Vec<u8> {
+    let mut at = 8 + 4 * images.len();
+    let size = at + images.iter().map(|i| i.len()).sum::<usize>();
+    let mut out = vec![];
+    out.extend((size as u32).to_le_bytes());
+    out.extend((images.len() as u32).to_le_bytes());
+    for image in images {
+        out.extend((at as u32).to_le_bytes());
+        at += image.len();
+    }
+    images.iter().for_each(|image| out.extend(*image));
+    out
+}
+
+/// What a check found in a slot.
+#[derive(Clone, Copy, Debug, PartialEq, Eq)]
+pub enum Slot {
+    Unvisited,
+    Finished,
+    Moved,
+    Success,
+    /// By the train that holds it.
+    Blocked(u16),
+    /// With this many errors of the free path.
+    Faulty(u32),
+    Refused(Refusal),
+}
+
+/// A record of the report.
+#[derive(Clone, Copy, Debug, PartialEq, Eq)]
+pub struct Row {
+    pub slot: Slot,
+    pub rounds: u16,
+    pub strays: u32,
+}
+
+/// The records of a report, in the order of the slots.
+pub fn rows(report: &[u8]) -> Vec<Row> {
+    report
+        .chunks_exact(16)
+        .map(|b| {
+            let half = |i: usize| u16::from_le_bytes([b[i], b[i + 1]]);
+            let word = |i: usize| u32::from_le_bytes([b[i], b[i + 1], b[i + 2], b[i + 3]]);
+            let slot = match half(0) {
+                0 => Slot::Unvisited,
+                1 => Slot::Finished,
+                2 => Slot::Moved,
+                3 => Slot::Success,
+                4 => Slot::Blocked(half(6)),
+                5 => Slot::Faulty(word(12)),
+                code => Slot::Refused(Refusal { number: code.saturating_sub(16), place: half(2) }),
+            };
+            Row { slot, rounds: half(4), strays: word(8) }
+        })
+        .collect()
+}
+
+/// The answer of a check that was not refused.
+#[derive(Clone, Copy, Debug, PartialEq, Eq)]
+pub enum Checked {
+    /// So many slots are faulty or refused.
+    Erred(u64),
+    /// Is a visited slot blocked? And the first unfinished slot from begin on.
+    Done { deadlock: bool, next: u16 },
+}
+
+/// Checks every slot of a yard from `begin` on. `report` has 16 bytes for each slot; `rows` reads it.
+pub fn check(yard: &mut [u8], m: Move, begin: u16, report: &mut [u8]) -> Result<Checked, Refusal> {
+    let mut words = [0u64; 3];
+    // SAFETY: each pointer goes with its own length, and the function keeps to them.
+    let word = unsafe {
+        raw::lavtoeu_check(
+            yard.as_mut_ptr(),
+            yard.len(),
+            m.occupancy.as_ptr(),
+            m.occupancy.len(),
+            m.blocking.as_ptr(),
+            m.blocking.len(),
+            m.moved,
+            begin,
+            m.local as u32,
+            m.limit,
+            report.as_mut_ptr(),
+            report.len(),
+            words.as_mut_ptr(),
+            words.len(),
+        )
+    };
+    Refusal::of(word)?;
+    Ok(match words[0] {
+        0 => Checked::Done { deadlock: words[1] != 0, next: words[2] as u16 },
+        n => Checked::Erred(n),
+    })
 }

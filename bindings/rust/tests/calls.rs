@@ -116,3 +116,55 @@ fn no_bytes_and_any_bytes_get_an_answer() {
         assert_eq!(image, before);
     }
 }
+
+fn two_trains() -> Vec<u8> {
+    yard(&[&laid_out(1, 4), &laid_out(2, 4)])
+}
+
+const MOVE: Move = Move { occupancy: &[0, 2, 0, 0], blocking: &[1], moved: 2, local: false, limit: 5 };
+
+#[test]
+fn a_check_works_every_slot_but_the_moved_train() {
+    let mut yard = two_trains();
+    let mut report = [0xaa; 32];
+    assert_eq!(check(&mut yard, MOVE, 1, &mut report), Ok(Checked::Done { deadlock: false, next: 1 }));
+    let row = |slot, rounds| Row { slot, rounds, strays: 0 };
+    assert_eq!(rows(&report), [row(Slot::Success, 2), row(Slot::Moved, 0)]);
+    assert_eq!(path(&yard[16..16 + 400]), [0, 2, 3, 4]);
+}
+
+#[test]
+fn a_blocked_slot_is_a_deadlock_and_names_its_holder() {
+    let mut yard = two_trains();
+    let mut report = [0; 32];
+    let m = Move { occupancy: &[0, 2, 2, 0], blocking: &[1, 2], ..MOVE };
+    assert_eq!(check(&mut yard, m, 1, &mut report), Ok(Checked::Done { deadlock: true, next: 1 }));
+    assert_eq!(rows(&report)[0].slot, Slot::Blocked(2));
+}
+
+#[test]
+fn a_refused_slot_errs_and_the_others_are_worked() {
+    let mut yard = two_trains();
+    yard[16 + 42] = 1;
+    let before = yard.clone();
+    let mut report = [0; 32];
+    let m = Move { moved: 1, occupancy: &[0; 4], blocking: &[], ..MOVE };
+    assert_eq!(check(&mut yard, m, 1, &mut report), Ok(Checked::Erred(1)));
+    assert_eq!(rows(&report)[0].slot, Slot::Refused(Refusal { number: 6, place: 0 }));
+    assert_eq!(yard[16..416], before[16..416]);
+}
+
+#[test]
+fn refused_checks_change_nothing() {
+    for (yard_byte, begin, len, number) in [(4, 1, 32, 14), (0, 4, 32, 15), (0, 1, 31, 16)] {
+        let mut yard = two_trains();
+        if yard_byte != 0 {
+            yard[yard_byte] = 64;
+        }
+        let before = yard.clone();
+        let mut report = vec![0xaa; len];
+        assert_eq!(check(&mut yard, MOVE, begin, &mut report), Err(Refusal { number, place: 0 }));
+        assert_eq!(yard, before);
+        assert!(report.iter().all(|&b| b == 0xaa));
+    }
+}
