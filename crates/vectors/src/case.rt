@@ -1,4 +1,5 @@
 // The parts of a recorded case, and the counts of a replay.
+ghost use Prim.Native.Nat.{_<_, _^_};
 use link_rules::octets;
 use link_rules::refusal::Answer;
 
@@ -36,6 +37,7 @@ impl Count {
 pub(crate) struct Counts {
     pub(crate) marks: Count,
     pub(crate) layouts: Count,
+    pub(crate) updates: Count,
     pub(crate) images: Count,
     pub(crate) leaves: Count,
     pub(crate) skipped: u64,
@@ -49,6 +51,10 @@ pub(crate) fn none() -> Counts {
             differ: 0,
         },
         layouts: Count {
+            cases: 0,
+            differ: 0,
+        },
+        updates: Count {
             cases: 0,
             differ: 0,
         },
@@ -92,6 +98,14 @@ pub(crate) fn with_layout(counts: Counts, agrees: bool) -> Counts {
     let layouts = counts.layouts;
     let next = layouts.with(agrees);
     out.layouts = next;
+    out
+}
+
+pub(crate) fn with_update(counts: Counts, agrees: bool) -> Counts {
+    let mut out = counts;
+    let updates = counts.updates;
+    let next = updates.with(agrees);
+    out.updates = next;
     out
 }
 
@@ -252,9 +266,20 @@ pub(crate) fn second_input<'a>(head: &[u8], body: &'a [u8]) -> &'a [u8] {
     )
 }
 
+// How many bytes the first two inputs have.
+fn two_inputs_len(head: &[u8]) -> usize
+    ensures { λ r. ⌜ r < 2 ^ 33 ⌝ }
+{
+    (input_len(head, 0) as usize) + (input_len(head, 1) as usize)
+}
+
+pub(crate) fn third_input<'a>(head: &[u8], body: &'a [u8]) -> &'a [u8] {
+    part(body, two_inputs_len(head), input_len(head, 2) as usize)
+}
+
 // Where the outputs begin.
 fn outputs_at(head: &[u8]) -> usize {
-    let two = (input_len(head, 0) as usize) + (input_len(head, 1) as usize);
+    let two = two_inputs_len(head);
     two + (input_len(head, 2) as usize) + (input_len(head, 3) as usize)
 }
 

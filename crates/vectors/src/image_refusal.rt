@@ -3,9 +3,6 @@ use crate::case;
 
 // An update that is not refused by 2, 4 or 5 tells what 6 to 9 say of its image.
 pub(crate) fn is_told(head: &[u8]) -> bool {
-    if case::operation(head) != case::UPDATE {
-        return false;
-    }
     let number = case::answer_at(head, 1);
     if number == 0 {
         return true;

@@ -16,7 +16,7 @@ use free_path::link_opt_type;
 use free_path::link_opt_type::LinkOptType;
 use free_path::train_idxs_view;
 use free_path::train_idxs_view::Union;
-use free_path::validate;
+use free_path::validate as counts;
 use image::codec;
 use link_rules::link_idx::LinkIdx;
 use link_rules::link_idx::TrainIdx;
@@ -248,6 +248,6 @@ fn step_agrees(head: &[u8], body: &[u8]) -> bool {
     let b = node(case::argument(head, 1), octets::u64_at(offsets, 8));
     is_flag(
         head,
-        validate::bad_step(a, b, codec::est_in(est, 0), codec::est_in(est, 1)),
+        counts::bad_step(a, b, codec::est_in(est, 0), codec::est_in(est, 1)),
     )
 }

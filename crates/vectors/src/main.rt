@@ -8,6 +8,7 @@ mod image_refusal;
 mod lay_out;
 mod leaf;
 mod mark;
+mod update;
 
 use case::Count;
 use case::Counts;
@@ -24,6 +25,7 @@ fn main() {
     libc::close(fd);
     print_line(b"mark or release: ", counts.marks);
     print_line(b"lay out: ", counts.layouts);
+    print_line(b"update: ", counts.updates);
     print_line(b"refusals 6 to 9 of an image: ", counts.images);
     print_line(b"leaves of the search: ", counts.leaves);
     print_skipped(counts.skipped);
@@ -101,13 +103,22 @@ fn replay(head: &[u8], body: &[u8], counts: Counts) -> Counts {
     if case::operation(head) == case::LAY_OUT {
         return case::with_layout(counts, lay_out::agrees(head, body));
     }
-    if image_refusal::is_told(head) {
-        return case::with_image(counts, image_refusal::agrees(head, body));
+    if case::operation(head) == case::UPDATE {
+        return replay_update(head, body, counts);
     }
     if leaf::is_told(head) {
         return case::with_leaf(counts, leaf::agrees(head, body));
     }
     case::with_skipped(counts)
+}
+
+// An update also tells what 6 to 9 say of its image, unless 2, 4 or 5 comes before.
+fn replay_update(head: &[u8], body: &[u8], counts: Counts) -> Counts {
+    let more = case::with_update(counts, update::agrees(head, body));
+    if image_refusal::is_told(head) {
+        return case::with_image(more, image_refusal::agrees(head, body));
+    }
+    more
 }
 
 fn print_line(name: &[u8], count: Count) {

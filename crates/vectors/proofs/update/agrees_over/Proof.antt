@@ -1,0 +1,59 @@
+use mathlib.Core.Path.{sym}
+use lib.Seq.{length-take-le}
+use native.Mathlib.Omega.{arith}
+use borrow.Author.Needs.{needs}
+use Rattle.vectors.proofs.update.agrees_over.Statement.{statement}
+use Rattle.vectors.proofs.update.agrees_over.Tie as tie
+
+second-input-requires : tie.Need-second-input-requires
+second-input-requires c κs = search needs
+
+u16s-requires : tie.Need-u16s-requires
+u16s-requires c κs = search needs
+
+no-links-requires : tie.Need-no-links-requires
+no-links-requires c κs = search needs
+
+third-input-requires : tie.Need-third-input-requires
+third-input-requires c κs = search needs
+
+same-length : tie.Need-same-length
+same-length c = search needs
+
+returns : tie.Need-returns
+returns c = search needs
+
+array-borrow-prefix-room : tie.Need-array-borrow-prefix-room
+array-borrow-prefix-room c = search needs
+
+slice-aggregate-agrees-by : tie.Need-slice-aggregate-agrees-by
+slice-aggregate-agrees-by c = sym (length-take-le _ (c .before .before .before .before .before .no-links .result) (omega arith))
+
+agrees-by-requires : tie.Need-agrees-by-requires
+agrees-by-requires c κs = search needs
+
+same-length-2 : tie.Need-same-length-2
+same-length-2 c = search needs
+
+same-length-3 : tie.Need-same-length-3
+same-length-3 c = search needs
+
+returns-2 : tie.Need-returns-2
+returns-2 c = search needs
+
+pub agrees-over-spec : {M : Type 1} → statement M
+agrees-over-spec =
+    tie.close
+    (tie.spec
+    second-input-requires
+    u16s-requires
+    no-links-requires
+    third-input-requires
+    same-length
+    returns
+    array-borrow-prefix-room
+    slice-aggregate-agrees-by
+    agrees-by-requires
+    same-length-2
+    same-length-3
+    returns-2)
