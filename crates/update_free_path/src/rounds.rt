@@ -6,6 +6,8 @@ use round::Given;
 use round::RoundEnd;
 use round::splitting;
 use round_start::path;
+use tally;
+use tally::Tally;
 ghost use mathlib.Core.Path.{_≡_};
 ghost use mathlib.Core.Bool.{_&&_};
 ghost use Prim.Native.Nat.{ℕ, _+_, _^_, _≤_, _<_};
@@ -82,17 +84,30 @@ fn ran_with(stop: Stop, h: PathHeader, rounds: u16, strays: usize) -> Ran
     }
 }
 
+// The tally with one more round. The strays are those of a path; faults are found once no round follows, by the validation.
+fn tallied(w: Between, strays: usize) -> Tally
+    requires { ⌜ (w .rounds + 1 < 2 ^ 16) × (w .strays + strays < 2 ^ 64) ⌝ }
+    ensures { λ r. ⌜ (r .rounds ≡ w .rounds + 1) × (r .strays ≡ w .strays + strays) ⌝ }
+{
+    let t = Tally {
+        rounds: w.rounds,
+        strays: w.strays as u64,
+        faults: 0,
+    };
+    tally::counted(t, strays as u64, 0)
+}
+
 // A round has ended and no other follows; strays are those of its path.
 fn stopped(w: Between, end: End, h: PathHeader, strays: usize) -> Ran
     requires { ⌜ (w .rounds + 1 < 2 ^ 16) × (w .strays + strays < 2 ^ 64) ⌝ }
     ensures { λ r. ⌜ r ≡ stoppedBy end h (w .rounds + 1) (w .strays) strays ⌝ }
 {
-    let n = w.rounds + 1;
+    let t = tallied(w, strays);
     match end {
-        End::Refused(c) => ran_with(Stop::Refused(c), h, n, w.strays),
-        End::AtEnd => ran_with(Stop::Ended, h, n, w.strays + strays),
-        End::Blocked => ran_with(Stop::Blocked, h, n, w.strays),
-        End::Again => ran_with(Stop::Ended, h, n, w.strays),
+        End::Refused(c) => ran_with(Stop::Refused(c), h, t.rounds, w.strays),
+        End::AtEnd => ran_with(Stop::Ended, h, t.rounds, t.strays as usize),
+        End::Blocked => ran_with(Stop::Blocked, h, t.rounds, w.strays),
+        End::Again => ran_with(Stop::Ended, h, t.rounds, w.strays),
     }
 }
 
@@ -102,12 +117,13 @@ fn next(w: Between, x: RoundEnd, strays: usize) -> Between
     ensures { λ r. ⌜ r ≡ nextOf w x strays ⌝ }
 {
     let h = x.header;
+    let t = tallied(w, strays);
     Between {
         header: h,
         split: x.split,
         div_split: x.div_split,
-        rounds: w.rounds + 1,
-        strays: w.strays + strays,
+        rounds: t.rounds,
+        strays: t.strays as usize,
     }
 }
 
