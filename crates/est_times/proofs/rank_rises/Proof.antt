@@ -3,7 +3,8 @@ use Rattle.est_times.proofs.Ranked.{rose, Rises, rises-none}
 use borrow.Author.Count.{below-more}
 use mathlib.Core.Bool.{false}
 use Rattle.est_times.proofs.Counting.{clash}
-use Prim.Native.Nat.{_-_, _≤_}
+use Prim.Native.Nat.{ℕ, _-_, _≤_}
+use lib.ListN.{getD}
 use mathlib.Core.Path.{refl}
 use native.Mathlib.Omega.{arith}
 use borrow.Author.Needs.{needs}
@@ -11,7 +12,7 @@ use Rattle.est_times.proofs.rank_rises.Statement.{statement}
 use Rattle.est_times.proofs.rank_rises.Tie as tie
 
 abbrev Inv-loop : tie.InvT-loop
-Inv-loop next alt e rank a₀ a = (a ≤ e) × Rises next alt e rank a
+Inv-loop next alt e rank a₀ a = (a ≤ e) × Rises next alt e (λ i. getD rank i 0) a
 
 abbrev μ-loop : tie.MeasureT-loop
 μ-loop next alt e rank a₀ a = e - a
@@ -47,7 +48,7 @@ loop-again : tie.Need-loop-again Inv-loop μ-loop
 loop-again c =
     let b = c .before .before .before in
     let l = b .before .before .before .before in
-    let rank = now (l .before .args .rank) in (
+    let rank : ℕ → ℕ = (λ i. getD (now (l .before .args .rank)) i 0) in (
       search needs,
       below-more _ _ (l .loop .inv .1) (
         rose rank (l .loop .a) _ _ _ (b .before .rises .ensures) (b .before .before .follow .ensures .0) (b .if1 .left),
@@ -56,7 +57,7 @@ loop-again c =
     )
 
 returns-3 : tie.Need-returns-3 Inv-loop μ-loop
-returns-3 c = λ z. rises-none (now (c .before .before .args .next)) (now (c .before .before .args .alt)) (c .before .before .args .e) (now (c .before .before .args .rank)) (λ k l. c .before .loop .inv .1 k (omega arith))
+returns-3 c = λ z. rises-none (now (c .before .before .args .next)) (now (c .before .before .args .alt)) (c .before .before .args .e) (λ i. getD (now (c .before .before .args .rank)) i 0) (λ k l. c .before .loop .inv .1 k (omega arith))
 
 pub rank-rises-spec : {M : Type 1} → statement M
 rank-rises-spec =

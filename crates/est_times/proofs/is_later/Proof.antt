@@ -1,0 +1,12 @@
+use borrow.Author.Tests.{eq-eqb, ne-eqb}
+use Rattle.est_times.proofs.is_later.Statement.{statement}
+use Rattle.est_times.proofs.is_later.Tie as tie
+
+returns : tie.Need-returns
+returns c = rw (eq-eqb (c .before .args .t) 0 (c .if1 .taken))
+
+returns-2 : tie.Need-returns-2
+returns-2 c = rw (ne-eqb (c .before .args .t) 0 (c .if1 .left))
+
+pub is-later-spec : {M : Type 1} → statement M
+is-later-spec = tie.close (tie.spec returns returns-2)
