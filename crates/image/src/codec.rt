@@ -16,7 +16,7 @@ ghost use mathlib.Core.Path.{_≡_};
 ghost use Prim.Native.Nat.{_+_, _*_, _-_, _^_, _<_};
 ghost use Rattle.link_rules.specs.Octets.{leAt, putLe};
 ghost use Rattle.disp_structs.specs.Floats.{realOf};
-ghost use Rattle.image.specs.Image.{sizeOf, estCount, pathCount, divergeCount, divergeRoom, trainIdx, pathHeader, distDispPathSearch, distFixedMax, estPlace, nodePlace, divergePlace, typeOf, typeNumber, estFrom, estAt, nodeAt, divergeAt, putEst, putNode, putDiverge, zeroWords, clearNodes, clearDiverges, putPathHeader};
+ghost use Rattle.image.specs.Image.{sizeOf, estCount, pathCount, divergeCount, divergeRoom, trainIdx, pathHeader, distDispPathSearch, distFixedMax, estPlace, nodePlace, divergePlace, typeOf, typeNumber, estFrom, estAt, nodeFrom, nodeAt, divergeAt, putEst, putNode, putDiverge, zeroWords, clearNodes, clearDiverges, putPathHeader};
 
 // The header's numbers that an update changes.
 pub struct PathHeader {
@@ -156,7 +156,21 @@ fn type_number(t: EstType) -> u16
 pub fn est_at(img: &[u8], i: u32) -> EstTime
     ensures { λ r. ⌜ r ≡ estAt (now (img .entry)) i ⌝ }
 {
-    est_from(img, est_place(i))
+    let at = est_place(i);
+    if img.len() < at + 32 {
+        return est_from(img, at);
+    }
+    EstTime {
+        dist_to_next: Metres(floats::real_of(octets::u64_at(img, at))),
+        idx_next: EstIdx(octets::u32_at(img, at + 8)),
+        idx_next_alt: EstIdx(octets::u32_at(img, at + 12)),
+        idx_prev: EstIdx(octets::u32_at(img, at + 16)),
+        idx_prev_alt: EstIdx(octets::u32_at(img, at + 20)),
+        link_event: LinkEvent {
+            link_idx: LinkIdx(octets::u32_at(img, at + 24)),
+            est_type: type_of(octet_at(img, at + 28)),
+        },
+    }
 }
 
 // The est record of index i among est records alone, as a layout gets them.
@@ -187,6 +201,9 @@ pub fn node_at(img: &[u8], i: u32) -> DispNode
     ensures { λ r. ⌜ r ≡ nodeAt (now (img .entry)) i ⌝ }
 {
     let at = node_place(est_count(img), i);
+    if img.len() < at + 32 {
+        return node_past(img, at);
+    }
     DispNode {
         offset: Metres(floats::real_of(octets::u64_at(img, at))),
         time_pass: Seconds(floats::real_of(octets::u64_at(img, at + 8))),
@@ -196,6 +213,23 @@ pub fn node_at(img: &[u8], i: u32) -> DispNode
         },
         est_idx: EstIdx(octets::u32_at(img, at + 20)),
         disp_auth_idx_entry: octets::u16_at(img, at + 24),
+    }
+}
+
+// A node record that ends past the image. Apart from node_at, so that there one test of the length serves every field.
+fn node_past(s: &[u8], at: usize) -> DispNode
+    requires { ⌜ at < 2 ^ 48 ⌝ }
+    ensures { λ r. ⌜ r ≡ nodeFrom (now (s .entry)) at ⌝ }
+{
+    DispNode {
+        offset: Metres(floats::real_of(octets::u64_at(s, at))),
+        time_pass: Seconds(floats::real_of(octets::u64_at(s, at + 8))),
+        link_event: LinkEvent {
+            link_idx: LinkIdx(octets::u32_at(s, at + 16)),
+            est_type: type_of(octet_at(s, at + 26)),
+        },
+        est_idx: EstIdx(octets::u32_at(s, at + 20)),
+        disp_auth_idx_entry: octets::u16_at(s, at + 24),
     }
 }
 
@@ -260,6 +294,18 @@ pub fn put_node(img: &mut [u8], i: u32, x: DispNode)
     ensures { λ _. ⌜ now (img .exit) ≡ putNode x (nodePlace (estCount (now (img .entry))) i) (now (img .entry)) ⌝ }
 {
     let at = node_place(est_count(img), i);
+    if img.len() < at + 32 {
+        put_node_past(img, at, x);
+        return;
+    }
+    put_node_in(img, at, x)
+}
+
+// A node record that lies within the image.
+fn put_node_in(img: &mut [u8], at: usize, x: DispNode)
+    requires { ⌜ at < 2 ^ 48 ⌝ }
+    ensures { λ _. ⌜ now (img .exit) ≡ putNode x at (now (img .entry)) ⌝ }
+{
     octets::put_u64(img, at, floats::bits_of(x.offset.0));
     octets::put_u64(img, at + 8, floats::bits_of(x.time_pass.0));
     octets::put_u32(img, at + 16, x.link_event.link_idx.0);
@@ -269,6 +315,22 @@ pub fn put_node(img: &mut [u8], i: u32, x: DispNode)
     let t = e.est_type;
     octets::put_u16(img, at + 26, type_number(t));
     octets::put_u32(img, at + 28, 0);
+}
+
+// A node record that ends past the image.
+fn put_node_past(s: &mut [u8], at: usize, x: DispNode)
+    requires { ⌜ at < 2 ^ 48 ⌝ }
+    ensures { λ _. ⌜ now (s .exit) ≡ putNode x at (now (s .entry)) ⌝ }
+{
+    octets::put_u64(s, at, floats::bits_of(x.offset.0));
+    octets::put_u64(s, at + 8, floats::bits_of(x.time_pass.0));
+    octets::put_u32(s, at + 16, x.link_event.link_idx.0);
+    octets::put_u32(s, at + 20, x.est_idx.0);
+    octets::put_u16(s, at + 24, x.disp_auth_idx_entry);
+    let e = x.link_event;
+    let t = e.est_type;
+    octets::put_u16(s, at + 26, type_number(t));
+    octets::put_u32(s, at + 28, 0);
 }
 
 pub fn put_diverge(img: &mut [u8], i: u32, x: DivergeNode)

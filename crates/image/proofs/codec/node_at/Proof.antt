@@ -9,6 +9,15 @@ est-count-requires c κs = search needs
 node-place-requires : tie.Need-node-place-requires
 node-place-requires c κs = search needs
 
+add-if1 : tie.Need-add-if1
+add-if1 c = search needs
+
+node-past-requires : tie.Need-node-past-requires
+node-past-requires c κs = search needs
+
+returns : tie.Need-returns
+returns c = cc
+
 u64-at-requires : tie.Need-u64-at-requires
 u64-at-requires c κs = search needs
 
@@ -51,9 +60,9 @@ add-u16-at c = search needs
 u16-at-requires : tie.Need-u16-at-requires
 u16-at-requires c κs = search needs
 
-returns : tie.Need-returns
+returns-2 : tie.Need-returns-2
 unfolding nodeFrom
-returns c = cc
+returns-2 c = cc
 
 pub node-at-spec : {M : Type 1} → statement M
 node-at-spec =
@@ -61,6 +70,9 @@ node-at-spec =
     (tie.spec
     est-count-requires
     node-place-requires
+    add-if1
+    node-past-requires
+    returns
     u64-at-requires
     real-of-requires
     add-u64-at
@@ -75,4 +87,4 @@ node-at-spec =
     u32-at-requires-2
     add-u16-at
     u16-at-requires
-    returns)
+    returns-2)
