@@ -38,15 +38,16 @@ pub fn validate_free_path(img: &[u8], n: u32, occ: &[u16], free: u32) -> Errors
     }
 }
 
-// An est number past the records is 13.
+// An est number past the records is 13. a and x are node i and its est record.
 fn step_errors(img: &[u8], n: u32) -> Errors
     ensures { λ r. ⌜ (answer (r .code) (r .count) ≡ badPath (estsOf (now (img .entry))) (pathOf (now (img .entry)) n)) × (r .count < 2 ^ 32) ⌝ }
 {
     let e = codec::est_count(img);
+    let mut a = codec::node_at(img, 0);
+    let mut x = codec::est_at(img, a.est_idx.0);
     let mut k: u64 = 0;
     let mut i: u32 = 0;
     while (i as u64) + 1 < (n as u64) {
-        let a = codec::node_at(img, i);
         let b = codec::node_at(img, i + 1);
         if e <= a.est_idx.0 {
             return Errors { code: 13, count: 0 };
@@ -54,15 +55,10 @@ fn step_errors(img: &[u8], n: u32) -> Errors
         if e <= b.est_idx.0 {
             return Errors { code: 13, count: 0 };
         }
-        k = more(
-            k,
-            validate::bad_step(
-                a,
-                b,
-                codec::est_at(img, a.est_idx.0),
-                codec::est_at(img, b.est_idx.0),
-            ),
-        );
+        let y = codec::est_at(img, b.est_idx.0);
+        k = more(k, validate::bad_step(a, b, x, y));
+        a = b;
+        x = y;
         i += 1;
     }
     Errors { code: 0, count: k }
