@@ -16,4 +16,7 @@ pub mod DemandThree
 pub mod MatchTests
 pub mod SidingRenumbered
 pub mod DecimalLaws
+pub mod TextLaws
+pub mod SheetLaws
+pub mod BundleLaws
 pub mod SheetExample

@@ -4,7 +4,7 @@ use mathlib.Core.List.{List, [], _∷_, _++_}
 use Prim.Native.Nat.{ℕ}
 use lib.ListN.{set, take, replicate}
 use Rattle.yard_check.specs.Check.{rowFrom}
-use Rattle.yard_check.specs.Sheet.{bundleFits, reportSlots, checkedBundle, ascii, decimalFrom, codeWord, freeColumn, slotLine, slotLines, sheetText}
+use Rattle.yard_check.specs.Sheet.{partsFit, bundleFits, reportSlots, checkedBundle, ascii, decimalFrom, codeWord, freeColumn, slotLine, slotLines, checkLines, sheetText}
 use Rattle.yard_check.proofs.Siding.{words, everything}
 
 -- train t, path Fake, Arrive and Clear on its own link; all distances and offsets 0, prev naming the node before
@@ -28,7 +28,7 @@ abbrev bundle : ℕ → List ℕ
 bundle x = words (582 ∷ 32 ∷ 3 ∷ 38 ∷ 0 ∷ 38 ∷ 65538 ∷ 1 ∷ []) ++ (0 ∷ 0 ∷ x ∷ 0 ∷ 0 ∷ 0 ∷ yard)
 
 unfoldable sheets : ℕ
-unfolding everything slot rowFrom bundleFits reportSlots checkedBundle ascii decimalFrom codeWord freeColumn slotLine slotLines sheetText
+unfolding everything slot rowFrom partsFit bundleFits reportSlots checkedBundle ascii decimalFrom codeWord freeColumn slotLine slotLines checkLines sheetText
 sheets = 0
 
 -- document 01's example

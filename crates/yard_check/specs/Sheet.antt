@@ -26,11 +26,15 @@ blockingCount b = leAt 4 b 16
 abbrev pub yardOffset : List ℕ → ℕ
 yardOffset b = leAt 4 b 20
 
--- the parts follow the 32 bytes of the header without gaps, the yard up to the end; local is 0 or 1
+-- the parts follow the 32 bytes of the header without gaps, the yard up to the end
+unfoldable pub partsFit : List ℕ → Bool
+partsFit b =
+    eqb (leAt 4 b 4) 32 && (eqb (blockingOffset b) (32 + 2 * occupancyCount b)
+    && (eqb (yardOffset b) (blockingOffset b + 4 * blockingCount b) && leb (yardOffset b) (length b)))
+
+-- local is 0 or 1
 unfoldable pub bundleFits : List ℕ → Bool
-bundleFits b =
-    leb (length b) 65536 && (eqb (leAt 4 b 0) (length b) && (eqb (leAt 4 b 4) 32 && (eqb (blockingOffset b) (32 + 2 * occupancyCount b)
-    && (eqb (yardOffset b) (blockingOffset b + 4 * blockingCount b) && (leb (yardOffset b) (length b) && leb (leAt 2 b 30) 1)))))
+bundleFits b = leb (length b) 65536 && (eqb (leAt 4 b 0) (length b) && (leb (leAt 2 b 30) 1 && partsFit b))
 
 abbrev pub bundleOccupancy : List ℕ → List ℕ
 bundleOccupancy b = listed (occupancyCount b) (λ i. leAt 2 b (32 + 2 * i))
@@ -72,6 +76,9 @@ lineEnd = 10 ∷ []
 
 -- ---- the sheet
 
+abbrev pub refusedWord : ℕ → List ℕ
+refusedWord n = ascii "refused-" ++ decimal n
+
 -- by the report's code; 16 + n is refused n
 unfoldable pub codeWord : ℕ → List ℕ
 codeWord c =
@@ -81,7 +88,7 @@ codeWord c =
     (cond (eqb c 3) (ascii "success")
     (cond (eqb c 4) (ascii "blocked")
     (cond (eqb c 5) (ascii "faulty")
-    (ascii "refused-" ++ decimal (c - 16)))))))
+    (refusedWord (c - 16)))))))
 
 abbrev pub refusedLine : ℕ → List ℕ
 refusedLine n = ascii "refused" ++ (column n ++ lineEnd)
@@ -94,14 +101,18 @@ yesOrNo false = ascii "no"
 unfoldable pub freeColumn : List ℕ → ℕ → ℕ
 freeColumn img links = cond (eqb (imageFault img links .number) 0) (leAt 2 img 36) 0
 
--- slot, code word, rounds, holder, strays, faults, free
-unfoldable pub slotLine : ℕ → Row → ℕ → List ℕ
-slotLine t r free = decimal t ++ (32 ∷ (codeWord (r .code) ++ (column (r .rounds) ++ (column (r .holder) ++ (column (r .strays) ++ (column (r .faults) ++ (column free ++ lineEnd)))))))
+-- rounds, holder, strays, faults, free
+abbrev pub rowColumns : Row → ℕ → List ℕ
+rowColumns r free = column (r .rounds) ++ (column (r .holder) ++ (column (r .strays) ++ (column (r .faults) ++ (column free ++ lineEnd))))
 
--- of slots 1 to n
-unfoldable pub slotLines : Checked → ℕ → ℕ → List ℕ
-slotLines c links zero = []
-slotLines c links (suc n) = slotLines c links n ++ slotLine (suc n) (rowAt (c .report) (suc n)) (freeColumn (partOf (c .yard) (suc n)) links)
+-- slot, code word and the columns
+unfoldable pub slotLine : ℕ → Row → ℕ → List ℕ
+slotLine t r free = decimal t ++ (32 ∷ (codeWord (r .code) ++ rowColumns r free))
+
+-- of slots 1 to n, from the yard and the report that are left
+unfoldable pub slotLines : List ℕ → List ℕ → ℕ → ℕ → List ℕ
+slotLines yard report links zero = []
+slotLines yard report links (suc n) = slotLines yard report links n ++ slotLine (suc n) (rowAt report (suc n)) (freeColumn (partOf yard (suc n)) links)
 
 abbrev pub firstLine : Answer → ℕ → List ℕ
 firstLine (Refused n place) slots = refusedLine n
@@ -114,9 +125,11 @@ checkText (Refused n place) first slots = first
 checkText (Erred k) first slots = first ++ slots
 checkText (Done deadlock next) first slots = first ++ slots
 
-unfoldable pub sheetText : List ℕ → List ℕ
-sheetText b =
-    let c = checkedBundle b in
+-- of a check, and the number of links that an image is judged by
+unfoldable pub checkLines : Checked → ℕ → List ℕ
+checkLines c links =
     let slots = slotCount (c .yard) in
-    let text = checkText (c .answer) (firstLine (c .answer) slots) (slotLines c (occupancyCount b) slots) in
-    elim (bundleFits b) [ true ↦ text | false ↦ refusedLine 17 ]
+    checkText (c .answer) (firstLine (c .answer) slots) (slotLines (c .yard) (c .report) links slots)
+
+unfoldable pub sheetText : List ℕ → List ℕ
+sheetText b = let text = checkLines (checkedBundle b) (occupancyCount b) in elim (bundleFits b) [ true ↦ text | false ↦ refusedLine 17 ]

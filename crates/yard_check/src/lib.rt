@@ -1,4 +1,7 @@
-// The check over a yard (document 01, Yard and Check) and the theorem of demand 3.
+// The check over a yard (document 01, Yard and Check), the theorem of demand 3, and the sheet.
 // Every function here is proved, the crate assumes nothing of its own, and no public function has a `requires`.
+mod bundle;
 pub mod check;
+pub mod sheet;
+mod text;
 pub mod yard;

@@ -1,0 +1,23 @@
+use borrow.Author.Needs.{needs}
+use denote.Ref.{now}
+use Rattle.yard_check.proofs.TextLaws.{put-in, put-none}
+use Rattle.yard_check.proofs.text.put_byte.Statement.{statement}
+use Rattle.yard_check.proofs.text.put_byte.Tie as tie
+
+slice-write-text : tie.Need-slice-write-text
+slice-write-text c = search needs
+
+add-result : tie.Need-add-result
+add-result c = search needs
+
+same-length : tie.Need-same-length
+same-length c = search needs
+
+returns : tie.Need-returns
+returns c = let a = c .before .args in put-in (a .count) (now (a .text)) (a .byte) (c .if1 .taken)
+
+returns-2 : tie.Need-returns-2
+returns-2 c = let a = c .before .args in put-none (a .count) (now (a .text)) (a .byte) (c .if1 .left)
+
+pub put-byte-spec : {M : Type 1} → statement M
+put-byte-spec = tie.close (tie.spec slice-write-text add-result same-length returns returns-2)

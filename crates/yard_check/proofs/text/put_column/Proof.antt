@@ -1,0 +1,19 @@
+use Rattle.yard_check.proofs.TextLaws.{then}
+use borrow.Author.Needs.{needs}
+use Rattle.yard_check.proofs.text.put_column.Statement.{statement}
+use Rattle.yard_check.proofs.text.put_column.Tie as tie
+
+put-byte-requires : tie.Need-put-byte-requires
+put-byte-requires c κs = search needs
+
+put-decimal-requires : tie.Need-put-decimal-requires
+put-decimal-requires c κs = search needs
+
+same-length : tie.Need-same-length
+same-length c = search needs
+
+returns : tie.Need-returns
+returns c = then (c .before .before .before .before .before .before .put-byte .ensures) (c .before .before .put-decimal .ensures)
+
+pub put-column-spec : {M : Type 1} → statement M
+put-column-spec = tie.close (tie.spec put-byte-requires put-decimal-requires same-length returns)
