@@ -1,9 +1,11 @@
 //! The exported functions of the proved library, each over a case.
 
-use oracle::cases::{Case, LAY_OUT, MARK, UPDATE};
+use oracle::cases::{Case, CHECK, LAY_OUT, MARK, UPDATE};
 use oracle::layout::{u16_bytes, u16s, u32s};
+use oracle::model::CheckArgs;
 
-pub const KINDS: [&str; 5] = ["mark", "image", "layout", "update", "update-large"];
+pub const KINDS: [&str; 8] =
+    ["mark", "image", "layout", "update", "update-large", "check", "tidy", "check-large"];
 
 extern "C" {
     fn lavtoeu_image_fault(image: *const u8, n: usize, links: u32) -> u32;
@@ -32,6 +34,22 @@ extern "C" {
         answer: *mut u64,
         words: usize,
     ) -> u32;
+    fn lavtoeu_check(
+        yard: *mut u8,
+        n: usize,
+        occupancy: *const u16,
+        k: usize,
+        blocking: *const u32,
+        b: usize,
+        moved: u16,
+        begin: u16,
+        local: u32,
+        limit: u16,
+        report: *mut u8,
+        rows: usize,
+        answer: *mut u64,
+        words: usize,
+    ) -> u32;
 }
 
 /// Where the answer of an operation has the refusal's number.
@@ -50,6 +68,7 @@ pub fn answered(asked: &Case) -> Case {
         MARK => mark(&mut case),
         LAY_OUT => lay_out(&mut case),
         UPDATE => update(&mut case),
+        CHECK => check(&mut case),
         op => panic!("no operation {op}"),
     }
     case
@@ -127,6 +146,57 @@ fn update(case: &mut Case) {
     let small = |n: u64| u32::try_from(n).unwrap_or(u32::MAX);
     case.answer = [kind, number, place, small(errors), small(rounds), small(strays), 0, 0];
     case.outs = [image, vec![]];
+}
+
+/// The call alone, on buffers of the caller: the word that it returns, and the three words of its answer. A begin that
+/// is no u16 is the largest, which 15 refuses as well.
+pub fn check_in(yard: &mut [u8], a: &CheckArgs, report: &mut [u8]) -> (u32, [u64; 3]) {
+    let mut answer = [0; 3];
+    // SAFETY: each pointer goes with its own length, and the function keeps to them.
+    let word = unsafe {
+        lavtoeu_check(
+            yard.as_mut_ptr(),
+            yard.len(),
+            a.occ.as_ptr(),
+            a.occ.len(),
+            a.blocking.as_ptr(),
+            a.blocking.len(),
+            a.moved,
+            u16::try_from(a.begin).unwrap_or(u16::MAX),
+            a.local as u32,
+            a.limit,
+            report.as_mut_ptr(),
+            report.len(),
+            answer.as_mut_ptr(),
+            answer.len(),
+        )
+    };
+    (word, answer)
+}
+
+/// The answer as the oracle writes it.
+fn check(case: &mut Case) {
+    let (mut yard, mut report) = (case.ins[0].clone(), case.ins[3].clone());
+    let (occ, blocking) = (u16s(&case.ins[1]), u32s(&case.ins[2]));
+    let a = case.args;
+    let args = CheckArgs {
+        occ: &occ,
+        blocking: &blocking,
+        moved: a[0] as u16,
+        begin: a[1],
+        local: a[2] != 0,
+        limit: a[3] as u16,
+    };
+    let (word, [erred, deadlock, next]) = check_in(&mut yard, &args, &mut report);
+    let (number, place) = (word & 0xffff, word >> 16);
+    let kind = match (number, erred) {
+        (0, 0) => 0,
+        (0, _) => 1,
+        _ => 2,
+    };
+    let small = |n: u64| u32::try_from(n).unwrap_or(u32::MAX);
+    case.answer = [kind, number, place, small(erred), small(deadlock), small(next), 0, 0];
+    case.outs = [yard, report];
 }
 
 /// An answer's number, and its place in the upper 16 bits.

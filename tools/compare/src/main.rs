@@ -1,19 +1,20 @@
 //! The proved library beside the oracle: the same calls to both, and every number of the answer and every byte
 //! of each buffer compared.
 
+mod checks;
 mod library;
 mod time;
 mod update_time;
 mod updates;
 
-use oracle::cases::{Case, UPDATE};
+use oracle::cases::{Case, CHECK, UPDATE};
 use oracle::layout::read_image;
 use oracle::{calls, gen, model, rng::Rng};
 use std::io::Write;
 use std::process::exit;
 
 const USAGE: &str = "usage: compare KIND SEED COUNT, compare time SEED, or compare update-time SEED
-KIND: mark, layout, image, update, update-large. The first case that differs is written to the file `different.case`.";
+KIND: mark, layout, image, update, update-large, check, tidy, check-large. The first case that differs is written to the file `different.case`.";
 
 fn usage() -> ! {
     eprintln!("{USAGE}");
@@ -30,14 +31,28 @@ fn some_train(rng: &mut Rng) -> gen::UpdateCase {
     }
 }
 
-/// The number of cases whose answers differ, how many were refused by each number, and of updates how many came from
-/// each generator and how many ended as success, blocked and faulty.
+/// How an update or a check ends that is not refused.
+const ENDS: [&str; 6] = ["success", "blocked", "faulty", "no deadlock", "deadlock", "erred"];
+
+fn end_of(judged: &Case) -> Option<usize> {
+    let [kind, _, _, _, deadlock, ..] = judged.answer.map(|n| n as usize);
+    match (judged.op, kind) {
+        (UPDATE, 0..=2) => Some(kind),
+        (CHECK, 0) => Some(3 + deadlock),
+        (CHECK, 1) => Some(5),
+        _ => None,
+    }
+}
+
+/// The number of cases whose answers differ, how many were refused by each number, how many updates came from each
+/// generator, how updates and checks ended, and how often a slot of a check has each code.
 #[derive(Default)]
 struct Tally {
     differ: u64,
     refused: [u64; 32],
     sources: [u64; updates::SOURCES.len()],
-    kinds: [u64; 4],
+    ends: [u64; ENDS.len()],
+    codes: [u64; 32],
 }
 
 impl Tally {
@@ -45,11 +60,14 @@ impl Tally {
         let mut judged = asked.clone().answered();
         // the line of a panic is not part of an answer
         judged.line = 0;
-        if judged.op == UPDATE {
-            self.kinds[judged.answer[0] as usize] += 1;
+        if let Some(end) = end_of(&judged) {
+            self.ends[end] += 1;
         }
         let number = judged.answer[library::number_at(judged.op)] as usize;
         self.refused[number.min(31)] += 1;
+        if judged.op == CHECK && number == 0 {
+            judged.outs[1].chunks(16).for_each(|row| self.codes[row[0].min(31) as usize] += 1);
+        }
         if library::answered(asked) != judged {
             if self.differ == 0 {
                 let mut bytes = vec![];
@@ -111,6 +129,7 @@ fn main() {
             "image" => tally.add_image(&mut rng),
             "update" => tally.add_update(updates.next()),
             "update-large" => tally.add_update(updates.next_large()),
+            "check-large" => tally.add(&checks::large(&mut rng)),
             _ => tally.add(&calls::by_name(kind, &mut rng).unwrap_or_else(|| usage())),
         }
     }
@@ -118,8 +137,11 @@ fn main() {
     for (n, &k) in tally.refused.iter().enumerate().filter(|(_, &k)| k > 0) {
         println!("  {} {n}: {k}", if n == 0 { "done, not refused" } else { "refused" });
     }
-    for (name, &k) in ["success", "blocked", "faulty"].iter().zip(&tally.kinds).filter(|(_, &k)| k > 0) {
+    for (name, &k) in ENDS.iter().zip(&tally.ends).filter(|(_, &k)| k > 0) {
         println!("  {name}: {k}");
+    }
+    for (code, &k) in tally.codes.iter().enumerate().filter(|(_, &k)| k > 0) {
+        println!("  slots with code {code}: {k}");
     }
     for (name, &k) in updates::SOURCES.iter().zip(&tally.sources).filter(|(_, &k)| k > 0) {
         println!("  from {name}: {k}");
