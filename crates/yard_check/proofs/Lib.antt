@@ -19,4 +19,5 @@ pub mod DecimalLaws
 pub mod TextLaws
 pub mod SheetLaws
 pub mod BundleLaws
+pub mod SheetRoom
 pub mod SheetExample
