@@ -1,6 +1,7 @@
 //! The proved library beside the oracle: the same calls to both, and every number of the answer and every byte
 //! of each buffer compared.
 
+mod check_time;
 mod checks;
 mod library;
 mod time;
@@ -13,7 +14,7 @@ use oracle::{calls, gen, model, rng::Rng};
 use std::io::Write;
 use std::process::exit;
 
-const USAGE: &str = "usage: compare KIND SEED COUNT, compare time SEED, or compare update-time SEED
+const USAGE: &str = "usage: compare KIND SEED COUNT, compare time SEED, compare update-time SEED, or compare check-time SEED
 KIND: mark, layout, image, update, update-large, check, tidy, check-large. The first case that differs is written to the file `different.case`.";
 
 fn usage() -> ! {
@@ -114,6 +115,7 @@ fn main() {
         match word.as_str() {
             "time" => return time::run(number(seed)),
             "update-time" => return update_time::run(number(seed)),
+            "check-time" => return check_time::run(number(seed)),
             _ => usage(),
         }
     }

@@ -1,5 +1,6 @@
 //! Times of the proved library and of the oracle on the same bytes, in one run.
 
+use crate::check_time;
 use crate::library;
 use crate::update_time;
 use oracle::cases::{Case, LAY_OUT, MARK};
@@ -100,4 +101,5 @@ pub fn run(seed: u64) {
     }
     mark_alone(&mut rng);
     update_time::run(seed);
+    check_time::run(seed);
 }

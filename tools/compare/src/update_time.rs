@@ -56,7 +56,7 @@ fn family(
 }
 
 /// Microseconds of one call, the best of some runs over all items; the items are copied before the clock starts.
-fn best<T: Clone>(items: &[T], turns: usize, mut f: impl FnMut(usize, &mut T)) -> f64 {
+pub fn best<T: Clone>(items: &[T], turns: usize, mut f: impl FnMut(usize, &mut T)) -> f64 {
     let mut best = f64::INFINITY;
     for _ in 0..turns {
         let mut copies = items.to_vec();
