@@ -10,6 +10,8 @@ ghost use Rattle.update_image.specs.UpdateImage.{updatedImage};
 ghost use Rattle.update_free_path.specs.Updates.{statusOf};
 ghost use Rattle.yard_check.specs.Check.{checked};
 ghost use Rattle.yard_check.specs.Checks.{answeredOf};
+ghost use Rattle.yard_check.specs.Sheet.{sheetText};
+ghost use Rattle.yard_check.specs.Text.{textOf, written};
 ghost use Rattle.free_path_c.specs.Words.{answerWord, faultWord, orderOf, flagOf, statusWord, codeOf, errorsOf, Told, checkWord, erredOf, deadlockOf, nextOf, ToldCheck};
 use disp_structs::Metres;
 use link_rules::advance_rewind;
@@ -20,6 +22,7 @@ use train_disp::Order;
 use update_free_path;
 use update_free_path::answer::Status;
 use yard_check::check;
+use yard_check::sheet;
 
 // Marks a link for a train, or releases it with train 0. Answers 0, or the refusal's number with its place in the upper 16 bits.
 #[no_mangle]
@@ -233,4 +236,12 @@ fn next_of(x: check::Answer) -> u64
         check::Answer::Erred(n) => 0,
         check::Answer::Done { deadlock, next } => next as u64,
     }
+}
+
+// Writes the sheet of a bundle to the text, as many bytes as it has room for, and answers how many. 4,096 bytes hold every sheet.
+#[no_mangle]
+pub extern "C" fn lavtoeu_sheet(bundle: &[u8], text: &mut [u8]) -> usize
+    ensures { λ r. ⌜ textOf r (now (text .exit)) ≡ written (sheetText (now (bundle .entry))) (now (text .entry)) ⌝ }
+{
+    sheet::sheet(bundle, text)
 }
