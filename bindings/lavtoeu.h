@@ -49,6 +49,9 @@ enum { LAVTOEU_ERRED = 0, LAVTOEU_DEADLOCK = 1, LAVTOEU_NEXT = 2, LAVTOEU_CHECK_
  * 2, 4, 5, 14, 15, 16. */
 uint32_t lavtoeu_check(uint8_t *yard, size_t yard_len, const uint16_t *occupancy, size_t occupancy_len, const uint32_t *blocking, size_t blocking_len, uint16_t moved, uint16_t begin, uint32_t local, uint16_t limit, uint8_t *report, size_t report_len, uint64_t *answer, size_t answer_len);
 
+/* Writes the sheet of a bundle to the text, as many bytes as it has room for, and returns how many. 4,096 bytes hold every sheet. */
+size_t lavtoeu_sheet(const uint8_t *bundle, size_t bundle_len, uint8_t *text, size_t text_len);
+
 #ifdef __cplusplus
 }
 #endif

@@ -46,6 +46,7 @@ mod raw {
             answer: *mut u64,
             answer_len: usize,
         ) -> u32;
+        pub fn lavtoeu_sheet(bundle: *const u8, bundle_len: usize, text: *mut u8, text_len: usize) -> usize;
         pub fn lavtoeu_check(
             yard: *mut u8,
             yard_len: usize,
@@ -304,4 +305,13 @@ pub fn check(yard: &mut [u8], m: Move, begin: u16, report: &mut [u8]) -> Result<
         0 => Checked::Done { deadlock: words[1] != 0, next: words[2] as u16 },
         n => Checked::Erred(n),
     })
+}
+
+/// The sheet of a bundle as text: `refused n`, or one line for the answer and one for each slot.
+pub fn sheet(bundle: &[u8]) -> String {
+    // 4,096 bytes hold every sheet.
+    let mut text = [0u8; 4096];
+    // SAFETY: each pointer goes with its own length, and the function keeps to them.
+    let n = unsafe { raw::lavtoeu_sheet(bundle.as_ptr(), bundle.len(), text.as_mut_ptr(), text.len()) };
+    String::from_utf8_lossy(&text[..n.min(text.len())]).into_owned()
 }

@@ -168,3 +168,11 @@ fn refused_checks_change_nothing() {
         assert!(report.iter().all(|&b| b == 0xaa));
     }
 }
+
+#[test]
+fn a_sheet_is_text_for_any_bytes() {
+    assert_eq!(sheet(&[]), "refused 17\n");
+    assert_eq!(sheet(&vec![0; 70_000]), "refused 17\n");
+    let bundle = include_bytes!("../../../examples/two-slots.bundle");
+    assert_eq!(sheet(bundle), include_str!("../../../examples/two-slots.sheet"));
+}

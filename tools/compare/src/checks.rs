@@ -57,3 +57,26 @@ pub fn large(rng: &mut Rng) -> Case {
     let report = vec![0xA5; 16 * slots];
     calls::of_check(&c, &report)
 }
+
+/// A bundle with some bytes changed, cut short or made longer, or bytes at random.
+pub fn damaged_sheet(rng: &mut Rng) -> Case {
+    if rng.chance(10) {
+        let bytes: Vec<u8> = (0..rng.below(300)).map(|_| rng.below(256) as u8).collect();
+        return Case::sheet(&bytes);
+    }
+    let mut bundle = calls::sheet(rng).ins[0].clone();
+    for _ in 0..rng.below(6) {
+        if bundle.is_empty() {
+            break;
+        }
+        let near = if rng.chance(50) { bundle.len().min(120) } else { bundle.len() };
+        let at = rng.below(near);
+        bundle[at] = if rng.chance(50) { rng.below(256) as u8 } else { bundle[at] ^ (1 << rng.below(8)) };
+    }
+    match rng.below(20) {
+        0 => bundle.truncate(rng.below(bundle.len() + 1)),
+        1 => bundle.extend((0..rng.below(40)).map(|i| i as u8)),
+        _ => {}
+    }
+    Case::sheet(&bundle)
+}

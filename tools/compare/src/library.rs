@@ -1,11 +1,12 @@
 //! The exported functions of the proved library, each over a case.
 
-use oracle::cases::{Case, CHECK, LAY_OUT, MARK, UPDATE};
+use oracle::cases::{Case, CHECK, LAY_OUT, MARK, SHEET, UPDATE};
 use oracle::layout::{u16_bytes, u16s, u32s};
 use oracle::model::CheckArgs;
 
-pub const KINDS: [&str; 8] =
-    ["mark", "image", "layout", "update", "update-large", "check", "tidy", "check-large"];
+pub const KINDS: [&str; 10] = [
+    "mark", "image", "layout", "update", "update-large", "check", "tidy", "check-large", "sheet", "sheet-damaged",
+];
 
 extern "C" {
     fn lavtoeu_image_fault(image: *const u8, n: usize, links: u32) -> u32;
@@ -34,6 +35,7 @@ extern "C" {
         answer: *mut u64,
         words: usize,
     ) -> u32;
+    fn lavtoeu_sheet(bundle: *const u8, n: usize, text: *mut u8, k: usize) -> usize;
     fn lavtoeu_check(
         yard: *mut u8,
         n: usize,
@@ -69,6 +71,7 @@ pub fn answered(asked: &Case) -> Case {
         LAY_OUT => lay_out(&mut case),
         UPDATE => update(&mut case),
         CHECK => check(&mut case),
+        SHEET => sheet(&mut case),
         op => panic!("no operation {op}"),
     }
     case
@@ -210,4 +213,13 @@ pub fn image_fault(image: &[u8], links: u32) -> (u32, u32) {
     // SAFETY: the pointer goes with its own length, and the function keeps to it.
     let word = unsafe { lavtoeu_image_fault(image.as_ptr(), image.len(), links) };
     (word & 0xffff, word >> 16)
+}
+
+/// The text of a bundle. 4,096 bytes hold every sheet.
+fn sheet(case: &mut Case) {
+    let mut text = vec![0; 4096];
+    // SAFETY: each pointer goes with its own length, and the function keeps to them.
+    let n = unsafe { lavtoeu_sheet(case.ins[0].as_ptr(), case.ins[0].len(), text.as_mut_ptr(), text.len()) };
+    text.truncate(n);
+    case.outs = [text, vec![]];
 }

@@ -15,7 +15,8 @@ use std::io::Write;
 use std::process::exit;
 
 const USAGE: &str = "usage: compare KIND SEED COUNT, compare time SEED, compare update-time SEED, or compare check-time SEED
-KIND: mark, layout, image, update, update-large, check, tidy, check-large. The first case that differs is written to the file `different.case`.";
+KIND: mark, layout, image, update, update-large, check, tidy, check-large, sheet,
+sheet-damaged. The first case that differs is written to the file `different.case`.";
 
 fn usage() -> ! {
     eprintln!("{USAGE}");
@@ -132,6 +133,7 @@ fn main() {
             "update" => tally.add_update(updates.next()),
             "update-large" => tally.add_update(updates.next_large()),
             "check-large" => tally.add(&checks::large(&mut rng)),
+            "sheet-damaged" => tally.add(&checks::damaged_sheet(&mut rng)),
             _ => tally.add(&calls::by_name(kind, &mut rng).unwrap_or_else(|| usage())),
         }
     }
