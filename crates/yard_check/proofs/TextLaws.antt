@@ -1,7 +1,7 @@
--- Bytes put into a text one part after the other, and a text that is put in from the start of the buffer. Assumes nothing.
+-- Bytes put into a text one part after the other, and a text that is put in from the start of the buffer, within which it lies. Assumes nothing.
 use mathlib.Core.Path.{_≡_, refl, sym, ap, subst⁻¹, _∙_}
 use mathlib.Core.List.{List, [], _∷_, _++_, append-assoc}
-use Prim.Native.Nat.{ℕ, suc, _+_, _-_, _≤_, _<_}
+use Prim.Native.Nat.{ℕ, zero, suc, _+_, _-_, _≤_, _<_}
 use native.Mathlib.Omega.{arith}
 use native.Mathlib.Numerals.{add-one}
 use mathlib.Core.Logic.{_⊎_, inl, inr}
@@ -93,3 +93,14 @@ from-start bs t p =
 pub written-whole : (bs t : List ℕ) → length bs ≤ length t → (written bs t .count ≡ length bs) × (take (length bs) (written bs t .buffer) ≡ bs)
 unfolding written
 written-whole bs t h = rw (take-all (length t) bs h) (refl, take-append-seam bs (drop (length bs) t))
+
+-- ---- what is written lies within the buffer
+
+take-few : (n : ℕ) (l : List ℕ) → length (take n l) ≤ n
+take-few zero l = omega arith
+take-few (suc n) [] = omega arith
+take-few (suc n) (a ∷ l) = omega (arith, take-few n l)
+
+pub within : (bytes buffer left : List ℕ) (n : ℕ) → textOf n left ≡ written bytes buffer → n ≤ length buffer
+unfolding written
+within bytes buffer left n e = let k : n ≡ length (take (length buffer) bytes) = ap (λ (t : Text). t .count) e in omega (arith, take-few (length buffer) bytes)
