@@ -89,7 +89,7 @@ impl Tally {
     fn add_image(&mut self, rng: &mut Rng) {
         let case = some_train(rng);
         let l = case.occ.len();
-        let image = if rng.chance(50) { gen::damaged(rng, &case.image, l) } else { case.image };
+        let image = if rng.chance(50) { case.damaged(rng).image } else { case.image };
         let judged = match read_image(&image, l) {
             Ok(_) => (0, 0),
             Err(r) => (r.number as u32, r.place),

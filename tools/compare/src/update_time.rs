@@ -7,6 +7,7 @@ use oracle::cases::Case;
 use oracle::gen::{self, UpdateCase};
 use oracle::layout::u32_at;
 use oracle::rng::Rng;
+use oracle::yards::CheckCase;
 use oracle::{calls, hook};
 use release::model::{update_plain, KeptTrain};
 use std::hint::black_box;
@@ -118,7 +119,7 @@ fn tidy(rng: &mut Rng, name: &str, most: usize, count: usize, takes: impl Fn(u32
     let make = || loop {
         match waiting.pop() {
             Some(c) => return c,
-            None => waiting = updates::tidy_checks(rng, most).iter().flat_map(updates::slots).collect(),
+            None => waiting = updates::tidy_checks(rng, most).iter().flat_map(CheckCase::slots).collect(),
         }
     };
     family(name.into(), count, make, takes)

@@ -2,7 +2,6 @@
 
 use oracle::cases::Case;
 use oracle::gen::{self, UpdateCase};
-use oracle::layout::{read_image, read_yard};
 use oracle::rng::Rng;
 use oracle::yards::{tidy_run, CheckCase};
 use oracle::{calls, model};
@@ -61,16 +60,8 @@ impl Updates {
                 (DEPOSIT, gen::deposit(rng, stored, q))
             }
             4 => (LONG, gen::long_update(rng)),
-            5 => {
-                let mut c = gen::large_update(rng);
-                c.image = gen::damaged(rng, &c.image, c.occ.len());
-                (DAMAGED, c)
-            }
-            6 => {
-                let mut c = gen::large_update(rng);
-                c.image = gen::changed(rng, &c.image, c.occ.len());
-                (CHANGED, c)
-            }
+            5 => (DAMAGED, gen::large_update(rng).damaged(rng)),
+            6 => (CHANGED, gen::large_update(rng).changed(rng)),
             _ => (LARGE, gen::large_update(rng)),
         };
         (source, calls::of_update(&c))
@@ -92,9 +83,8 @@ impl Updates {
             70..=79 => (VIEWS, gen::views_update(rng)),
             80..=89 => (DENSE, calls::dense(rng)),
             _ => {
-                let mut c = if rng.chance(50) { gen::twin_update(rng) } else { calls::dense(rng) };
-                c.image = gen::damaged(rng, &c.image, c.occ.len());
-                (DAMAGED, c)
+                let c = if rng.chance(50) { gen::twin_update(rng) } else { calls::dense(rng) };
+                (DAMAGED, c.damaged(rng))
             }
         };
         self.push(source, &c);
@@ -105,25 +95,19 @@ impl Updates {
         let mut c = gen::odd_update(&mut self.rng);
         for _ in 0..self.rng.from(2, 5) {
             self.push(CHANGED, &c);
-            let rng = &mut self.rng;
-            let l = c.occ.len();
             model::update(&mut c.image, &c.occ, &c.blocking, c.moved, c.local, c.limit);
-            c.image = gen::changed(rng, &c.image, l);
-            c.occ = gen::odd_occupancy(rng, l);
-            c.moved = rng.from(1, 5) as u16;
-            if let Ok(t) = read_image(&c.image, l) {
-                c.blocking = gen::odd_blocking(rng, &t, &c.occ);
-            }
+            c = c.changed(&mut self.rng);
+            c.others_move(&mut self.rng);
         }
     }
 
     /// The slots of the checks of a tidy run, each updated alone, as it is and changed.
     fn tidy(&mut self) {
         for c in tidy_checks(&mut self.rng, 7) {
-            for mut u in slots(&c) {
+            for mut u in c.slots() {
                 self.push(TIDY, &u);
                 for _ in 0..2 {
-                    u.image = gen::changed(&mut self.rng, &u.image, u.occ.len());
+                    u = u.changed(&mut self.rng);
                     self.push(TIDY, &u);
                 }
             }
@@ -134,23 +118,5 @@ impl Updates {
 /// The checks of a run of a tidy yard with at most so many sections.
 pub fn tidy_checks(rng: &mut Rng, most: usize) -> Vec<CheckCase> {
     let (sections, trains) = (rng.from(1, most), rng.from(1, 4));
-    let mut seen = vec![];
-    tidy_run(rng, sections, trains, 30, |c| seen.push(c.clone()));
-    seen
-}
-
-/// The updates of a check's slots but the moved train's.
-pub fn slots(c: &CheckCase) -> Vec<UpdateCase> {
-    let parts = read_yard(&c.yard).expect("an accepted yard");
-    let others = parts.into_iter().enumerate().filter(|(i, _)| i + 1 != c.moved as usize);
-    others
-        .map(|(_, part)| UpdateCase {
-            image: c.yard[part].to_vec(),
-            occ: c.occ.clone(),
-            blocking: c.blocking.clone(),
-            moved: c.moved,
-            local: c.local,
-            limit: c.limit,
-        })
-        .collect()
+    tidy_run(rng, sections, trains, 30)
 }

@@ -89,11 +89,7 @@ pub fn update(rng: &mut Rng) -> Case {
         5 => views_update(rng),
         6..=7 => twin_update(rng),
         8 => dense(rng),
-        _ => {
-            let mut c = odd_update(rng);
-            c.image = damaged(rng, &c.image, c.occ.len());
-            c
-        }
+        _ => odd_update(rng).damaged(rng),
     };
     if rng.chance(4) {
         wrong_arguments(rng, &mut c);
@@ -133,9 +129,7 @@ pub fn check(rng: &mut Rng) -> Case {
 /// A check in a run of a tidy yard.
 pub fn tidy(rng: &mut Rng) -> Case {
     let (sections, trains, moves) = (rng.from(1, 6), rng.from(1, 4), rng.from(1, 25));
-    let mut last = None;
-    tidy_run(rng, sections, trains, moves, |c| last = Some(c.clone()));
-    match last {
+    match tidy_run(rng, sections, trains, moves).pop() {
         Some(c) => of_check(&c, &vec![0xA5; 16 * trains]),
         None => tidy(rng),
     }

@@ -108,10 +108,9 @@ impl Case {
     }
 
     fn answer_lay_out(&mut self) {
-        let float = |lo: u32, hi: u32| f64::from_bits(lo as u64 | (hi as u64) << 32);
         let a = self.args;
         let mut image = self.ins[1].clone();
-        let (search, fixed) = (float(a[3], a[4]), float(a[5], a[6]));
+        let (search, fixed) = (self.float(3), self.float(5));
         let r = model::lay_out(&self.ins[0], a[0] as u16, search, fixed, a[1], a[2], &mut image);
         self.put_plain(r);
         self.outs = [image, vec![]];
@@ -133,19 +132,22 @@ impl Case {
         self.outs = [image, vec![]];
     }
 
+    /// The float whose low half is the argument at this place, and its high half the next.
+    pub fn float(&self, at: usize) -> f64 {
+        f64::from_bits(self.args[at] as u64 | (self.args[at + 1] as u64) << 32)
+    }
+
+    /// The arguments of a check, over the lists of the case.
+    pub fn check_args<'a>(&self, occ: &'a [u16], blocking: &'a [u32]) -> CheckArgs<'a> {
+        let [moved, begin, local, limit, ..] = self.args;
+        CheckArgs { occ, blocking, moved: moved as u16, begin, local: local != 0, limit: limit as u16 }
+    }
+
     fn answer_check(&mut self) {
-        let a = self.args;
         let mut yard = self.ins[0].clone();
         let mut report = self.ins[3].clone();
         let (occ, blocking) = (u16s(&self.ins[1]), u32s(&self.ins[2]));
-        let args = CheckArgs {
-            occ: &occ,
-            blocking: &blocking,
-            moved: a[0] as u16,
-            begin: a[1],
-            local: a[2] != 0,
-            limit: a[3] as u16,
-        };
+        let args = self.check_args(&occ, &blocking);
         self.answer = match model::check(&mut yard, &args, &mut report) {
             Checked::Done { deadlock, next } => [0, 0, 0, 0, deadlock as u32, next, 0, 0],
             Checked::Erred(n) => [1, 0, 0, n, 0, 0, 0, 0],

@@ -260,18 +260,35 @@ fn print_branches() -> Vec<String> {
 
 // ---- the fuzz
 
-/// One step: a call, or a row of updates, of some generator.
-fn step(f: &mut Figures, rng: &mut Rng) {
-    match rng.below(1_000) {
-        0..=1 => {
-            let c = large_update(rng);
-            f.update(&c);
-        }
+/// The update of a step's number, where it is one.
+fn single(rng: &mut Rng, step: usize) -> Option<UpdateCase> {
+    Some(match step {
+        0..=1 => large_update(rng),
         2 => {
             let depth = rng.from(62, 65);
-            let c = comb(rng, depth, 80, 0);
-            f.update(&c);
+            comb(rng, depth, 80, 0)
         }
+        81..=160 => odd_update(rng).damaged(rng),
+        161..=260 => twin_update(rng),
+        261..=300 => calls::dense(rng),
+        301..=310 => {
+            let mut c = odd_update(rng);
+            calls::wrong_arguments(rng, &mut c);
+            c
+        }
+        361..=400 => views_update(rng),
+        _ => return None,
+    })
+}
+
+/// One step: a call, or a row of updates, of some generator.
+fn step(f: &mut Figures, rng: &mut Rng) {
+    let step = rng.below(1_000);
+    if let Some(c) = single(rng, step) {
+        f.update(&c);
+        return;
+    }
+    match step {
         3..=6 => {
             let (sections, trains) = (rng.from(1, 7), rng.from(1, 4));
             tidy_steps(f, rng, sections, trains, 30);
@@ -289,28 +306,6 @@ fn step(f: &mut Figures, rng: &mut Rng) {
             let (c, len) = damaged_check(rng);
             f.check(&c, len);
         }
-        81..=160 => {
-            let mut c = odd_update(rng);
-            c.image = damaged(rng, &c.image, c.occ.len());
-            f.update(&c);
-        }
-        161..=260 => {
-            let c = twin_update(rng);
-            f.update(&c);
-        }
-        261..=300 => {
-            let c = calls::dense(rng);
-            f.update(&c);
-        }
-        361..=400 => {
-            let c = views_update(rng);
-            f.update(&c);
-        }
-        301..=310 => {
-            let mut c = odd_update(rng);
-            calls::wrong_arguments(rng, &mut c);
-            f.update(&c);
-        }
         311..=330 => f.call(calls::mark(rng)),
         331..=350 => f.call(calls::lay_out(rng)),
         351..=360 => f.call(calls::sheet(rng)),
@@ -323,46 +318,28 @@ fn odd_steps(f: &mut Figures, rng: &mut Rng) {
     let mut c = odd_update(rng);
     for _ in 0..rng.from(1, 4) {
         c.image = f.update(&c);
-        let l = c.occ.len();
         if rng.chance(30) {
-            c.image = changed(rng, &c.image, l);
+            c = c.changed(rng);
         }
-        c.occ = odd_occupancy(rng, l);
-        c.moved = rng.from(1, 5) as u16;
-        if let Ok(t) = read_image(&c.image, l) {
-            c.blocking = odd_blocking(rng, &t, &c.occ);
-        }
+        c.others_move(rng);
     }
 }
 
 /// A tidy run; each slot of its checks is also updated alone, as it is and with changes.
 fn tidy_steps(f: &mut Figures, rng: &mut Rng, sections: usize, trains: usize, moves: usize) {
-    let mut seen = vec![];
-    tidy_run(rng, sections, trains, moves, |c| seen.push(c.clone()));
-    for c in &seen {
-        f.check(c, 16 * trains);
-        for (i, part) in read_yard(&c.yard).unwrap().into_iter().enumerate() {
-            if i + 1 != c.moved as usize {
-                alone(f, rng, c, &c.yard[part]);
-            }
-        }
+    for c in tidy_run(rng, sections, trains, moves) {
+        f.check(&c, 16 * trains);
+        c.slots().into_iter().for_each(|u| alone(f, rng, u));
     }
 }
 
-fn alone(f: &mut Figures, rng: &mut Rng, c: &CheckCase, image: &[u8]) {
-    let mut u = UpdateCase {
-        image: image.to_vec(),
-        occ: c.occ.clone(),
-        blocking: c.blocking.clone(),
-        moved: c.moved,
-        local: c.local,
-        limit: c.limit,
-    };
+fn alone(f: &mut Figures, rng: &mut Rng, mut u: UpdateCase) {
     f.update(&u);
     for _ in 0..3 {
-        u.image = changed(rng, &u.image, c.occ.len());
+        u = u.changed(rng);
         if rng.chance(30) {
-            u.occ[rng.from(1, c.occ.len() - 1)] = rng.below(5) as u16;
+            let (train, link) = (rng.below(5), rng.from(1, u.occ.len() - 1));
+            u.occ[link] = train as u16;
         }
         f.update(&u);
     }

@@ -15,6 +15,28 @@ pub struct UpdateCase {
     pub limit: u16,
 }
 
+impl UpdateCase {
+    /// The same with one field of its image written over.
+    pub fn damaged(self, rng: &mut Rng) -> UpdateCase {
+        UpdateCase { image: damaged(rng, &self.image, self.occ.len()), ..self }
+    }
+
+    /// The same with some changes of its image, which stays accepted.
+    pub fn changed(self, rng: &mut Rng) -> UpdateCase {
+        UpdateCase { image: changed(rng, &self.image, self.occ.len()), ..self }
+    }
+
+    /// Other trains come to stand about, and one of them has moved.
+    pub fn others_move(&mut self, rng: &mut Rng) {
+        let l = self.occ.len();
+        self.occ = odd_occupancy(rng, l);
+        self.moved = rng.from(1, 5) as u16;
+        if let Ok(t) = read_image(&self.image, l) {
+            self.blocking = odd_blocking(rng, &t, &self.occ);
+        }
+    }
+}
+
 pub fn no_est() -> Est {
     Est { dist_to_next: 0.0, next: 0, alt: 0, prev: 0, prev_alt: 0, link: 0, kind: FAKE }
 }
@@ -252,6 +274,13 @@ pub fn odd_blocking(rng: &mut Rng, t: &Train, occ: &[u16]) -> Vec<u32> {
     list
 }
 
+/// An update over this occupancy with an odd blocking list, after one of so many trains has moved.
+fn update_over(rng: &mut Rng, t: &Train, occ: Vec<u16>, trains: usize) -> UpdateCase {
+    let blocking = odd_blocking(rng, t, &occ);
+    let moved = rng.from(1, trains) as u16;
+    UpdateCase { image: image_of(t), occ, blocking, moved, local: false, limit: 20 }
+}
+
 pub fn odd_update(rng: &mut Rng) -> UpdateCase {
     let l = rng.pick(&[2, 4, 8, 12, 24, 60]);
     let e = match rng.below(20) {
@@ -262,15 +291,8 @@ pub fn odd_update(rng: &mut Rng) -> UpdateCase {
     };
     let t = odd_train(rng, e, l);
     let occ = odd_occupancy(rng, l);
-    let blocking = odd_blocking(rng, &t, &occ);
-    UpdateCase {
-        image: image_of(&t),
-        blocking,
-        occ,
-        moved: rng.from(1, 5) as u16,
-        local: rng.chance(50),
-        limit: rng.pick(&[1, 2, 3, 8, 40]),
-    }
+    let c = update_over(rng, &t, occ, 5);
+    UpdateCase { local: rng.chance(50), limit: rng.pick(&[1, 2, 3, 8, 40]), ..c }
 }
 
 // ---- twins: a second branch with the same events, so that a fixed path can be taken over
@@ -370,15 +392,8 @@ pub fn twin_update(rng: &mut Rng) -> UpdateCase {
             occ[rng.pick(&ahead) as usize] = rng.from(1, 3) as u16;
         }
     }
-    let blocking = odd_blocking(rng, &t, &occ);
-    UpdateCase {
-        image: image_of(&t),
-        blocking,
-        occ,
-        moved: rng.from(1, 3) as u16,
-        local: rng.chance(30),
-        limit: 8,
-    }
+    let c = update_over(rng, &t, occ, 3);
+    UpdateCase { local: rng.chance(30), limit: 8, ..c }
 }
 
 /// Many alternates, many trains: views of the pool of all shapes.
@@ -409,8 +424,7 @@ pub fn dense_update(rng: &mut Rng, e: usize, l: usize) -> UpdateCase {
     let mut occ: Vec<u16> =
         (0..l).map(|_| if rng.chance(density) { rng.from(1, most) as u16 } else { 0 }).collect();
     occ[0] = 0;
-    let blocking = odd_blocking(rng, &t, &occ);
-    UpdateCase { image: image_of(&t), blocking, occ, moved: rng.from(1, 5) as u16, local: false, limit: 20 }
+    update_over(rng, &t, occ, 5)
 }
 
 // ---- unions of views: a net without a way through, all of whose trains are deposited before it
@@ -689,9 +703,8 @@ fn wide_update(rng: &mut Rng) -> UpdateCase {
     let e = rng.pick(&[200, 511, 512]);
     let t = odd_train(rng, e, l);
     let occ = odd_occupancy(rng, l);
-    let blocking = odd_blocking(rng, &t, &occ);
-    let (moved, local, limit) = (rng.from(1, 5) as u16, rng.chance(50), rng.pick(&[3, 60]));
-    UpdateCase { image: image_of(&t), occ, blocking, moved, local, limit }
+    let c = update_over(rng, &t, occ, 5);
+    UpdateCase { local: rng.chance(50), limit: rng.pick(&[3, 60]), ..c }
 }
 
 /// A long chain whose end is held, so that the search goes back over all of it; at its
@@ -729,6 +742,10 @@ pub fn chain_update(rng: &mut Rng, k: usize, twin: bool) -> UpdateCase {
 
 // ---- damaged images
 
+/// Floats about the bounds of document 01.
+const FLOATS: [f64; 9] =
+    [f64::NAN, f64::INFINITY, f64::NEG_INFINITY, 1e12, -1e12, 1.0000000000000002e12, -1.5e12, -1.0, -0.0];
+
 /// One field written over, so that the image is refused or not.
 pub fn damaged(rng: &mut Rng, image: &[u8], l: usize) -> Vec<u8> {
     let mut b = image.to_vec();
@@ -738,25 +755,14 @@ pub fn damaged(rng: &mut Rng, image: &[u8], l: usize) -> Vec<u8> {
     let node = path_offset(e) + RECORD * rng.below(n);
     let div = diverge_offset(e) + 4 * rng.below(m);
     let number = rng.pick(&[0, 1, 2, 3, 511, 512, 513, 1_024, 1_025, u32::MAX]);
-    let float = rng.pick(&[
-        f64::NAN,
-        f64::INFINITY,
-        f64::NEG_INFINITY,
-        1e12,
-        -1e12,
-        1.0000000000000002e12,
-        -1.5e12,
-        -1.0,
-        -0.0,
-    ]);
+    let float = rng.pick(&FLOATS);
     match rng.below(22) {
         0 => put_u32(&mut b, 4 * rng.below(8), number),
         1 => put_u16(&mut b, 32, 0),
-        2 => put_u16(
-            &mut b,
-            34 + 2 * rng.below(4),
-            rng.pick(&[n as u16 - 1, n as u16, n as u16 + 1, u16::MAX]),
-        ),
+        2 => {
+            let at = 34 + 2 * rng.below(4);
+            put_u16(&mut b, at, rng.pick(&[n as u16 - 1, n as u16, n as u16 + 1, u16::MAX]));
+        }
         3 => b[42 + rng.below(6)] = 1,
         4 => put_f64(&mut b, 48 + 8 * rng.below(2), float),
         5 => put_f64(&mut b, est, float),
@@ -775,12 +781,14 @@ pub fn damaged(rng: &mut Rng, image: &[u8], l: usize) -> Vec<u8> {
         18 => damage_unused(rng, &mut b, e, n, m),
         19 => damage_length(rng, &mut b),
         20 => repeat_arrive(rng, &mut b, &t),
-        _ => {
-            let at = rng.below(b.len());
-            b[at] ^= 1 << rng.below(8);
-        }
+        _ => flip_bit(rng, &mut b),
     }
     b
+}
+
+fn flip_bit(rng: &mut Rng, b: &mut [u8]) {
+    let at = rng.below(b.len());
+    b[at] ^= 1 << rng.below(8);
 }
 
 fn damage_unused(rng: &mut Rng, b: &mut [u8], e: usize, n: usize, m: usize) {

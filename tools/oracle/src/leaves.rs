@@ -151,8 +151,7 @@ fn union_answer(c: &mut Case) -> Result<[u32; 3], u32> {
 }
 
 fn near_answer(c: &Case) -> u32 {
-    let float = |lo: u32, hi: u32| f64::from_bits(lo as u64 | (hi as u64) << 32);
-    utils::near(float(c.args[0], c.args[1]), float(c.args[2], c.args[3])) as u32
+    utils::near(c.float(0), c.float(2)) as u32
 }
 
 /// The errors of validate_free_path over a path of two marked nodes, of which none is free.

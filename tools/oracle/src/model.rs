@@ -116,40 +116,35 @@ macro_rules! edition {
             t.back = number(d.disp_node_idx_back);
         }
 
-        /// Runs the update of the text; the train changes unless it is refused.
-        fn $run(t: &mut Train, occ: &[TrainIdx], blocking: &[LinkIdx], moved: u16, local: bool) -> Ran {
+        /// Runs the update of the text; the train changes unless it is refused. A panic has its line of free_path.rs,
+        /// else 0.
+        fn $run(
+            t: &mut Train,
+            occ: &[TrainIdx],
+            blocking: &[LinkIdx],
+            moved: u16,
+            local: bool,
+        ) -> (Outcome, u32) {
             use $text::free_path::FreePathStatus::*;
             let mut d = $load(t);
             let run =
                 catch_unwind(AssertUnwindSafe(|| d.update_free_path(train_idx(moved), blocking, local, occ)));
-            let ran = match run {
-                Ok(Ok(UpdateSuccess)) => Ran::Success,
-                Ok(Ok(Blocked)) => Ran::Blocked,
-                Ok(Err(errors)) => Ran::Faulty(errors.0 as u32),
+            let outcome = match run {
+                Ok(Ok(UpdateSuccess)) => Outcome::Success,
+                Ok(Ok(Blocked)) => Outcome::Blocked,
+                Ok(Err(errors)) => Outcome::Faulty(errors.0 as u32),
                 Err(payload) => match payload.downcast::<hook::Refused>() {
-                    Ok(refused) => Ran::Refused(refused.0),
-                    Err(_) => Ran::Panic(LINE.with(|l| l.get())),
+                    Ok(refused) => return (Outcome::Refused(refusal(refused.0)), 0),
+                    Err(_) => return (Outcome::Refused(refusal(13)), LINE.with(|l| l.get())),
                 },
             };
-            if matches!(ran, Ran::Success | Ran::Blocked | Ran::Faulty(_)) {
-                $store(&d, t);
-            }
-            ran
+            $store(&d, t);
+            (outcome, 0)
         }
     };
 }
 edition!(load_plain, store_plain, run_plain, plain);
 edition!(load_hooked, store_hooked, run_hooked, hooked);
-
-/// How a run of the text ended. A panic has its line of free_path.rs.
-#[derive(Debug, Clone, Copy, PartialEq, Eq)]
-enum Ran {
-    Success,
-    Blocked,
-    Faulty(u32),
-    Refused(u8),
-    Panic(u32),
-}
 
 thread_local! {
     static LINE: Cell<u32> = const { Cell::new(0) };
@@ -382,15 +377,8 @@ fn update_train(
         known: known_links(t, occ.len(), blocking),
         ..Default::default()
     });
-    let ran = run_hooked(t, occ, &links(blocking), moved, local);
+    let (outcome, line) = run_hooked(t, occ, &links(blocking), moved, local);
     let (rounds, strays) = hook::rounds_and_strays();
-    let (outcome, line) = match ran {
-        Ran::Success => (Outcome::Success, 0),
-        Ran::Blocked => (Outcome::Blocked, 0),
-        Ran::Faulty(n) => (Outcome::Faulty(n), 0),
-        Ran::Refused(n) => (Outcome::Refused(refusal(n)), 0),
-        Ran::Panic(line) => (Outcome::Refused(refusal(13)), line),
-    };
     Updated { outcome, rounds, strays, line }
 }
 
@@ -411,20 +399,11 @@ pub fn update_plain(
     if t.free as usize == t.path.len() {
         return (Outcome::Refused(refusal(10)), 0);
     }
-    match run_plain(&mut t, &trains(occ), &links(blocking), moved, local) {
-        Ran::Success => write_image(&t, image),
-        Ran::Blocked => {
-            write_image(&t, image);
-            return (Outcome::Blocked, 0);
-        }
-        Ran::Faulty(n) => {
-            write_image(&t, image);
-            return (Outcome::Faulty(n), 0);
-        }
-        Ran::Refused(_) => unreachable!("the plain text has no hooks"),
-        Ran::Panic(line) => return (Outcome::Refused(refusal(13)), line),
+    let ran = run_plain(&mut t, &trains(occ), &links(blocking), moved, local);
+    if !matches!(ran.0, Outcome::Refused(_)) {
+        write_image(&t, image);
     }
-    (Outcome::Success, 0)
+    ran
 }
 
 /// A train as ALTRIOS keeps it between two updates, and the arguments of one, for times: no bytes are read or written.

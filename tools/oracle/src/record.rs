@@ -495,16 +495,16 @@ fn boundary_sheets(rng: &mut Rng) -> Vec<Case> {
         cases.push(Case::sheet(&bundle_of_check(&tiny_check(tiny_yard(slots), 63, 1))));
     }
     cases.extend(full_bundles());
-    for _ in 0..3 {
-        let (sections, trains) = (rng.from(3, 5), rng.from(2, 4));
-        let mut last = None;
-        tidy_run(rng, sections, trains, 20, |c| last = Some(c.clone()));
-        let b = bundle_of_check(&last.unwrap());
-        if b.len() <= 65_536 {
-            cases.push(Case::sheet(&b));
-        }
-    }
+    cases.extend((0..3).filter_map(|_| tidy_sheet(rng)));
     cases
+}
+
+/// The sheet of the last check of a tidy run, where its bundle is not too long.
+fn tidy_sheet(rng: &mut Rng) -> Option<Case> {
+    let (sections, trains) = (rng.from(3, 5), rng.from(2, 4));
+    let last = tidy_run(rng, sections, trains, 20).pop().expect("a move");
+    let b = bundle_of_check(&last);
+    (b.len() <= 65_536).then(|| Case::sheet(&b))
 }
 
 /// A bundle of 65,536 bytes, and one of one byte more.
@@ -659,9 +659,7 @@ fn tidy_checks(rng: &mut Rng) -> Vec<Case> {
     let mut by_key = Chooser::new(2);
     for _ in 0..60 {
         let (sections, trains) = (rng.from(1, 5), rng.from(1, 3));
-        let mut seen = vec![];
-        tidy_run(rng, sections, trains, 25, |c| seen.push(c.clone()));
-        for c in seen {
+        for c in tidy_run(rng, sections, trains, 25) {
             let case = of_check(&c, &vec![0xA5; 16 * trains]).answered();
             by_key.offer_all(&case);
         }

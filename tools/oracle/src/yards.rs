@@ -37,6 +37,22 @@ impl CheckCase {
             limit: self.limit,
         }
     }
+
+    /// The updates of its slots but the moved train's.
+    pub fn slots(&self) -> Vec<UpdateCase> {
+        let parts = read_yard(&self.yard).expect("an accepted yard");
+        let others = parts.into_iter().enumerate().filter(|(i, _)| i + 1 != self.moved as usize);
+        others
+            .map(|(_, part)| UpdateCase {
+                image: self.yard[part].to_vec(),
+                occ: self.occ.clone(),
+                blocking: self.blocking.clone(),
+                moved: self.moved,
+                local: self.local,
+                limit: self.limit,
+            })
+            .collect()
+    }
 }
 
 // ---- a line: sections of one track or of several that rejoin
@@ -307,27 +323,24 @@ impl Yard {
     }
 }
 
-/// A run of a tidy yard: trains advance in turn, each move followed by a check.
-pub fn tidy_run(
-    rng: &mut Rng,
-    sections: usize,
-    trains: usize,
-    moves: usize,
-    mut see: impl FnMut(&CheckCase),
-) {
+/// The checks of a run of a tidy yard: trains advance in turn, each move followed by a check.
+pub fn tidy_run(rng: &mut Rng, sections: usize, trains: usize, moves: usize) -> Vec<CheckCase> {
+    let mut seen = vec![];
     let mut yard = tidy_yard(rng, sections, trains);
     for _ in 0..moves {
         let slot = rng.from(1, trains);
         let before = yard.clone();
         let Some(case) = yard.advance(rng, slot) else { continue };
-        see(&case);
         let mut report = vec![0; 16 * trains];
-        match model::check(&mut yard.yard, &case.args(), &mut report) {
+        let checked = model::check(&mut yard.yard, &case.args(), &mut report);
+        seen.push(case);
+        match checked {
             model::Checked::Done { deadlock: true, .. } if rng.chance(90) => yard = before,
             model::Checked::Erred(_) if rng.chance(90) => yard = before,
             _ => {}
         }
     }
+    seen
 }
 
 // ---- odd yards
