@@ -23,7 +23,7 @@ static inline uint16_t lavtoeu_place(uint32_t refusal) { return (uint16_t)(refus
 /* Marks a link for a train, or releases it with train 0. Refused by 1, 2, 3. */
 uint32_t lavtoeu_mark(const uint8_t *table, size_t table_len, uint16_t *occupancy, size_t occupancy_len, uint32_t link, uint16_t train);
 
-/* The first refusal of an image over a number of links by 6 to 9. */
+/* The first refusal of an image over a number of links by 6 to 9; 2 where these are fewer than 2 or more than 4,000. */
 uint32_t lavtoeu_image_fault(const uint8_t *image, size_t image_len, uint32_t links);
 
 /* Lays a new train out in an image buffer: est records of 32 bytes each, the train, dist_disp_path_search and dist_fixed_max in

@@ -2,14 +2,6 @@
 
 use lavtoeu::*;
 
-/// An est record in its 32 bytes: dist_to_next; next, alt, prev, prev_alt, link; the type.
-fn est(kind: u8, link: u32, dist: f64, next: u32, alt: u32, prev: u32, prev_alt: u32) -> Vec<u8> {
-    let mut out = dist.to_le_bytes().to_vec();
-    [next, alt, prev, prev_alt, link].iter().for_each(|n| out.extend(n.to_le_bytes()));
-    out.extend([kind, 0, 0, 0]);
-    out
-}
-
 /// A link table without lockouts: link l has the l-th flip.
 fn table(flips: &[u32]) -> Vec<u8> {
     let end = 16 + 12 * flips.len() as u32;
@@ -19,19 +11,18 @@ fn table(flips: &[u32]) -> Vec<u8> {
 }
 
 fn main() -> Result<(), Refusal> {
-    const ARRIVE: u8 = 0;
-    const FAKE: u8 = 2;
+    let fake = |next, alt| Est { next, alt, ..Est::default() };
+    let arrive = |link, dist_to_next, next| Est { est_type: EstType::Arrive, link, dist_to_next, next, ..Est::default() };
     // Train 1 runs over link 1 to link 3, and could go round link 1 over link 2.
-    let first: Vec<u8> = [
-        est(FAKE, 0, 0.0, 1, 2, 0, 0),
-        est(ARRIVE, 1, 100.0, 4, 0, 0, 0),
-        est(FAKE, 0, 0.0, 3, 0, 0, 0),
-        est(ARRIVE, 2, 100.0, 4, 0, 2, 0),
-        est(ARRIVE, 3, 0.0, 0, 0, 1, 3),
-    ]
-    .concat();
+    let first = est_bytes(&[
+        fake(1, 2),
+        arrive(1, 100.0, 4),
+        fake(3, 0),
+        Est { prev: 2, ..arrive(2, 100.0, 4) },
+        Est { prev: 1, prev_alt: 3, ..arrive(3, 0.0, 0) },
+    ]);
     // Train 2 runs over link 1 alone.
-    let second: Vec<u8> = [est(FAKE, 0, 0.0, 1, 0, 0, 0), est(ARRIVE, 1, 0.0, 0, 0, 0, 0)].concat();
+    let second = est_bytes(&[fake(1, 0), arrive(1, 0.0, 0)]);
     let (mut a, mut b) = (vec![0; image_size(5, 4)], vec![0; image_size(2, 2)]);
     lay_out(&first, Order { train: 1, search: 0.0, fixed: 0.0, room: 4, links: 5 }, &mut a)?;
     lay_out(&second, Order { train: 2, search: 0.0, fixed: 0.0, room: 2, links: 5 }, &mut b)?;

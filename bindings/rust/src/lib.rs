@@ -16,55 +16,9 @@
 //! assert_eq!(mark(&table, &mut occupancy, 2, 9), Err(Refusal { number: 3, place: 0 }));
 //! ```
 
-use std::fmt;
+pub mod raw;
 
-mod raw {
-    extern "C" {
-        pub fn lavtoeu_mark(table: *const u8, table_len: usize, occupancy: *mut u16, occupancy_len: usize, link: u32, train: u16) -> u32;
-        pub fn lavtoeu_image_fault(image: *const u8, image_len: usize, links: u32) -> u32;
-        pub fn lavtoeu_lay_out(
-            est: *const u8,
-            est_len: usize,
-            train: u16,
-            search: f64,
-            fixed: f64,
-            room: u32,
-            links: u32,
-            image: *mut u8,
-            image_len: usize,
-        ) -> u32;
-        pub fn lavtoeu_update(
-            image: *mut u8,
-            image_len: usize,
-            occupancy: *const u16,
-            occupancy_len: usize,
-            blocking: *const u32,
-            blocking_len: usize,
-            moved: u16,
-            local: u32,
-            limit: u16,
-            answer: *mut u64,
-            answer_len: usize,
-        ) -> u32;
-        pub fn lavtoeu_sheet(bundle: *const u8, bundle_len: usize, text: *mut u8, text_len: usize) -> usize;
-        pub fn lavtoeu_check(
-            yard: *mut u8,
-            yard_len: usize,
-            occupancy: *const u16,
-            occupancy_len: usize,
-            blocking: *const u32,
-            blocking_len: usize,
-            moved: u16,
-            begin: u16,
-            local: u32,
-            limit: u16,
-            report: *mut u8,
-            report_len: usize,
-            answer: *mut u64,
-            answer_len: usize,
-        ) -> u32;
-    }
-}
+use std::fmt;
 
 /// A refusal: document 01's number, and the place of the record at fault where there is one, else 0.
 #[derive(Clone, Copy, Debug, PartialEq, Eq, Hash)]
@@ -120,6 +74,39 @@ pub fn mark(table: &[u8], occupancy: &mut [u16], link: u32, train: u16) -> Resul
     Refusal::of(unsafe { raw::lavtoeu_mark(table.as_ptr(), table.len(), occupancy.as_mut_ptr(), occupancy.len(), link, train) })
 }
 
+/// The type of an est record.
+#[derive(Clone, Copy, Debug, Default, PartialEq, Eq)]
+pub enum EstType {
+    Arrive,
+    Clear,
+    #[default]
+    Fake,
+}
+
+/// An est record.
+#[derive(Clone, Copy, Debug, Default, PartialEq)]
+pub struct Est {
+    pub est_type: EstType,
+    pub link: u32,
+    /// In metres.
+    pub dist_to_next: f64,
+    pub next: u32,
+    pub alt: u32,
+    pub prev: u32,
+    pub prev_alt: u32,
+}
+
+/// Est records in 32 bytes each, as a layout takes them.
+pub fn est_bytes(ests: &[Est]) -> Vec<u8> {
+    let mut out = vec![];
+    for x in ests {
+        out.extend(x.dist_to_next.to_le_bytes());
+        [x.next, x.alt, x.prev, x.prev_alt, x.link].iter().for_each(|n| out.extend(n.to_le_bytes()));
+        out.extend([x.est_type as u8, 0, 0, 0]);
+    }
+    out
+}
+
 /// What a layout is told besides the est records.
 #[derive(Clone, Copy, Debug)]
 pub struct Order {
@@ -148,7 +135,7 @@ pub fn lay_out(est: &[u8], order: Order, image: &mut [u8]) -> Result<(), Refusal
     })
 }
 
-/// Refusals 6 to 9 of an image over a number of links.
+/// Refusals 6 to 9 of an image over a number of links, or 2 where these are fewer than 2 or more than 4,000.
 pub fn judge(image: &[u8], links: u32) -> Result<(), Refusal> {
     // SAFETY: the pointer goes with its own length, and the function keeps to it.
     Refusal::of(unsafe { raw::lavtoeu_image_fault(image.as_ptr(), image.len(), links) })
@@ -186,9 +173,19 @@ pub struct Updated {
 
 /// Updates the free path of the train of an image.
 pub fn update(image: &mut [u8], m: Move) -> Updated {
-    let mut words = [0u64; 4];
+    let mut words = [0; 4];
+    let status = update_into(image, m, &mut words).map(|()| match words[0] {
+        4 => Status::Blocked,
+        5 => Status::Faulty(words[1]),
+        _ => Status::Success,
+    });
+    Updated { status, rounds: words[2] as u16, strays: words[3] }
+}
+
+/// [`update`] with its answer in words, as many as there is room for: the code, the errors, the rounds and the strays.
+pub fn update_into(image: &mut [u8], m: Move, answer: &mut [u64]) -> Result<(), Refusal> {
     // SAFETY: each pointer goes with its own length, and the function keeps to them.
-    let word = unsafe {
+    Refusal::of(unsafe {
         raw::lavtoeu_update(
             image.as_mut_ptr(),
             image.len(),
@@ -199,16 +196,10 @@ pub fn update(image: &mut [u8], m: Move) -> Updated {
             m.moved,
             m.local as u32,
             m.limit,
-            words.as_mut_ptr(),
-            words.len(),
+            answer.as_mut_ptr(),
+            answer.len(),
         )
-    };
-    let status = Refusal::of(word).map(|()| match words[0] {
-        4 => Status::Blocked,
-        5 => Status::Faulty(words[1]),
-        _ => Status::Success,
-    });
-    Updated { status, rounds: words[2] as u16, strays: words[3] }
+    })
 }
 
 /// A yard of images, slot t for the t-th, which must hold train t.
@@ -280,9 +271,19 @@ pub enum Checked {
 
 /// Checks every slot of a yard from `begin` on. `report` has 16 bytes for each slot; `rows` reads it.
 pub fn check(yard: &mut [u8], m: Move, begin: u16, report: &mut [u8]) -> Result<Checked, Refusal> {
-    let mut words = [0u64; 3];
+    let mut words = [0; 3];
+    check_into(yard, m, begin, report, &mut words)?;
+    Ok(match words[0] {
+        0 => Checked::Done { deadlock: words[1] != 0, next: words[2] as u16 },
+        n => Checked::Erred(n),
+    })
+}
+
+/// [`check`] with its answer in words, as many as there is room for: the number of slots that erred and, where it is 0, 1 for a
+/// deadlock and the next begin.
+pub fn check_into(yard: &mut [u8], m: Move, begin: u16, report: &mut [u8], answer: &mut [u64]) -> Result<(), Refusal> {
     // SAFETY: each pointer goes with its own length, and the function keeps to them.
-    let word = unsafe {
+    Refusal::of(unsafe {
         raw::lavtoeu_check(
             yard.as_mut_ptr(),
             yard.len(),
@@ -296,22 +297,22 @@ pub fn check(yard: &mut [u8], m: Move, begin: u16, report: &mut [u8]) -> Result<
             m.limit,
             report.as_mut_ptr(),
             report.len(),
-            words.as_mut_ptr(),
-            words.len(),
+            answer.as_mut_ptr(),
+            answer.len(),
         )
-    };
-    Refusal::of(word)?;
-    Ok(match words[0] {
-        0 => Checked::Done { deadlock: words[1] != 0, next: words[2] as u16 },
-        n => Checked::Erred(n),
     })
 }
 
 /// The sheet of a bundle as text: `refused n`, or one line for the answer and one for each slot.
 pub fn sheet(bundle: &[u8]) -> String {
     // 4,096 bytes hold every sheet.
-    let mut text = [0u8; 4096];
+    let mut text = [0; 4096];
+    let n = sheet_into(bundle, &mut text);
+    String::from_utf8_lossy(&text[..n]).into_owned()
+}
+
+/// [`sheet`] in a buffer, as many bytes as there is room for. Gives how many these are.
+pub fn sheet_into(bundle: &[u8], text: &mut [u8]) -> usize {
     // SAFETY: each pointer goes with its own length, and the function keeps to them.
-    let n = unsafe { raw::lavtoeu_sheet(bundle.as_ptr(), bundle.len(), text.as_mut_ptr(), text.len()) };
-    String::from_utf8_lossy(&text[..n.min(text.len())]).into_owned()
+    unsafe { raw::lavtoeu_sheet(bundle.as_ptr(), bundle.len(), text.as_mut_ptr(), text.len()) }
 }

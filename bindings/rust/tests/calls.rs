@@ -1,50 +1,9 @@
 //! The calls over small yards: what they answer, and that a refusal leaves every buffer.
 
+mod yards;
+
 use lavtoeu::*;
-
-struct Est {
-    kind: u8,
-    link: u32,
-    dist: f64,
-    next: u32,
-    alt: u32,
-    prev: u32,
-    prev_alt: u32,
-}
-
-fn bytes(ests: &[Est]) -> Vec<u8> {
-    let mut out = vec![];
-    for x in ests {
-        out.extend(x.dist.to_le_bytes());
-        for n in [x.next, x.alt, x.prev, x.prev_alt, x.link] {
-            out.extend(n.to_le_bytes());
-        }
-        out.extend([x.kind, 0, 0, 0]);
-    }
-    out
-}
-
-const ARRIVE: u8 = 0;
-const FAKE: u8 = 2;
-
-/// Link 1 to link 3, and a siding over link 2 round it.
-fn siding() -> Vec<u8> {
-    bytes(&[
-        Est { kind: FAKE, link: 0, dist: 0.0, next: 1, alt: 2, prev: 0, prev_alt: 0 },
-        Est { kind: ARRIVE, link: 1, dist: 100.0, next: 4, alt: 0, prev: 0, prev_alt: 0 },
-        Est { kind: FAKE, link: 0, dist: 0.0, next: 3, alt: 0, prev: 0, prev_alt: 0 },
-        Est { kind: ARRIVE, link: 2, dist: 100.0, next: 4, alt: 0, prev: 2, prev_alt: 0 },
-        Est { kind: ARRIVE, link: 3, dist: 0.0, next: 0, alt: 0, prev: 1, prev_alt: 3 },
-    ])
-}
-
-fn laid_out(train: u16, room: u32) -> Vec<u8> {
-    let est = siding();
-    let mut image = vec![0xaa; image_size(5, room as usize)];
-    let order = Order { train, search: 0.0, fixed: 0.0, room, links: 4 };
-    assert_eq!(lay_out(&est, order, &mut image), Ok(()));
-    image
-}
+use yards::*;
 
 fn u32_at(b: &[u8], at: usize) -> u32 {
     u32::from_le_bytes(b[at..at + 4].try_into().unwrap())
@@ -67,8 +26,7 @@ fn a_layout_runs_along_next_and_is_accepted() {
 #[test]
 fn a_refused_layout_leaves_the_buffer() {
     let mut image = vec![0xaa; image_size(5, 4)];
-    let order = Order { train: 0, search: 0.0, fixed: 0.0, room: 4, links: 4 };
-    let refusal = lay_out(&siding(), order, &mut image).unwrap_err();
+    let refusal = lay_out(&siding(), order(0, 4), &mut image).unwrap_err();
     assert_eq!(refusal.to_string(), "refused 5 (train, moved train or round limit 0) at 0");
     assert!(image.iter().all(|&b| b == 0xaa));
 }
@@ -76,8 +34,7 @@ fn a_refused_layout_leaves_the_buffer() {
 #[test]
 fn an_update_takes_the_siding() {
     let mut image = laid_out(1, 4);
-    let m = Move { occupancy: &[0, 2, 0, 0], blocking: &[1], moved: 2, local: false, limit: 5 };
-    assert_eq!(update(&mut image, m), Updated { status: Ok(Status::Success), rounds: 2, strays: 0 });
+    assert_eq!(update(&mut image, MOVE), Updated { status: Ok(Status::Success), rounds: 2, strays: 0 });
     assert_eq!(path(&image), [0, 2, 3, 4]);
     assert_eq!(judge(&image, 4), Ok(()));
 }
@@ -85,7 +42,7 @@ fn an_update_takes_the_siding() {
 #[test]
 fn a_blocked_update_keeps_its_path() {
     let mut image = laid_out(1, 4);
-    let m = Move { occupancy: &[0, 2, 2, 0], blocking: &[1, 2], moved: 2, local: false, limit: 5 };
+    let m = Move { occupancy: &[0, 2, 2, 0], blocking: &[1, 2], ..MOVE };
     assert_eq!(update(&mut image, m), Updated { status: Ok(Status::Blocked), rounds: 1, strays: 0 });
     assert_eq!(path(&image), [0, 1, 4]);
 }
@@ -95,7 +52,7 @@ fn refused_updates_leave_the_image_and_say_how_far_they_came() {
     for (room, limit, number, rounds) in [(2, 5, 11, 1), (4, 1, 12, 1), (4, 0, 5, 0)] {
         let mut image = laid_out(1, room);
         let before = image.clone();
-        let m = Move { occupancy: &[0, 2, 0, 0], blocking: &[1], moved: 2, local: false, limit };
+        let m = Move { limit, ..MOVE };
         let status = Err(Refusal { number, place: 0 });
         assert_eq!(update(&mut image, m), Updated { status, rounds, strays: 0 });
         assert_eq!(image, before);
@@ -116,12 +73,6 @@ fn no_bytes_and_any_bytes_get_an_answer() {
         assert_eq!(image, before);
     }
 }
-
-fn two_trains() -> Vec<u8> {
-    yard(&[&laid_out(1, 4), &laid_out(2, 4)])
-}
-
-const MOVE: Move = Move { occupancy: &[0, 2, 0, 0], blocking: &[1], moved: 2, local: false, limit: 5 };
 
 #[test]
 fn a_check_works_every_slot_but_the_moved_train() {

@@ -1,0 +1,47 @@
+//! The calls as `lavtoeu.h` declares them.
+
+extern "C" {
+    pub fn lavtoeu_mark(table: *const u8, table_len: usize, occupancy: *mut u16, occupancy_len: usize, link: u32, train: u16) -> u32;
+    pub fn lavtoeu_image_fault(image: *const u8, image_len: usize, links: u32) -> u32;
+    pub fn lavtoeu_lay_out(
+        est: *const u8,
+        est_len: usize,
+        train: u16,
+        search: f64,
+        fixed: f64,
+        room: u32,
+        links: u32,
+        image: *mut u8,
+        image_len: usize,
+    ) -> u32;
+    pub fn lavtoeu_update(
+        image: *mut u8,
+        image_len: usize,
+        occupancy: *const u16,
+        occupancy_len: usize,
+        blocking: *const u32,
+        blocking_len: usize,
+        moved: u16,
+        local: u32,
+        limit: u16,
+        answer: *mut u64,
+        answer_len: usize,
+    ) -> u32;
+    pub fn lavtoeu_sheet(bundle: *const u8, bundle_len: usize, text: *mut u8, text_len: usize) -> usize;
+    pub fn lavtoeu_check(
+        yard: *mut u8,
+        yard_len: usize,
+        occupancy: *const u16,
+        occupancy_len: usize,
+        blocking: *const u32,
+        blocking_len: usize,
+        moved: u16,
+        begin: u16,
+        local: u32,
+        limit: u16,
+        report: *mut u8,
+        report_len: usize,
+        answer: *mut u64,
+        answer_len: usize,
+    ) -> u32;
+}
