@@ -1,8 +1,9 @@
 //! Times of a check of a full yard, 63 slots with 512 est records each, on the same bytes in one run: the library's call, and
 //! check_deadlock of the Rust built as for release, over bytes.
 
-use crate::library;
-use crate::update_time::best;
+use crate::clock::best;
+use crate::library::told_check;
+use crate::updates::open_chain;
 use oracle::calls;
 use oracle::gen::{self, UpdateCase};
 use oracle::layout::{put_u16, yard_of};
@@ -44,7 +45,6 @@ fn full_yard(mut make: impl FnMut() -> UpdateCase) -> CheckCase {
 
 fn print(name: &str, c: &CheckCase, turns: usize) {
     let yards = vec![c.yard.clone()];
-    let args = c.args();
     let plain = CheckArgs {
         occ: &c.occ,
         blocking: &c.blocking,
@@ -56,11 +56,13 @@ fn print(name: &str, c: &CheckCase, turns: usize) {
     let mut report = vec![0; 16 * SLOTS];
     let [_, _, _, erred, deadlock, ..] = calls::of_check(c, &report).answered().answer;
     let (mut one, mut other) = (c.yard.clone(), c.yard.clone());
-    library::check_in(&mut one, &args, &mut report);
+    let (told, begin) = told_check(&c.args());
+    let mut call = |yard: &mut [u8]| lavtoeu::check(yard, told, begin, &mut report);
+    call(&mut one).expect("a check that is not refused");
     check_plain(&mut other, &plain).expect("a check that ends");
     assert!(one == other, "the yards differ");
     let ours = best(&yards, turns, |_, yard| {
-        black_box(library::check_in(black_box(yard), &args, &mut report));
+        black_box(call(black_box(yard))).expect("a check that is not refused");
     });
     let theirs = best(&yards, turns, |_, yard| {
         black_box(check_plain(black_box(yard), &plain)).expect("a check that ends");
@@ -74,12 +76,7 @@ fn print(name: &str, c: &CheckCase, turns: usize) {
 pub fn run(seed: u64) {
     let mut rng = Rng::new(seed);
     let rng = &mut rng;
-    let open = full_yard(|| {
-        let mut c = gen::chain_update(rng, ESTS - 1, false);
-        c.occ[1] = 0;
-        c
-    });
-    print("chain, end free", &open, 300);
+    print("chain, end free", &full_yard(|| open_chain(rng, ESTS)), 300);
     print("chain, end held", &full_yard(|| gen::chain_update(rng, ESTS - 1, false)), 300);
     print("dense", &full_yard(|| gen::dense_update(rng, ESTS, 2 * ESTS)), 300);
 }

@@ -3,6 +3,7 @@
 
 mod check_time;
 mod checks;
+mod clock;
 mod library;
 mod time;
 mod update_time;
@@ -17,6 +18,10 @@ use std::process::exit;
 const USAGE: &str = "usage: compare KIND SEED COUNT, compare time SEED, compare update-time SEED, or compare check-time SEED
 KIND: mark, layout, image, update, update-large, check, tidy, check-large, sheet,
 sheet-damaged. The first case that differs is written to the file `different.case`.";
+
+const KINDS: [&str; 10] = [
+    "mark", "image", "layout", "update", "update-large", "check", "tidy", "check-large", "sheet", "sheet-damaged",
+];
 
 fn usage() -> ! {
     eprintln!("{USAGE}");
@@ -89,13 +94,13 @@ impl Tally {
     fn add_image(&mut self, rng: &mut Rng) {
         let case = some_train(rng);
         let l = case.occ.len();
-        let image = if rng.chance(50) { case.damaged(rng).image } else { case.image };
+        let image = if rng.chance(50) { case.damaged(rng).image } else { case.image }.into_boxed_slice();
         let judged = match read_image(&image, l) {
             Ok(_) => (0, 0),
             Err(r) => (r.number as u32, r.place),
         };
         self.refused[judged.0.min(31) as usize] += 1;
-        if library::image_fault(&image, l as u32) != judged {
+        if library::numbers(lavtoeu::judge(&image, l as u32)) != judged {
             if self.differ == 0 {
                 keep(&image);
             }
@@ -121,7 +126,7 @@ fn main() {
         }
     }
     let [kind, seed, count] = &args[..] else { usage() };
-    if !library::KINDS.contains(&kind.as_str()) {
+    if !KINDS.contains(&kind.as_str()) {
         usage();
     }
     let mut rng = Rng::new(number(seed));

@@ -1,7 +1,8 @@
 //! Times of an update, on the same bytes in one run: the library's call, and the Rust built as for release, without overflow
 //! checks and without hooks, once over bytes and once on structs that are kept.
 
-use crate::library;
+use crate::clock::best;
+use crate::library::told;
 use crate::updates;
 use oracle::cases::Case;
 use oracle::gen::{self, UpdateCase};
@@ -11,7 +12,6 @@ use oracle::yards::CheckCase;
 use oracle::{calls, hook};
 use release::model::{update_plain, KeptTrain};
 use std::hint::black_box;
-use std::time::Instant;
 
 /// Updates of one kind, and what they do on average.
 struct Family {
@@ -56,20 +56,6 @@ fn family(
     f
 }
 
-/// Microseconds of one call, the best of some runs over all items; the items are copied before the clock starts.
-pub fn best<T: Clone>(items: &[T], turns: usize, mut f: impl FnMut(usize, &mut T)) -> f64 {
-    let mut best = f64::INFINITY;
-    for _ in 0..turns {
-        let mut copies = items.to_vec();
-        let start = Instant::now();
-        for (i, x) in copies.iter_mut().enumerate() {
-            f(i, x);
-        }
-        best = best.min(start.elapsed().as_secs_f64() * 1e6 / items.len() as f64);
-    }
-    best
-}
-
 fn print(f: &Family, turns: usize) {
     if f.items.is_empty() {
         return println!("{:<34}no update of this kind was found", f.name);
@@ -81,8 +67,7 @@ fn print(f: &Family, turns: usize) {
         .map(|c| KeptTrain::new(&c.image, &c.occ, &c.blocking, c.moved, c.local).expect("an accepted image"))
         .collect();
     let ours = best(&images, turns, |i, image| {
-        let c = &f.items[i];
-        black_box(library::update_in(black_box(image), &c.occ, &c.blocking, c.moved, c.local, c.limit));
+        black_box(lavtoeu::update(black_box(image), told(&f.items[i])));
     });
     let bytes = best(&images, turns, |i, image| {
         let c = &f.items[i];
@@ -132,12 +117,7 @@ fn chain(rng: &mut Rng, e: usize) -> Family {
 
 /// The same chain with nothing held: no search.
 fn open_chain(rng: &mut Rng, e: usize) -> Family {
-    let make = || {
-        let mut c = gen::chain_update(rng, e - 1, false);
-        c.occ[1] = 0;
-        c
-    };
-    family(format!("chain, end free, E = {e}"), 50, make, |_, n| n == 0)
+    family(format!("chain, end free, E = {e}"), 50, || updates::open_chain(rng, e), |_, n| n == 0)
 }
 
 /// Two chains of E / 2 nodes, the first of which is held at its end.

@@ -115,6 +115,13 @@ impl Updates {
     }
 }
 
+/// An update of a chain of e nodes with nothing held.
+pub fn open_chain(rng: &mut Rng, e: usize) -> UpdateCase {
+    let mut c = gen::chain_update(rng, e - 1, false);
+    c.occ[1] = 0;
+    c
+}
+
 /// The checks of a run of a tidy yard with at most so many sections.
 pub fn tidy_checks(rng: &mut Rng, most: usize) -> Vec<CheckCase> {
     let (sections, trains) = (rng.from(1, most), rng.from(1, 4));
