@@ -5,27 +5,28 @@ use oracle::gen::{self, UpdateCase};
 use oracle::rng::Rng;
 use oracle::yards::{tidy_run, CheckCase};
 use oracle::{calls, model};
+use Source::*;
 
 /// Where an update comes from, for the counts.
-pub const SOURCES: [&str; 12] = [
-    "mix", "odd", "changed", "twin", "views", "dense", "damaged", "tidy", "comb", "deposit", "long", "large",
-];
-const MIX: usize = 0;
-const ODD: usize = 1;
-const CHANGED: usize = 2;
-const TWIN: usize = 3;
-const VIEWS: usize = 4;
-const DENSE: usize = 5;
-const DAMAGED: usize = 6;
-const TIDY: usize = 7;
-const COMB: usize = 8;
-const DEPOSIT: usize = 9;
-const LONG: usize = 10;
-const LARGE: usize = 11;
+#[derive(Clone, Copy, Debug, PartialEq, Eq, PartialOrd, Ord)]
+pub enum Source {
+    Mix,
+    Odd,
+    Changed,
+    Twin,
+    Views,
+    Dense,
+    Damaged,
+    Tidy,
+    Comb,
+    Deposit,
+    Long,
+    Large,
+}
 
 pub struct Updates {
     rng: Rng,
-    waiting: Vec<(usize, Case)>,
+    waiting: Vec<(Source, Case)>,
 }
 
 impl Updates {
@@ -34,7 +35,7 @@ impl Updates {
     }
 
     /// The next update and its source. Most are small.
-    pub fn next(&mut self) -> (usize, Case) {
+    pub fn next(&mut self) -> (Source, Case) {
         while self.waiting.is_empty() {
             match self.rng.below(1_000) {
                 0 => self.tidy(),
@@ -46,28 +47,28 @@ impl Updates {
     }
 
     /// The next large update and its source.
-    pub fn next_large(&mut self) -> (usize, Case) {
+    pub fn next_large(&mut self) -> (Source, Case) {
         let rng = &mut self.rng;
         let (source, c) = match rng.below(10) {
             0..=1 => {
                 let (depth, q) = (rng.from(50, 66), rng.pick(&[40, 80, 1_024]));
                 let stored = rng.pick(&[0, 0, 5]);
-                (COMB, gen::comb(rng, depth, q, stored))
+                (Comb, gen::comb(rng, depth, q, stored))
             }
             2..=3 => {
                 let stored = rng.pick(&[1, 20, 500, 1_020, 1_021, 1_022]);
                 let q = (stored + rng.from(2, 6)).min(1_024);
-                (DEPOSIT, gen::deposit(rng, stored, q))
+                (Deposit, gen::deposit(rng, stored, q))
             }
-            4 => (LONG, gen::long_update(rng)),
-            5 => (DAMAGED, gen::large_update(rng).damaged(rng)),
-            6 => (CHANGED, gen::large_update(rng).changed(rng)),
-            _ => (LARGE, gen::large_update(rng)),
+            4 => (Long, gen::long_update(rng)),
+            5 => (Damaged, gen::large_update(rng).damaged(rng)),
+            6 => (Changed, gen::large_update(rng).changed(rng)),
+            _ => (Large, gen::large_update(rng)),
         };
         (source, calls::of_update(&c))
     }
 
-    fn push(&mut self, source: usize, c: &UpdateCase) {
+    fn push(&mut self, source: Source, c: &UpdateCase) {
         self.waiting.push((source, calls::of_update(c)));
     }
 
@@ -76,15 +77,15 @@ impl Updates {
         let (source, c) = match rng.below(100) {
             0..=39 => {
                 let case = calls::update(rng);
-                return self.waiting.push((MIX, case));
+                return self.waiting.push((Mix, case));
             }
-            40..=54 => (ODD, gen::odd_update(rng)),
-            55..=69 => (TWIN, gen::twin_update(rng)),
-            70..=79 => (VIEWS, gen::views_update(rng)),
-            80..=89 => (DENSE, calls::dense(rng)),
+            40..=54 => (Odd, gen::odd_update(rng)),
+            55..=69 => (Twin, gen::twin_update(rng)),
+            70..=79 => (Views, gen::views_update(rng)),
+            80..=89 => (Dense, calls::dense(rng)),
             _ => {
                 let c = if rng.chance(50) { gen::twin_update(rng) } else { calls::dense(rng) };
-                (DAMAGED, c.damaged(rng))
+                (Damaged, c.damaged(rng))
             }
         };
         self.push(source, &c);
@@ -94,7 +95,7 @@ impl Updates {
     fn odd_steps(&mut self) {
         let mut c = gen::odd_update(&mut self.rng);
         for _ in 0..self.rng.from(2, 5) {
-            self.push(CHANGED, &c);
+            self.push(Changed, &c);
             model::update(&mut c.image, &c.occ, &c.blocking, c.moved, c.local, c.limit);
             c = c.changed(&mut self.rng);
             c.others_move(&mut self.rng);
@@ -105,10 +106,10 @@ impl Updates {
     fn tidy(&mut self) {
         for c in tidy_checks(&mut self.rng, 7) {
             for mut u in c.slots() {
-                self.push(TIDY, &u);
+                self.push(Tidy, &u);
                 for _ in 0..2 {
                     u = u.changed(&mut self.rng);
-                    self.push(TIDY, &u);
+                    self.push(Tidy, &u);
                 }
             }
         }

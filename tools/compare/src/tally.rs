@@ -1,0 +1,90 @@
+//! The counts of a comparison.
+
+use crate::library;
+use crate::updates::Source;
+use oracle::cases::{Case, CHECK, UPDATE};
+use oracle::layout::read_image;
+use std::collections::BTreeMap;
+
+/// The number of cases whose answers differ, how many were refused by each number (0: by none), how updates and checks
+/// ended, how often a slot of a check has each code, and how many updates came from each generator.
+#[derive(Default)]
+pub struct Tally {
+    pub differ: u64,
+    refused: BTreeMap<u32, u64>,
+    ends: BTreeMap<&'static str, u64>,
+    codes: BTreeMap<u8, u64>,
+    sources: BTreeMap<Source, u64>,
+}
+
+/// How an update or a check ends that is not refused.
+fn end_of(judged: &Case) -> Option<&'static str> {
+    let [kind, _, _, _, deadlock, ..] = judged.answer;
+    match (judged.op, kind, deadlock) {
+        (UPDATE, 0, _) => Some("success"),
+        (UPDATE, 1, _) => Some("blocked"),
+        (UPDATE, 2, _) => Some("faulty"),
+        (CHECK, 0, 0) => Some("no deadlock"),
+        (CHECK, 0, _) => Some("deadlock"),
+        (CHECK, 1, _) => Some("erred"),
+        _ => None,
+    }
+}
+
+fn count<K: Ord>(counts: &mut BTreeMap<K, u64>, key: K) {
+    *counts.entry(key).or_default() += 1;
+}
+
+impl Tally {
+    pub fn add(&mut self, asked: &Case) {
+        let mut judged = asked.clone().answered();
+        // the line of a panic is not part of an answer
+        judged.line = 0;
+        end_of(&judged).into_iter().for_each(|end| count(&mut self.ends, end));
+        let number = judged.answer[library::number_at(judged.op)];
+        count(&mut self.refused, number);
+        if judged.op == CHECK && number == 0 {
+            judged.outs[1].chunks(16).for_each(|row| count(&mut self.codes, row[0]));
+        }
+        if library::answered(asked) != judged {
+            let mut bytes = vec![];
+            judged.write(&mut bytes);
+            self.differs(&bytes);
+        }
+    }
+
+    pub fn add_update(&mut self, source: Source, asked: &Case) {
+        count(&mut self.sources, source);
+        self.add(asked);
+    }
+
+    /// Refusals 6 to 9 of an image.
+    pub fn add_image(&mut self, image: &[u8], links: usize) {
+        let judged = match read_image(image, links) {
+            Ok(_) => (0, 0),
+            Err(r) => (r.number as u32, r.place),
+        };
+        count(&mut self.refused, judged.0);
+        if library::numbers(lavtoeu::judge(image, links as u32)) != judged {
+            self.differs(image);
+        }
+    }
+
+    fn differs(&mut self, bytes: &[u8]) {
+        if self.differ == 0 {
+            std::fs::write("different.case", bytes).expect("different.case");
+        }
+        self.differ += 1;
+    }
+
+    pub fn print(&self) {
+        for (number, n) in &self.refused {
+            println!("  {} {number}: {n}", if *number == 0 { "done, not refused" } else { "refused" });
+        }
+        self.ends.iter().for_each(|(end, n)| println!("  {end}: {n}"));
+        self.codes.iter().for_each(|(code, n)| println!("  slots with code {code}: {n}"));
+        for (source, n) in &self.sources {
+            println!("  from {}: {n}", format!("{source:?}").to_lowercase());
+        }
+    }
+}
