@@ -1,5 +1,7 @@
 // The parts of a recorded case, and the counts of a replay.
+ghost use mathlib.Core.Path.{_≡_};
 ghost use Prim.Native.Nat.{_<_, _^_};
+ghost use lib.ListN.{length};
 use link_rules::octets;
 use link_rules::refusal::Answer;
 
@@ -8,6 +10,8 @@ pub(crate) const MARK: u32 = 1;
 pub(crate) const LAY_OUT: u32 = 2;
 
 pub(crate) const UPDATE: u32 = 3;
+
+pub(crate) const CHECK: u32 = 4;
 
 // An output buffer of this length is as its input was.
 const UNCHANGED: u32 = 4294967295;
@@ -38,6 +42,7 @@ pub(crate) struct Counts {
     pub(crate) marks: Count,
     pub(crate) layouts: Count,
     pub(crate) updates: Count,
+    pub(crate) checks: Count,
     pub(crate) images: Count,
     pub(crate) leaves: Count,
     pub(crate) skipped: u64,
@@ -55,6 +60,10 @@ pub(crate) fn none() -> Counts {
             differ: 0,
         },
         updates: Count {
+            cases: 0,
+            differ: 0,
+        },
+        checks: Count {
             cases: 0,
             differ: 0,
         },
@@ -106,6 +115,14 @@ pub(crate) fn with_update(counts: Counts, agrees: bool) -> Counts {
     let updates = counts.updates;
     let next = updates.with(agrees);
     out.updates = next;
+    out
+}
+
+pub(crate) fn with_check(counts: Counts, agrees: bool) -> Counts {
+    let mut out = counts;
+    let checks = counts.checks;
+    let next = checks.with(agrees);
+    out.checks = next;
     out
 }
 
@@ -172,7 +189,40 @@ pub(crate) fn is_answer(answer: Answer, head: &[u8]) -> bool {
     }
 }
 
+// Are the first four numbers of the answer these?
+pub(crate) fn says(head: &[u8], kind: u32, number: u32, place: u32, errors: u64) -> bool {
+    if answer_at(head, 0) != kind {
+        return false;
+    }
+    if answer_at(head, 1) != number {
+        return false;
+    }
+    if answer_at(head, 2) != place {
+        return false;
+    }
+    answer_at(head, 3) as u64 == errors
+}
+
 // ---- the buffers
+
+// Room for an image, a yard or a report, for an occupancy and for a blocking list.
+pub(crate) fn no_bytes() -> [u8; 65536]
+    ensures { λ r. ⌜ 65536 ≡ length r ⌝ }
+{
+    [0u8; 65536]
+}
+
+pub(crate) fn no_trains() -> [u16; 8192]
+    ensures { λ r. ⌜ 8192 ≡ length r ⌝ }
+{
+    [0u16; 8192]
+}
+
+pub(crate) fn no_links() -> [u32; 8192]
+    ensures { λ r. ⌜ 8192 ≡ length r ⌝ }
+{
+    [0u32; 8192]
+}
 
 // Copies a buffer into one of the same length.
 pub(crate) fn copy(to: &mut [u8], from: &[u8]) {
@@ -277,10 +327,22 @@ pub(crate) fn third_input<'a>(head: &[u8], body: &'a [u8]) -> &'a [u8] {
     part(body, two_inputs_len(head), input_len(head, 2) as usize)
 }
 
+// How many bytes the first three inputs have.
+fn three_inputs_len(head: &[u8]) -> usize
+    ensures { λ r. ⌜ r < 2 ^ 34 ⌝ }
+{
+    two_inputs_len(head) + (input_len(head, 2) as usize)
+}
+
+pub(crate) fn fourth_input<'a>(head: &[u8], body: &'a [u8]) -> &'a [u8] {
+    part(body, three_inputs_len(head), input_len(head, 3) as usize)
+}
+
 // Where the outputs begin.
-fn outputs_at(head: &[u8]) -> usize {
-    let two = two_inputs_len(head);
-    two + (input_len(head, 2) as usize) + (input_len(head, 3) as usize)
+fn outputs_at(head: &[u8]) -> usize
+    ensures { λ r. ⌜ r < 2 ^ 35 ⌝ }
+{
+    three_inputs_len(head) + (input_len(head, 3) as usize)
 }
 
 // The first output, or the input that it was before the call where it is unchanged.
@@ -290,4 +352,22 @@ pub(crate) fn first_output<'a>(head: &[u8], body: &'a [u8], was: &'a [u8]) -> &'
         return was;
     }
     part(body, outputs_at(head), n as usize)
+}
+
+// Where the second output begins.
+fn second_output_at(head: &[u8]) -> usize {
+    let n = octets::u32_at(head, 96);
+    if n == UNCHANGED {
+        return outputs_at(head);
+    }
+    outputs_at(head) + (n as usize)
+}
+
+// The second output in the same way.
+pub(crate) fn second_output<'a>(head: &[u8], body: &'a [u8], was: &'a [u8]) -> &'a [u8] {
+    let n = octets::u32_at(head, 100);
+    if n == UNCHANGED {
+        return was;
+    }
+    part(body, second_output_at(head), n as usize)
 }

@@ -4,6 +4,7 @@ ghost use mathlib.Core.Path.{_≡_};
 ghost use lib.ListN.{length};
 
 mod case;
+mod check;
 mod image_refusal;
 mod lay_out;
 mod leaf;
@@ -26,6 +27,7 @@ fn main() {
     print_line(b"mark or release: ", counts.marks);
     print_line(b"lay out: ", counts.layouts);
     print_line(b"update: ", counts.updates);
+    print_line(b"check: ", counts.checks);
     print_line(b"refusals 6 to 9 of an image: ", counts.images);
     print_line(b"leaves of the search: ", counts.leaves);
     print_skipped(counts.skipped);
@@ -105,6 +107,9 @@ fn replay(head: &[u8], body: &[u8], counts: Counts) -> Counts {
     }
     if case::operation(head) == case::UPDATE {
         return replay_update(head, body, counts);
+    }
+    if case::operation(head) == case::CHECK {
+        return case::with_check(counts, check::agrees(head, body));
     }
     if leaf::is_told(head) {
         return case::with_leaf(counts, leaf::agrees(head, body));

@@ -1,34 +1,13 @@
 // A recorded update.
-ghost use mathlib.Core.Path.{_≡_};
-ghost use lib.ListN.{length};
 use crate::case;
 use link_rules::link_idx::TrainIdx;
 use update_free_path;
 use update_free_path::answer::Status;
 use update_free_path::answer::Updated;
 
-// Room for an image, an occupancy and a blocking list.
-fn no_bytes() -> [u8; 65536]
-    ensures { λ r. ⌜ 65536 ≡ length r ⌝ }
-{
-    [0u8; 65536]
-}
-
-fn no_trains() -> [u16; 8192]
-    ensures { λ r. ⌜ 8192 ≡ length r ⌝ }
-{
-    [0u16; 8192]
-}
-
-fn no_links() -> [u32; 8192]
-    ensures { λ r. ⌜ 8192 ≡ length r ⌝ }
-{
-    [0u32; 8192]
-}
-
 // Makes the call and compares its answer and every byte of the image.
 pub(crate) fn agrees(head: &[u8], body: &[u8]) -> bool {
-    let mut room = no_bytes();
+    let mut room = case::no_bytes();
     let n = case::first_input(head, body).len();
     if 65536 < n {
         return false;
@@ -37,7 +16,7 @@ pub(crate) fn agrees(head: &[u8], body: &[u8]) -> bool {
 }
 
 fn agrees_on(head: &[u8], body: &[u8], image: &mut [u8]) -> bool {
-    let mut room = no_trains();
+    let mut room = case::no_trains();
     let n = case::second_input(head, body).len() / 2;
     if 8192 < n {
         return false;
@@ -47,7 +26,7 @@ fn agrees_on(head: &[u8], body: &[u8], image: &mut [u8]) -> bool {
 
 fn agrees_over(head: &[u8], body: &[u8], image: &mut [u8], occ: &mut [u16]) -> bool {
     case::u16s(occ, case::second_input(head, body), 0, 2);
-    let mut room = no_links();
+    let mut room = case::no_links();
     let n = case::third_input(head, body).len() / 4;
     if 8192 < n {
         return false;
@@ -92,23 +71,9 @@ fn is_answer(head: &[u8], x: Updated) -> bool {
 
 fn is_status(head: &[u8], s: Status) -> bool {
     match s {
-        Status::Success => says(head, 0, 0, 0, 0),
-        Status::Blocked => says(head, 1, 0, 0, 0),
-        Status::Faulty(n) => says(head, 2, 0, 0, n),
-        Status::Refused(r) => says(head, 3, r.number as u32, r.place as u32, 0),
+        Status::Success => case::says(head, 0, 0, 0, 0),
+        Status::Blocked => case::says(head, 1, 0, 0, 0),
+        Status::Faulty(n) => case::says(head, 2, 0, 0, n),
+        Status::Refused(r) => case::says(head, 3, r.number as u32, r.place as u32, 0),
     }
-}
-
-// Are the first four numbers of the answer these?
-fn says(head: &[u8], kind: u32, number: u32, place: u32, errors: u64) -> bool {
-    if case::answer_at(head, 0) != kind {
-        return false;
-    }
-    if case::answer_at(head, 1) != number {
-        return false;
-    }
-    if case::answer_at(head, 2) != place {
-        return false;
-    }
-    case::answer_at(head, 3) as u64 == errors
 }
