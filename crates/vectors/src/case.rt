@@ -13,6 +13,8 @@ pub(crate) const UPDATE: u32 = 3;
 
 pub(crate) const CHECK: u32 = 4;
 
+pub(crate) const SHEET: u32 = 5;
+
 // An output buffer of this length is as its input was.
 const UNCHANGED: u32 = 4294967295;
 
@@ -43,9 +45,9 @@ pub(crate) struct Counts {
     pub(crate) layouts: Count,
     pub(crate) updates: Count,
     pub(crate) checks: Count,
+    pub(crate) sheets: Count,
     pub(crate) images: Count,
     pub(crate) leaves: Count,
-    pub(crate) skipped: u64,
     pub(crate) broken: bool,
 }
 
@@ -67,6 +69,10 @@ pub(crate) fn none() -> Counts {
             cases: 0,
             differ: 0,
         },
+        sheets: Count {
+            cases: 0,
+            differ: 0,
+        },
         images: Count {
             cases: 0,
             differ: 0,
@@ -75,7 +81,6 @@ pub(crate) fn none() -> Counts {
             cases: 0,
             differ: 0,
         },
-        skipped: 0,
         broken: false,
     }
 }
@@ -126,6 +131,14 @@ pub(crate) fn with_check(counts: Counts, agrees: bool) -> Counts {
     out
 }
 
+pub(crate) fn with_sheet(counts: Counts, agrees: bool) -> Counts {
+    let mut out = counts;
+    let sheets = counts.sheets;
+    let next = sheets.with(agrees);
+    out.sheets = next;
+    out
+}
+
 pub(crate) fn with_image(counts: Counts, agrees: bool) -> Counts {
     let mut out = counts;
     let images = counts.images;
@@ -139,12 +152,6 @@ pub(crate) fn with_leaf(counts: Counts, agrees: bool) -> Counts {
     let leaves = counts.leaves;
     let next = leaves.with(agrees);
     out.leaves = next;
-    out
-}
-
-pub(crate) fn with_skipped(counts: Counts) -> Counts {
-    let mut out = counts;
-    out.skipped = std::num::wrapping_add_u64(counts.skipped, 1);
     out
 }
 
@@ -345,13 +352,17 @@ fn outputs_at(head: &[u8]) -> usize
     three_inputs_len(head) + (input_len(head, 3) as usize)
 }
 
+// The first output, whose bytes are there.
+pub(crate) fn output<'a>(head: &[u8], body: &'a [u8]) -> &'a [u8] {
+    part(body, outputs_at(head), octets::u32_at(head, 96) as usize)
+}
+
 // The first output, or the input that it was before the call where it is unchanged.
 pub(crate) fn first_output<'a>(head: &[u8], body: &'a [u8], was: &'a [u8]) -> &'a [u8] {
-    let n = octets::u32_at(head, 96);
-    if n == UNCHANGED {
+    if octets::u32_at(head, 96) == UNCHANGED {
         return was;
     }
-    part(body, outputs_at(head), n as usize)
+    output(head, body)
 }
 
 // Where the second output begins.

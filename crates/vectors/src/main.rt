@@ -9,6 +9,7 @@ mod image_refusal;
 mod lay_out;
 mod leaf;
 mod mark;
+mod sheet;
 mod update;
 
 use case::Count;
@@ -28,9 +29,9 @@ fn main() {
     print_line(b"lay out: ", counts.layouts);
     print_line(b"update: ", counts.updates);
     print_line(b"check: ", counts.checks);
+    print_line(b"sheet: ", counts.sheets);
     print_line(b"refusals 6 to 9 of an image: ", counts.images);
     print_line(b"leaves of the search: ", counts.leaves);
-    print_skipped(counts.skipped);
     if counts.broken {
         io::write_all(STDOUT_FILENO, b"the list is broken\n");
     }
@@ -98,6 +99,7 @@ fn replay_body(fd: i32, head: &[u8], body: &mut [u8], counts: Counts) -> Replaye
     }
 }
 
+// An operation that is unknown breaks the list.
 fn replay(head: &[u8], body: &[u8], counts: Counts) -> Counts {
     if case::operation(head) == case::MARK {
         return case::with_mark(counts, mark::agrees(head, body));
@@ -111,10 +113,13 @@ fn replay(head: &[u8], body: &[u8], counts: Counts) -> Counts {
     if case::operation(head) == case::CHECK {
         return case::with_check(counts, check::agrees(head, body));
     }
+    if case::operation(head) == case::SHEET {
+        return case::with_sheet(counts, sheet::agrees(head, body));
+    }
     if leaf::is_told(head) {
         return case::with_leaf(counts, leaf::agrees(head, body));
     }
-    case::with_skipped(counts)
+    case::broken(counts)
 }
 
 // An update also tells what 6 to 9 say of its image, unless 2, 4 or 5 comes before.
@@ -132,10 +137,4 @@ fn print_line(name: &[u8], count: Count) {
     io::write_all(STDOUT_FILENO, b" cases, ");
     io::print_decimal(STDOUT_FILENO, count.differ);
     io::write_all(STDOUT_FILENO, b" differ\n");
-}
-
-fn print_skipped(skipped: u64) {
-    io::write_all(STDOUT_FILENO, b"not replayed yet: ");
-    io::print_decimal(STDOUT_FILENO, skipped);
-    io::write_all(STDOUT_FILENO, b" cases\n");
 }
