@@ -15,6 +15,8 @@ pub(crate) const CHECK: u32 = 4;
 
 pub(crate) const SHEET: u32 = 5;
 
+pub(crate) const LIST: u32 = 12;
+
 // An output buffer of this length is as its input was.
 const UNCHANGED: u32 = 4294967295;
 
@@ -45,6 +47,7 @@ pub(crate) struct Counts {
     pub(crate) layouts: Count,
     pub(crate) updates: Count,
     pub(crate) checks: Count,
+    pub(crate) lists: Count,
     pub(crate) sheets: Count,
     pub(crate) images: Count,
     pub(crate) leaves: Count,
@@ -66,6 +69,10 @@ pub(crate) fn none() -> Counts {
             differ: 0,
         },
         checks: Count {
+            cases: 0,
+            differ: 0,
+        },
+        lists: Count {
             cases: 0,
             differ: 0,
         },
@@ -128,6 +135,14 @@ pub(crate) fn with_check(counts: Counts, agrees: bool) -> Counts {
     let checks = counts.checks;
     let next = checks.with(agrees);
     out.checks = next;
+    out
+}
+
+pub(crate) fn with_list(counts: Counts, agrees: bool) -> Counts {
+    let mut out = counts;
+    let lists = counts.lists;
+    let next = lists.with(agrees);
+    out.lists = next;
     out
 }
 

@@ -8,6 +8,7 @@ mod check;
 mod image_refusal;
 mod lay_out;
 mod leaf;
+mod list;
 mod mark;
 mod sheet;
 mod update;
@@ -29,6 +30,7 @@ fn main() {
     print_line(b"lay out: ", counts.layouts);
     print_line(b"update: ", counts.updates);
     print_line(b"check: ", counts.checks);
+    print_line(b"list of calls: ", counts.lists);
     print_line(b"sheet: ", counts.sheets);
     print_line(b"refusals 6 to 9 of an image: ", counts.images);
     print_line(b"leaves of the search: ", counts.leaves);
@@ -112,6 +114,9 @@ fn replay(head: &[u8], body: &[u8], counts: Counts) -> Counts {
     }
     if case::operation(head) == case::CHECK {
         return case::with_check(counts, check::agrees(head, body));
+    }
+    if case::operation(head) == case::LIST {
+        return case::with_list(counts, list::agrees(head, body));
     }
     if case::operation(head) == case::SHEET {
         return case::with_sheet(counts, sheet::agrees(head, body));

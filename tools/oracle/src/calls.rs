@@ -1,6 +1,7 @@
 //! Random calls of each operation, as cases without answers.
 
 use crate::cases::*;
+use crate::demand3;
 use crate::gen::*;
 use crate::layout::*;
 use crate::leaves;
@@ -148,6 +149,18 @@ pub fn sheet(rng: &mut Rng) -> Case {
     Case::sheet(&b)
 }
 
+/// Two to six marks, releases and checks, each made for what the call before it left.
+pub fn list(rng: &mut Rng) -> Case {
+    let first = demand3::start(rng);
+    let (mut y, mut calls) = (first.clone(), vec![]);
+    for _ in 0..rng.from(2, 6) {
+        let call = demand3::call_of(rng, &y, &demand3::BEGIN);
+        demand3::run(&mut y, &call);
+        calls.push(call.case());
+    }
+    Case::list(&first, &calls)
+}
+
 /// A case of any operation of document 01.
 pub fn any(rng: &mut Rng) -> Case {
     match rng.below(100) {
@@ -169,6 +182,7 @@ pub fn by_name(name: &str, rng: &mut Rng) -> Option<Case> {
         "check" => check(rng),
         "tidy" => tidy(rng),
         "sheet" => sheet(rng),
+        "list" => list(rng),
         "leaf" => leaves::any(rng),
         "any" => any(rng),
         _ => return None,

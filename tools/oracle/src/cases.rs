@@ -4,6 +4,7 @@
 use crate::layout::*;
 use crate::leaves;
 use crate::model::{self, CheckArgs, Checked, Outcome};
+use crate::yards::Yard;
 
 pub const MARK: u32 = 1;
 pub const LAY_OUT: u32 = 2;
@@ -17,6 +18,7 @@ pub const INTERSECT: u32 = 8;
 pub const UNION: u32 = 9;
 pub const NEAR: u32 = 10;
 pub const STEP: u32 = 11;
+pub const LIST: u32 = 12;
 
 const HEAD: usize = 104;
 /// The length of an output buffer that is as its input was.
@@ -73,6 +75,13 @@ impl Case {
         Case { op: SHEET, ins: [bundle.to_vec(), vec![], vec![], vec![]], ..Case::default() }
     }
 
+    /// Marks, releases and checks in turn; their tables, occupancies and yards are empty.
+    pub fn list(y: &Yard, calls: &[Case]) -> Case {
+        let ins = [y.table.clone(), u16_bytes(&y.occ), y.yard.clone(), vec![]];
+        let args = [calls.len() as u32, 0, 0, 0, 0, 0, 0, 0];
+        Case { op: LIST, args, ins, outs: [write_all(calls), vec![]], ..Case::default() }
+    }
+
     pub fn tagged(mut self, tag: u32) -> Case {
         self.tag = tag;
         self
@@ -88,6 +97,7 @@ impl Case {
             UPDATE => self.answer_update(),
             CHECK => self.answer_check(),
             SHEET => self.outs = [model::sheet(&self.ins[0]).into_bytes(), vec![]],
+            LIST => self.answer_list(),
             _ => leaves::answer(&mut self),
         }
         self
@@ -156,6 +166,25 @@ impl Case {
         self.outs = [yard, report];
     }
 
+    /// Each call on what the call before it left.
+    fn answer_list(&mut self) {
+        let [table, mut occ, mut yard, _] = self.ins.clone();
+        let mut calls = self.calls();
+        for call in &mut calls {
+            let first = if call.op == MARK { &table } else { &yard };
+            (call.ins[0], call.ins[1]) = (first.clone(), occ.clone());
+            *call = call.clone().answered();
+            *(if call.op == MARK { &mut occ } else { &mut yard }) = call.outs[0].clone();
+            (call.ins[0], call.ins[1]) = (vec![], vec![]);
+        }
+        self.outs = [write_all(&calls), vec![]];
+    }
+
+    /// The calls of a list.
+    pub fn calls(&self) -> Vec<Case> {
+        read_all(&self.outs[0])
+    }
+
     pub fn write(&self, out: &mut Vec<u8>) {
         let start = out.len();
         let mut word = |n: u32| out.extend(n.to_le_bytes());
@@ -200,6 +229,12 @@ impl Case {
         }
         (at == size).then_some((case, size))
     }
+}
+
+fn write_all(cases: &[Case]) -> Vec<u8> {
+    let mut out = vec![];
+    cases.iter().for_each(|c| c.write(&mut out));
+    out
 }
 
 /// All cases of a file.

@@ -1,6 +1,7 @@
 //! A fuzz of demand 3: lists of calls over a yard and over the same yard with
 //! links and trains renumbered, compared as document 01's Matching says.
 
+use crate::cases::Case;
 use crate::gen::odd_blocking;
 use crate::layout::*;
 use crate::model::{self, CheckArgs, Checked};
@@ -17,6 +18,7 @@ pub struct Premises {
 }
 
 pub const ALL: Premises = Premises { begin: true, entry_zero: true, strays: true };
+pub const BEGIN: Premises = Premises { begin: true, entry_zero: false, strays: false };
 
 /// Links permuted within 1 to L - 1; trains 1 to S among themselves, the others turned round.
 struct Renumbering {
@@ -102,12 +104,26 @@ impl Renumbering {
 }
 
 #[derive(Clone, Debug)]
-enum Call {
+pub enum Call {
     Mark { link: u32, train: u16 },
     Check { blocking: Vec<u32>, moved: u16, begin: u32, local: bool, limit: u16, report: usize },
 }
 
-fn call_of(rng: &mut Rng, y: &Yard, premises: &Premises) -> Call {
+impl Call {
+    /// The call as a case of a list.
+    pub fn case(&self) -> Case {
+        match self {
+            Call::Mark { link, train } => Case::mark(&[], &[], *link, *train),
+            Call::Check { blocking, moved, begin, local, limit, report } => {
+                let (moved, begin, local, limit) = (*moved, *begin, *local, *limit);
+                let args = CheckArgs { occ: &[], blocking, moved, begin, local, limit };
+                Case::check(&[], &args, &vec![0xA5; *report])
+            }
+        }
+    }
+}
+
+pub fn call_of(rng: &mut Rng, y: &Yard, premises: &Premises) -> Call {
     let (l, s) = (y.occ.len(), y.slots());
     if rng.chance(55) {
         let link = if rng.chance(3) { rng.pick(&[0, l as u32, u32::MAX]) } else { rng.from(1, l - 1) as u32 };
@@ -159,12 +175,12 @@ fn renumbered(rng: &mut Rng, r: &Renumbering, c: &Call) -> Call {
 }
 
 #[derive(Debug, PartialEq)]
-enum Answer {
+pub enum Answer {
     Marked(Result<(), Refusal>),
     Checked(Checked, Vec<u8>),
 }
 
-fn run(y: &mut Yard, c: &Call) -> Answer {
+pub fn run(y: &mut Yard, c: &Call) -> Answer {
     match c {
         Call::Mark { link, train } => Answer::Marked(model::mark(&y.table, &mut y.occ, *link, *train)),
         Call::Check { blocking, moved, begin, local, limit, report } => {
@@ -216,7 +232,7 @@ fn premises_met(p: &Premises, c: &Call, a: &Answer, occ: &[u16]) -> bool {
     (!p.begin || *begin == 1) && (!p.entry_zero || occ[0] == 0) && (!p.strays || !strays)
 }
 
-fn start(rng: &mut Rng) -> Yard {
+pub fn start(rng: &mut Rng) -> Yard {
     if rng.chance(15) {
         let (sections, slots) = (rng.from(2, 5), rng.from(2, 4));
         let mut y = tidy_yard(rng, sections, slots);

@@ -88,6 +88,10 @@ fn names(c: &Case) -> Vec<String> {
             std::iter::once(first).chain(rows).collect()
         }
         SHEET => vec![sheet_name(&c.outs[0])],
+        LIST => {
+            let calls = c.calls().into_iter().flat_map(|c| names(&c)).map(|n| format!("list   {n}"));
+            std::iter::once("list".into()).chain(calls).collect()
+        }
         _ => vec![leaves::name(c)],
     }
 }

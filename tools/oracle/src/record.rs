@@ -25,6 +25,7 @@ pub const CHOSEN: u32 = 60;
 pub const BRANCH: u32 = 70;
 pub const SAMPLED: u32 = 80;
 pub const LEAF: u32 = 90;
+pub const LISTED: u32 = 100;
 
 /// Keeps the smallest cases for each key.
 struct Chooser {
@@ -81,6 +82,7 @@ fn keys(c: &Case) -> Vec<String> {
         CHECK if a[0] == 2 => vec![format!("refused {}", a[1])],
         CHECK => check_keys(c),
         SHEET => sheet_keys(&String::from_utf8_lossy(&c.outs[0])),
+        LIST => list_keys(&c.calls()),
         _ => vec![leaves::key(c)],
     }
 }
@@ -103,6 +105,15 @@ fn sheet_keys(text: &str) -> Vec<String> {
     }
     let head: Vec<&str> = first.split(' ').filter(|w| w.parse::<u32>().is_err()).collect();
     lines.map(|l| format!("{} {}", head.join(" "), l.split(' ').nth(1).unwrap_or(""))).collect()
+}
+
+/// For each call of a list but the first, its answer and that of the call before it.
+fn list_keys(calls: &[Case]) -> Vec<String> {
+    let name = |c: &Case| match c.op {
+        MARK => format!("mark {} {}", c.answer[0], c.args[1].min(1)),
+        _ => format!("check {} {} {}", c.answer[0], c.answer[1], c.answer[4]),
+    };
+    calls.windows(2).map(|w| format!("{}, {}", name(&w[0]), name(&w[1]))).collect()
 }
 
 // ---- named cases
@@ -674,6 +685,14 @@ fn leaf_cases(rng: &mut Rng) -> Vec<Case> {
     cases
 }
 
+/// Lists of calls: the smallest for each two answers in a row, and some that change the yard.
+fn lists(rng: &mut Rng) -> Vec<Case> {
+    let mut cases = chosen(rng, 20_000, 1, list);
+    let changes = |c: &Case| c.calls().iter().any(|x| x.op == CHECK && x.outs[0] != c.ins[2]);
+    cases.extend(std::iter::repeat_with(|| list(rng).answered()).filter(changes).take(40));
+    cases
+}
+
 pub fn recorded(seed: u64) -> Vec<Case> {
     let mut rng = Rng::new(seed);
     let rng = &mut rng;
@@ -699,6 +718,7 @@ pub fn recorded(seed: u64) -> Vec<Case> {
     list.extend(tag(boundary_sheets(rng), BOUNDARY));
     list.extend(chosen(rng, 10_000, 2, sheet));
     list.extend(tag(leaf_cases(rng), LEAF));
+    list.extend(tag(lists(rng), LISTED));
     let mut seen = BTreeSet::new();
     list.retain(|c| seen.insert((c.op, c.args, c.ins.clone())));
     list.into_iter().map(Case::answered).collect()

@@ -5,8 +5,8 @@ use borrow.Author.Needs.{needs}
 use Rattle.vectors.proofs.mark.agrees.Statement.{statement}
 use Rattle.vectors.proofs.mark.agrees.Tie as tie
 
-room-requires : tie.Need-room-requires
-room-requires c κs = search needs
+no-trains-requires : tie.Need-no-trains-requires
+no-trains-requires c κs = search needs
 
 second-input-requires : tie.Need-second-input-requires
 second-input-requires c κs = search needs
@@ -14,11 +14,11 @@ second-input-requires c κs = search needs
 returns : tie.Need-returns
 returns c = search needs
 
-array-borrow-prefix-entries : tie.Need-array-borrow-prefix-entries
-array-borrow-prefix-entries c = search needs
+array-borrow-prefix-room : tie.Need-array-borrow-prefix-room
+array-borrow-prefix-room c = search needs
 
 slice-aggregate-agrees-in : tie.Need-slice-aggregate-agrees-in
-slice-aggregate-agrees-in c = sym (length-take-le _ (c .before .before .before .room .result) (omega arith))
+slice-aggregate-agrees-in c = sym (length-take-le _ (c .before .before .before .no-trains .result) (omega arith))
 
 agrees-in-requires : tie.Need-agrees-in-requires
 agrees-in-requires c κs = search needs
@@ -30,10 +30,10 @@ pub agrees-spec : {M : Type 1} → statement M
 agrees-spec =
     tie.close
     (tie.spec
-    room-requires
+    no-trains-requires
     second-input-requires
     returns
-    array-borrow-prefix-entries
+    array-borrow-prefix-room
     slice-aggregate-agrees-in
     agrees-in-requires
     returns-2)
