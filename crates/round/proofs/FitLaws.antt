@@ -69,7 +69,7 @@ module _ (occ img on dt dn : List ℕ) (h : PathHeader) (g : Held occ img on dt 
   divs-long = listed-length (r .«diverge_count») (divAt dt dn) ∙ m .divs
 
   -- a search u that has looked and stands at x, its new path in a buffer
-  module _ (fresh pool begins ends nt nn : List ℕ) (b : Room fresh dt dn pool begins ends nt nn) (z : estCount fresh ≡ 0) (p : Place) (k : ℕ) (a : Arrays) (x : Here) where
+  module _ (size : ℕ) (fresh pool begins ends nt nn : List ℕ) (b : Room (estCount img) size fresh dt dn pool begins ends nt nn) (z : estCount fresh ≡ 0) (p : Place) (k : ℕ) (a : Arrays) (x : Here) where
     abbrev pub looked : State.Search
     looked = searchIn (r .«est_count») p (listed k (nodeAt fresh)) (divsOf (p .«div_count») nt nn) a
 
@@ -109,7 +109,7 @@ module _ (occ img on dt dn : List ℕ) (h : PathHeader) (g : Held occ img on dt 
         path = omega (arith, round-accepted .path .few, est-long, path-long);
         size = g .size;
         new = omega (arith, bounds .join-512, new-long);
-        room = omega (arith, b .buffer, z, round-accepted .ests .few, est-long);
+        room = omega (arith, b .buffer, b .enough, z);
         rest = λ c q l.
             let y = join-few (length occ) round round-accepted looked w (hereOf x) st c (ap (λ (n : ℕ). walkFrom (λ (d : DispNode). sameEst (x .«est_curr» .«idx_next») (d .«est_idx»)) (pathOf img n) (r .«idx_split_save»)) (m .path) ∙ q) in
             omega (arith, y, est-long, path-long, new-long);

@@ -1,5 +1,5 @@
 -- The search of a round and its end, as the code puts them together. Assumes nothing.
-use Prim.Native.Nat.{ℕ}
+use Prim.Native.Nat.{ℕ, _≤_}
 use mathlib.Core.Path.{_≡_, refl, sym, subst}
 use mathlib.Core.Bool.{true, false}
 use mathlib.Core.List.{List}
@@ -35,7 +35,7 @@ use Rattle.round.proofs.FitLaws.{train-is, round-accepted, est-long, pa
 
 -- ---- a new path's buffer
 
-pub fresh-count : (bs : List ℕ) → length bs ≡ 16448 → estCount (putLe 4 0 4 bs) ≡ 0
+pub fresh-count : (bs : List ℕ) → 8 ≤ length bs → estCount (putLe 4 0 4 bs) ≡ 0
 fresh-count bs l = le-put-same 4 0 4 bs (omega arith) (omega arith)
 
 -- ---- which move is left
@@ -71,14 +71,14 @@ module _ (occ img on dt dn : List ℕ) (h : PathHeader) (g : Held occ img on dt 
         fixed = omega (arith, a .fixed, a .path .few, a .ests .few, est-long occ img on dt dn h g r (s .numbers), path-long occ img on dt dn h g r (s .numbers));
       }
 
-  pub ready : (fresh : List ℕ) → Room fresh dt dn pool begins ends nt nn → estCount fresh ≡ 0 → Ready img occ on dt dn r start fresh (arrays pool begins ends) nt nn
-  ready fresh b z = record {
+  pub ready : (size : ℕ) (fresh : List ℕ) → Room (estCount img) size fresh dt dn pool begins ends nt nn → estCount fresh ≡ 0 → Ready img occ on dt dn r start fresh (arrays pool begins ends) nt nn
+  ready size fresh b z = record {
     sized = sized;
     marked = subst (λ (n : ℕ). Marked on (pathOf img n)) (sym (s .numbers .path)) (g .marked);
     lent = record { est = sized .est; trains = b .pooled; first = b .first; last = b .last };
     newTrains = b .newTrains;
     newNodes = b .newNodes;
-    buffer = omega (arith, b .buffer, z);
+    buffer = omega (arith, b .buffer, b .enough, z, s .numbers .est);
     none = s .none;
     pooled = s .pooled;
     train = trainOf img dt dn h;

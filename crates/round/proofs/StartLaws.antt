@@ -1,15 +1,14 @@
 -- The search of a round as it begins, in cleared columns, and the round up to it. Assumes nothing.
-use Prim.Native.Nat.{ℕ, _+_, _^_, _≤_, _<_}
+use Prim.Native.Nat.{ℕ, _^_, _≤_, _<_}
 use mathlib.Core.Path.{_≡_, refl, sym, ap, subst, _∙_}
-use mathlib.Core.Logic.{⊎-elim}
 use mathlib.Core.Bool.{Bool, true, false}
 use mathlib.Core.List.{List, [], _∷_}
 use native.Mathlib.Omega.{arith}
 use borrow.Author.Tests.{leb-true}
 use lib.Dec.{ltb, leb}
 use lib.Ieee.{Float, lt}
-use lib.ListN.{length, getD, take, set, replicate, length-replicate, getD-replicate}
-use lib.Seq.{ext-getD, getD-set-same, getD-set-other}
+use lib.ListN.{length, getD, take, replicate, length-replicate, getD-replicate}
+use lib.Seq.{ext-getD}
 use Rattle.link_rules.specs.LinkIdx.{noTrain}
 use Rattle.link_rules.specs.declared.link_idx.LinkIdx.{LinkIdx}
 use Rattle.link_rules.specs.declared.link_idx.TrainIdx.{TrainIdx}
@@ -35,27 +34,16 @@ use Rattle.update_laws.specs.FitsGood.{TrainFits, DivFits}
 use Rattle.update_laws.proofs.Answers.{ok-same, no-ok, bind-ok}
 use Rattle.update_laws.proofs.Lists.{each-one}
 use Rattle.update_laws.proofs.Rounds.{start-good, save-low}
-use Rattle.search.specs.Read.{viewAt, viewsOf, divsOf, pathOf, roundOf, searchIn, arrays}
+use Rattle.search.specs.Read.{viewAt, viewsOf, divsOf, pathOf, roundOf}
 use Rattle.search.specs.declared.Round.{Round}
-use Rattle.search.proofs.ListedLaws.{same-or-not, below-or-not}
 use Rattle.search_loop.specs.Runs.{Begins}
 use Rattle.splice.specs.Read.{trainOf}
 use Rattle.round_start.specs.Start.{partedAt, dividedAt, withLimit}
 use Rattle.round_start.proofs.LimitLaws.{same-limit}
 use Rattle.round_start.proofs.DivideLaws.{round-is}
-use Rattle.round.specs.Rounds.{Held, Numbers, Searching, givenOf, startAt}
+use Rattle.round.specs.Rounds.{Held, Numbers, Searching, givenOf, startAt, zeros, zeroed}
 use Rattle.round.specs.declared.Given.{Given}
 use Rattle.round.proofs.FitLaws.{train-is, round-accepted, path-long, divs-long}
-
--- one more entry becomes 0
-pub zero-more : (xs : List ℕ) (i : ℕ) → i < length xs → ((j : ℕ) → j < i → getD xs j 0 ≡ 0) → (j : ℕ) → j < i + 1 → getD (set xs i 0) j 0 ≡ 0
-zero-more xs i l h j m = ⊎-elim
-    (λ (q : j ≡ i). rw q (getD-set-same xs i 0 0 l))
-    (λ (q : j ≡ i → ⊥). getD-set-other xs i j 0 0 q ∙ h j (omega (arith, lt-of j i m q)))
-    (same-or-not j i)
-  where
-    lt-of : (j i : ℕ) → j < i + 1 → (j ≡ i → ⊥) → j < i
-    lt-of j i m q = ⊎-elim (λ (w : j < i). w) (λ (w : i ≤ j). absurd (q (omega arith))) (below-or-not j i)
 
 -- views of which no train is part
 pub views-clear : (n : ℕ) (b e : List ℕ) → ((j : ℕ) → j < n → getD b j 0 ≡ 0) → ((j : ℕ) → j < n → getD e j 0 ≡ 0) → viewsOf n b e ≡ replicate n (view 0 0)
@@ -65,17 +53,18 @@ views-clear n b e p q = ext-getD (view 0 0) (viewsOf n b e) (replicate n (view 0
     let m : i < n = omega (arith, listed-length n (viewAt b e)) in
     listed-at n (viewAt b e) i (view 0 0) m ∙ ap (λ (x : ℕ). view x (getD e i 0)) (p i m) ∙ ap (λ (x : ℕ). view 0 x) (q i m) ∙ sym (getD-replicate n i (view 0 0) (view 0 0) m))
 
+-- a column of zeros
+zero-at : (n j : ℕ) → j < n → getD {A = ℕ} (replicate n 0) j 0 ≡ 0
+zero-at n j h = getD-replicate n j 0 0 h
+
 -- ---- the first entries
 
-pub first-divs : (nt nn : List ℕ) → 0 < length nt → 0 < length nn → divsOf 1 (set nt 0 0) (set nn 0 0) ≡ record { «train_idx» = noTrain; «disp_node_idx» = 0 } ∷ []
+first-divs : divsOf 1 (replicate 1024 0) (replicate 1024 0) ≡ record { «train_idx» = noTrain; «disp_node_idx» = 0 } ∷ []
 unfolding listed
-first-divs [] nn a b = absurd (omega arith)
-first-divs (x ∷ xs) [] a b = absurd (omega arith)
-first-divs (x ∷ xs) (y ∷ ys) a b = refl
+first-divs = refl
 
-pub first-train : (pool : List ℕ) → 0 < length pool → take 1 (trains (set pool 0 0)) ≡ noTrain ∷ []
-first-train [] a = absurd (omega arith)
-first-train (x ∷ xs) a = refl
+first-train : take 1 (trains (replicate 2048 0)) ≡ noTrain ∷ []
+first-train = refl
 
 -- ---- the search
 
@@ -122,13 +111,19 @@ module _ (occ img on dt dn : List ℕ) (h : PathHeader) (g : Held occ img on dt 
   round = roundOf train occ img dt dn r
 
   -- as the definition begins it
-  module _ (split d save : ℕ) (pool begins ends nt nn : List ℕ) (a : 0 < length pool) (b : 0 < length nt) (c : 0 < length nn) (v : viewsOf (r .«est_count») begins ends ≡ replicate (r .«est_count») (view 0 0)) where
+  module _ (split d save : ℕ) where
     abbrev first : State.Search
-    first = searchIn (r .«est_count») (startAt h split d save) [] (divsOf 1 (set nt 0 0) (set nn 0 0)) (arrays (set pool 0 0) begins ends)
+    first = zeroed (r .«est_count») (startAt h split d save)
+
+    ests-few : r .«est_count» ≤ 512
+    ests-few = omega (arith, round-accepted occ img on dt dn h g r m .ests .few, listed-length (r .«est_count») (estAt img))
+
+    no-views : viewsOf (r .«est_count») (zeros .begins) (zeros .ends) ≡ replicate (r .«est_count») (view 0 0)
+    no-views = views-clear (r .«est_count») (zeros .begins) (zeros .ends) (λ j l. zero-at 512 j (omega (arith, ests-few))) (λ j l. zero-at 512 j (omega (arith, ests-few)))
 
     pub first-is : first ≡ searchAt (round .train) split d save
     unfolding trainOf
-    first-is = rw (first-divs nt nn b c, first-train pool a, v, listed-length (r .«est_count») (estAt img))
+    first-is = rw (first-divs, first-train, no-views, listed-length (r .«est_count») (estAt img))
 
     module _ (gv : Given) (divSplit : ℕ) (z : Sentinels) (low : 1 ≤ split) (high : split < h .«path_count») (same : r .«idx_split_save» ≡ split) (divs-low : 1 ≤ d) (divs-high : d < h .«diverge_count»)
         (div-is : ok d ≡ dividedAt (divsOf (h .«diverge_count») dt dn) split divSplit z) (save-is : ok save ≡ savePoint (pathOf img (h .«path_count»)) (h .fixed) split) where
@@ -153,7 +148,7 @@ module _ (occ img on dt dn : List ℕ) (h : PathHeader) (g : Held occ img on dt 
         };
       }
 
-      pub searching : Searching occ img dt dn h r (startAt h split d save) (set pool 0 0) begins ends (set nt 0 0) (set nn 0 0)
+      pub searching : Searching occ img dt dn h r (startAt h split d save) (zeros .pool) (zeros .begins) (zeros .ends) (replicate 1024 0) (replicate 1024 0)
       searching = record {
         numbers = m;
         save = omega (arith, same, high, path-long occ img on dt dn h g r m, round-accepted occ img on dt dn h g r m .path .few, round-accepted occ img on dt dn h g r m .ests .few);

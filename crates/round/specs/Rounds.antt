@@ -3,13 +3,14 @@ use Prim.Native.Nat.{ℕ, _^_, _≤_, _<_}
 use mathlib.Core.Path.{_≡_}
 use mathlib.Core.Bool.{Bool, true, false}
 use mathlib.Core.List.{List, []}
-use lib.ListN.{length}
+use lib.ListN.{length, replicate}
 use Rattle.link_rules.specs.LinkIdx.{holder}
 use Rattle.link_rules.specs.declared.link_idx.LinkIdx.{LinkIdx}
 use Rattle.disp_structs.specs.Train.{Train}
 use Rattle.image.specs.Image.{estCount, divergeRoom, nodePlace}
 use Rattle.image.specs.declared.codec.PathHeader.{PathHeader}
 use Rattle.free_path.specs.Base.{Res, ok, no}
+use Rattle.train_update.specs.State as State
 use Rattle.train_update.specs.State.{Ended, atEnd, blockedAt, again}
 use Rattle.train_update.specs.Update as Update
 use Rattle.train_update.specs.Accepted.{Accepted}
@@ -17,12 +18,12 @@ use Rattle.train_update.specs.Fits.{Fits}
 use Rattle.train_update.specs.declared.Move.{Move}
 use Rattle.train_update.specs.declared.Move.the-variants.{Rewind, Alternate, ChangeDiverge, PushSaved, BlockEmpty, Advance, Join}
 use Rattle.update_laws.specs.FitsGood.{TrainFits}
-use Rattle.search.specs.Read.{divsOf, pathOf, roundOf, searchIn, arrays, Marked}
+use Rattle.search.specs.Read.{divsOf, pathOf, roundOf, searchIn, Arrays, arrays, Marked}
 use Rattle.search.specs.declared.Round.{Round}
 use Rattle.search.specs.declared.Place.{Place}
 use Rattle.search.specs.declared.look.Here.{Here}
 use Rattle.search_loop.specs.Runs.{Begins}
-use Rattle.splice.specs.Read.{trainOf}
+use Rattle.splice.specs.Read.{trainOf, Kept}
 use Rattle.splice.specs.declared.Reached.{Reached}
 use Rattle.round.specs.declared.Given.{Given}
 use Rattle.round.specs.declared.End.{End}
@@ -40,9 +41,10 @@ pub record Held (occ img on dt dn : List ℕ) (h : PathHeader) : Type 0 where
   pub size : nodePlace (estCount img) (estCount img) ≤ length img
   pub marked : Marked on (pathOf img (h .«path_count»))
 
--- the room that is lent
-pub record Room (fresh dt dn pool begins ends nt nn : List ℕ) : Type 0 where
-  pub buffer : length fresh ≡ 16448
+-- the room that is lent, for a train with n est records; size is the buffer's
+pub record Room (n size : ℕ) (fresh dt dn pool begins ends nt nn : List ℕ) : Type 0 where
+  pub buffer : length fresh ≡ size
+  pub enough : nodePlace 0 n ≤ size
   pub trains : length dt ≡ 1024
   pub nodes : length dn ≡ 1024
   pub pooled : length pool ≡ 2048
@@ -142,3 +144,17 @@ reachedAt r p h k =
       «new_count» = k;
       «div_count» = p .«div_count»;
     }
+
+-- the search from s ends the round with x
+abbrev pub SearchEnded : List ℕ → List ℕ → List ℕ → List ℕ → PathHeader → Round → State.Search → RoundEnd → List ℕ → List ℕ → List ℕ → Type 0
+SearchEnded occ img dt dn h r s x img₁ dt₁ dn₁ =
+    (endedOf x (trainOf img₁ dt₁ dn₁ (x .header)) ≡ Update.searchFrom (Update.turnLimit (roundOf (trainOf img dt dn h) occ img dt dn r .train)) (roundOf (trainOf img dt dn h) occ img dt dn r) s)
+    × (isRefused (x .end) ≡ false → Kept img₁ img)
+    × (isAtEnd (x .end) ≡ false)
+
+-- a search whose pool, views and new diverge nodes are zeros
+abbrev pub zeros : Arrays
+zeros = arrays (replicate 2048 0) (replicate 512 0) (replicate 512 0)
+
+abbrev pub zeroed : ℕ → Place → State.Search
+zeroed n p = searchIn n p [] (divsOf (p .«div_count») (replicate 1024 0) (replicate 1024 0)) zeros

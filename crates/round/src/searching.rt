@@ -1,11 +1,11 @@
 // The search of a round and its end (free_path.rs 345-633).
-ghost use mathlib.Core.Path.{_≡_};
-ghost use mathlib.Core.Bool.{false};
 ghost use mathlib.Core.List.{[]};
-ghost use Rattle.train_update.specs.Update.{turnLimit, searchFrom};
-ghost use Rattle.search.specs.Read.{divsOf, roundOf, searchIn, arrays};
-ghost use Rattle.splice.specs.Read.{trainOf, Kept};
-ghost use Rattle.round.specs.Rounds.{Held, Room, Searching, endedOf, isRefused, isAtEnd};
+ghost use Prim.Native.Nat.{_≤_};
+ghost use mathlib.Core.Path.{_≡_};
+ghost use lib.ListN.{length, replicate};
+ghost use Rattle.image.specs.Image.{estCount};
+ghost use Rattle.search.specs.Read.{divsOf, searchIn, arrays};
+ghost use Rattle.round.specs.Rounds.{Held, Room, Searching, SearchEnded, zeros, zeroed};
 use crate::RoundEnd;
 use crate::ending;
 use image::codec::PathHeader;
@@ -15,7 +15,7 @@ use search::Round;
 use search_moves::turn;
 
 // A search from start, and how it ends the round.
-pub(crate) fn search_round(
+fn search_round(
     img: &mut [u8],
     fresh: &mut [u8],
     occ: &[u16],
@@ -31,8 +31,8 @@ pub(crate) fn search_round(
     nt: &mut [u16],
     nn: &mut [u16],
 ) -> RoundEnd
-    requires { ⌜ Held (now occ) (now img) (now on) (now dt) (now dn) h × Room (now fresh) (now dt) (now dn) (now pool) (now begins) (now ends) (now nt) (now nn) × Searching (now occ) (now img) (now dt) (now dn) h r start (now pool) (now begins) (now ends) (now nt) (now nn) ⌝ }
-    ensures { λ x. ⌜ (endedOf x (trainOf (now (img .exit)) (now (dt .exit)) (now (dn .exit)) (x .header)) ≡ searchFrom (turnLimit ((roundOf (trainOf (now (img .entry)) (now (dt .entry)) (now (dn .entry)) h) (now (occ .entry)) (now (img .entry)) (now (dt .entry)) (now (dn .entry)) r) .train)) (roundOf (trainOf (now (img .entry)) (now (dt .entry)) (now (dn .entry)) h) (now (occ .entry)) (now (img .entry)) (now (dt .entry)) (now (dn .entry)) r) (searchIn (r .«est_count») start [] (divsOf (start .«div_count») (now (nt .entry)) (now (nn .entry))) (arrays (now (pool .entry)) (now (begins .entry)) (now (ends .entry))))) × (isRefused (x .end) ≡ false → Kept (now (img .exit)) (now (img .entry))) × (isAtEnd (x .end) ≡ false) ⌝ }
+    requires { ⌜ Held (now occ) (now img) (now on) (now dt) (now dn) h × Room (estCount (now img)) (length (now fresh)) (now fresh) (now dt) (now dn) (now pool) (now begins) (now ends) (now nt) (now nn) × Searching (now occ) (now img) (now dt) (now dn) h r start (now pool) (now begins) (now ends) (now nt) (now nn) ⌝ }
+    ensures { λ x. ⌜ SearchEnded (now (occ .entry)) (now (img .entry)) (now (dt .entry)) (now (dn .entry)) h r (searchIn (r .«est_count») start [] (divsOf (start .«div_count») (now (nt .entry)) (now (nn .entry))) (arrays (now (pool .entry)) (now (begins .entry)) (now (ends .entry)))) x (now (img .exit)) (now (dt .exit)) (now (dn .exit)) ⌝ }
 {
     octets::put_u32(fresh, 4, 0);
     let s = search_loop::run(
@@ -76,4 +76,100 @@ pub(crate) fn search_round(
         nt,
         nn,
     )
+}
+
+// The search in room of its own, the buffer that of the largest train.
+fn search_large(
+    img: &mut [u8],
+    occ: &[u16],
+    on: &[u8],
+    h: PathHeader,
+    r: Round,
+    start: Place,
+    dt: &mut [u16],
+    dn: &mut [u16],
+) -> RoundEnd
+    requires { ⌜ Held (now occ) (now img) (now on) (now dt) (now dn) h × (length (now dt) ≡ 1024) × (length (now dn) ≡ 1024) × Searching (now occ) (now img) (now dt) (now dn) h r start (zeros .pool) (zeros .begins) (zeros .ends) (replicate 1024 0) (replicate 1024 0) ⌝ }
+    ensures { λ x. ⌜ SearchEnded (now (occ .entry)) (now (img .entry)) (now (dt .entry)) (now (dn .entry)) h r (zeroed (r .«est_count») start) x (now (img .exit)) (now (dt .exit)) (now (dn .exit)) ⌝ }
+{
+    let mut fresh = [0u8; 16448];
+    let mut pool = [0u16; 2048];
+    let mut begins = [0u32; 512];
+    let mut ends = [0u32; 512];
+    let mut nt = [0u16; 1024];
+    let mut nn = [0u16; 1024];
+    search_round(
+        img,
+        &mut fresh,
+        occ,
+        on,
+        h,
+        r,
+        start,
+        dt,
+        dn,
+        &mut pool,
+        &mut begins,
+        &mut ends,
+        &mut nt,
+        &mut nn,
+    )
+}
+
+// The same for a train of at most 64 est records, whose buffer takes less time to clear.
+fn search_small(
+    img: &mut [u8],
+    occ: &[u16],
+    on: &[u8],
+    h: PathHeader,
+    r: Round,
+    start: Place,
+    dt: &mut [u16],
+    dn: &mut [u16],
+) -> RoundEnd
+    requires { ⌜ Held (now occ) (now img) (now on) (now dt) (now dn) h × (length (now dt) ≡ 1024) × (length (now dn) ≡ 1024) × Searching (now occ) (now img) (now dt) (now dn) h r start (zeros .pool) (zeros .begins) (zeros .ends) (replicate 1024 0) (replicate 1024 0) × (estCount (now img) ≤ 64) ⌝ }
+    ensures { λ x. ⌜ SearchEnded (now (occ .entry)) (now (img .entry)) (now (dt .entry)) (now (dn .entry)) h r (zeroed (r .«est_count») start) x (now (img .exit)) (now (dt .exit)) (now (dn .exit)) ⌝ }
+{
+    let mut fresh = [0u8; 2112];
+    let mut pool = [0u16; 2048];
+    let mut begins = [0u32; 512];
+    let mut ends = [0u32; 512];
+    let mut nt = [0u16; 1024];
+    let mut nn = [0u16; 1024];
+    search_round(
+        img,
+        &mut fresh,
+        occ,
+        on,
+        h,
+        r,
+        start,
+        dt,
+        dn,
+        &mut pool,
+        &mut begins,
+        &mut ends,
+        &mut nt,
+        &mut nn,
+    )
+}
+
+// The search from start, by the number of est records.
+pub(crate) fn search(
+    img: &mut [u8],
+    occ: &[u16],
+    on: &[u8],
+    h: PathHeader,
+    r: Round,
+    start: Place,
+    dt: &mut [u16],
+    dn: &mut [u16],
+) -> RoundEnd
+    requires { ⌜ Held (now occ) (now img) (now on) (now dt) (now dn) h × (length (now dt) ≡ 1024) × (length (now dn) ≡ 1024) × Searching (now occ) (now img) (now dt) (now dn) h r start (zeros .pool) (zeros .begins) (zeros .ends) (replicate 1024 0) (replicate 1024 0) ⌝ }
+    ensures { λ x. ⌜ SearchEnded (now (occ .entry)) (now (img .entry)) (now (dt .entry)) (now (dn .entry)) h r (zeroed (r .«est_count») start) x (now (img .exit)) (now (dt .exit)) (now (dn .exit)) ⌝ }
+{
+    if r.est_count <= 64 {
+        return search_small(img, occ, on, h, r, start, dt, dn);
+    }
+    search_large(img, occ, on, h, r, start, dt, dn)
 }

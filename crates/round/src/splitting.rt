@@ -4,18 +4,17 @@ ghost use mathlib.Core.Bool.{true, false};
 ghost use mathlib.Core.List.{List};
 ghost use Prim.Native.Nat.{ℕ, _^_, _≤_, _<_};
 ghost use lib.Ieee.{Float, lt};
-ghost use lib.ListN.{length, replicate, set};
+ghost use lib.ListN.{length};
 ghost use Rattle.link_rules.specs.declared.link_idx.LinkIdx.{LinkIdx};
 ghost use Rattle.disp_structs.specs.Listed.{listed};
-ghost use Rattle.disp_structs.specs.Values.{view};
 ghost use Rattle.image.specs.Image.{nodeAt, distDispPathSearch};
 ghost use Rattle.free_path.specs.Columns.{linkAt};
 ghost use Rattle.free_path.specs.SearchLimit.{offsetCancel};
 ghost use Rattle.free_path.specs.LinkOptType.{linkIdxPath};
 ghost use Rattle.train_update.specs.Update.{roundOf, searchRound};
-ghost use Rattle.search.specs.Read.{viewsOf, pathOf};
+ghost use Rattle.search.specs.Read.{pathOf};
 ghost use Rattle.splice.specs.Read.{trainOf, Kept};
-ghost use Rattle.round.specs.Rounds.{Held, Room, Numbers, givenOf, startAt, endedOf, isRefused, isAtEnd};
+ghost use Rattle.round.specs.Rounds.{Held, Numbers, givenOf, startAt, endedOf, isRefused, isAtEnd};
 use crate::End;
 use crate::Given;
 use crate::RoundEnd;
@@ -30,29 +29,6 @@ use round_start::path;
 use round_start::split;
 use search::Place;
 use search::Round;
-
-// The views of n est records become those that no train blocks.
-fn clear_views(begins: &mut [u32], ends: &mut [u32], n: usize)
-    requires { ⌜ (n ≤ length (now begins)) × (n ≤ length (now ends)) ⌝ }
-    ensures { λ _. ⌜ viewsOf n (now (begins .exit)) (now (ends .exit)) ≡ replicate n (view 0 0) ⌝ }
-{
-    let mut i = 0;
-    while i < n {
-        begins[i] = 0;
-        ends[i] = 0;
-        i += 1;
-    }
-}
-
-// The pool and the new diverge nodes with their first entries alone.
-fn clear_first(pool: &mut [u16], nt: &mut [u16], nn: &mut [u16])
-    requires { ⌜ (0 < length (now pool)) × (0 < length (now nt)) × (0 < length (now nn)) ⌝ }
-    ensures { λ _. ⌜ (now (pool .exit) ≡ set (now (pool .entry)) 0 0) × (now (nt .exit) ≡ set (now (nt .entry)) 0 0) × (now (nn .exit) ≡ set (now (nn .entry)) 0 0) ⌝ }
-{
-    pool[0] = 0;
-    nt[0] = 0;
-    nn[0] = 0;
-}
 
 fn refused(code: u32, h: PathHeader) -> RoundEnd
     ensures { λ x. ⌜ x ≡ record { end = End.Refused code; header = h; split = 0; «div_split» = 0 } ⌝ }
@@ -116,7 +92,6 @@ fn place_of(h: PathHeader, split: usize, div_split: usize, save: usize) -> Place
 // The search from the split point.
 fn search_at(
     img: &mut [u8],
-    fresh: &mut [u8],
     occ: &[u16],
     on: &[u8],
     g: Given,
@@ -126,23 +101,12 @@ fn search_at(
     z: IdxSentinels,
     dt: &mut [u16],
     dn: &mut [u16],
-    pool: &mut [u16],
-    begins: &mut [u32],
-    ends: &mut [u32],
-    nt: &mut [u16],
-    nn: &mut [u16],
 ) -> RoundEnd
-    requires { ⌜ Held (now occ) (now img) (now on) (now dt) (now dn) h × Room (now fresh) (now dt) (now dn) (now pool) (now begins) (now ends) (now nt) (now nn) × (1 ≤ split) × (split < h .«path_count») ⌝ }
+    requires { ⌜ Held (now occ) (now img) (now on) (now dt) (now dn) h × (length (now dt) ≡ 1024) × (length (now dn) ≡ 1024) × (1 ≤ split) × (split < h .«path_count») ⌝ }
     ensures { λ x. ⌜ ((blocking start : List LinkIdx) → endedOf x (trainOf (now (img .exit)) (now (dt .exit)) (now (dn .exit)) (x .header)) ≡ searchRound (givenOf g (now (occ .entry)) blocking start) (trainOf (now (img .entry)) (now (dt .entry)) (now (dn .entry)) h) split «div_split» (record { node = z .node; divs = z .divs })) × (isRefused (x .end) ≡ false → Kept (now (img .exit)) (now (img .entry))) × (isAtEnd (x .end) ≡ false) ⌝ }
 {
-    let d = diverge::div_at(
-        dn,
-        h.diverge_count as usize,
-        split,
-        div_split,
-        z.node,
-        z.divs,
-    );
+    let m = h.diverge_count as usize;
+    let d = diverge::div_at(dn, m, split, div_split, z.node, z.divs);
     if d.code != 0 {
         return refused(d.code, h);
     }
@@ -152,30 +116,12 @@ fn search_at(
     }
     let r = round_of(img, g, h, split);
     let p = place_of(h, split, d.index, k.index);
-    clear_views(begins, ends, r.est_count);
-    clear_first(pool, nt, nn);
-    searching::search_round(
-        img,
-        fresh,
-        occ,
-        on,
-        h,
-        r,
-        p,
-        dt,
-        dn,
-        pool,
-        begins,
-        ends,
-        nt,
-        nn,
-    )
+    searching::search(img, occ, on, h, r, p, dt, dn)
 }
 
 // One round; col is link_idx_path, on the flags of the path.
 pub fn round(
     img: &mut [u8],
-    fresh: &mut [u8],
     occ: &[u16],
     col: &[u32],
     on: &[u8],
@@ -185,59 +131,23 @@ pub fn round(
     div_split: usize,
     dt: &mut [u16],
     dn: &mut [u16],
-    pool: &mut [u16],
-    begins: &mut [u32],
-    ends: &mut [u32],
-    nt: &mut [u16],
-    nn: &mut [u16],
 ) -> RoundEnd
-    requires { ⌜ Held (now occ) (now img) (now on) (now dt) (now dn) h × Room (now fresh) (now dt) (now dn) (now pool) (now begins) (now ends) (now nt) (now nn) × (listed (h .«path_count») (linkAt (now col)) ≡ linkIdxPath (pathOf (now img) (h .«path_count»))) × (1 ≤ split) × (1 ≤ «div_split») ⌝ }
+    requires { ⌜ Held (now occ) (now img) (now on) (now dt) (now dn) h × (length (now dt) ≡ 1024) × (length (now dn) ≡ 1024) × (listed (h .«path_count») (linkAt (now col)) ≡ linkIdxPath (pathOf (now img) (h .«path_count»))) × (1 ≤ split) × (1 ≤ «div_split») ⌝ }
     ensures { λ x. ⌜ ((blocking start : List LinkIdx) → endedOf x (trainOf (now (img .exit)) (now (dt .exit)) (now (dn .exit)) (x .header)) ≡ roundOf (givenOf g (now (occ .entry)) blocking start) (trainOf (now (img .entry)) (now (dt .entry)) (now (dn .entry)) h) split «div_split») × (isRefused (x .end) ≡ false → Kept (now (img .exit)) (now (img .entry))) × (isAtEnd (x .end) ≡ true → trainOf (now (img .exit)) (now (dt .exit)) (now (dn .exit)) (x .header) ≡ trainOf (now (img .entry)) (now (dt .entry)) (now (dn .entry)) h) ⌝ }
 {
-    let n = h.path_count as usize;
-    let z = link_opt_type::calc_idx_sentinels(
-        div_split,
-        g.train_idx_moved,
-        dt,
-        dn,
-        h.diverge_count as usize,
-    );
+    let n = h.path_count;
+    let m = h.diverge_count as usize;
+    let z = link_opt_type::calc_idx_sentinels(div_split, g.train_idx_moved, dt, dn, m);
     if z.code != 0 {
         return refused(z.code, h);
     }
     let class = g.link_opt_type;
-    let i = split::split_point(
-        class,
-        img,
-        h.path_count,
-        col,
-        occ,
-        h.free as usize,
-        split,
-        z.node,
-    );
+    let i = split::split_point(class, img, n, col, occ, h.free as usize, split, z.node);
     if i.code != 0 {
         return refused(i.code, h);
     }
-    if n <= i.index {
+    if n as usize <= i.index {
         return at_end(h);
     }
-    search_at(
-        img,
-        fresh,
-        occ,
-        on,
-        g,
-        h,
-        i.index,
-        div_split,
-        z,
-        dt,
-        dn,
-        pool,
-        begins,
-        ends,
-        nt,
-        nn,
-    )
+    search_at(img, occ, on, g, h, i.index, div_split, z, dt, dn)
 }

@@ -1,23 +1,27 @@
 -- The turns of the loop: how it begins, goes on and stops, and the bounds by which it indexes. Assumes nothing.
 use Prim.Native.Nat.{ℕ, zero, suc, _+_, _-_, _^_, _≤_, _<_}
-use mathlib.Core.Path.{_≡_, refl, sym, ap, subst, _∙_}
-use mathlib.Core.Bool.{true, false, cond}
+use mathlib.Core.Path.{_≡_, refl, sym, ap, ap₂, subst, _∙_}
+use mathlib.Core.Bool.{Bool, true, false, cond}
 use mathlib.Core.List.{List, [], _∷_, _++_}
+use mathlib.Core.Logic.{⊎-elim}
 use native.Mathlib.Omega.{arith}
 use lib.Dec.{T, eqb}
 use lib.Ieee.{Float, nan, inf, fin, isNan, eq, le}
 use mathlib.Core.Bool.{not}
 use lib.ListN.{length, getD, take, set, length-append}
-use lib.Seq.{take-take, take-suc-set, length-take-le, take-append-le, take-all}
-use borrow.Author.Tests.{ne-eqb}
+use lib.Seq.{take-append-le, take-all, getD-at, getD-set-same, getD-set-other}
+use borrow.Author.Tests.{ne-eqb, eq-eqb, eqb-true, eqb-false}
 use Rattle.disp_structs.specs.Listed.{listed}
-use Rattle.disp_structs.proofs.ListedLaws.{listed-length}
+use Rattle.disp_structs.proofs.ListedLaws.{listed-length, listed-same, listed-at}
 use Rattle.disp_structs.specs.Train.{Train}
 use Rattle.disp_structs.specs.Floats.{inReach}
 use Rattle.disp_structs.specs.declared.DispNode.{DispNode}
-use Rattle.image.specs.Image.{nodeAt}
-use Rattle.free_path.specs.Base.{Res, ok, no}
-use Rattle.free_path.proofs.CountLaws.{read, top}
+use Rattle.disp_structs.specs.declared.EstType.the-variants.{Arrive}
+use Rattle.image.specs.Image.{estCount, nodePlace, estAt, nodeAt, putNode}
+use Rattle.free_path.specs.Base.{Res, ok, no, at}
+use Rattle.free_path.proofs.CountLaws.{top}
+use Rattle.free_path.proofs.WalkLaws.{at-in}
+use Rattle.search.proofs.ListedLaws.{listed-take, same-or-not, below-or-not}
 use Rattle.free_path.proofs.ColumnLaws.{listed-read}
 use Rattle.train_update.specs.State as State
 use Rattle.train_update.specs.Look as Look
@@ -38,23 +42,106 @@ use Rattle.search_moves.specs.declared.Effect.{Effect}
 use Rattle.search_moves.specs.declared.Effect.the-variants.{Refused, Push, Pop, Stay, GiveUp}
 use Rattle.search_loop.specs.declared.Next.{Next}
 use Rattle.search_moves.proofs.TurnLaws.{turn-done, Answers}
-use Rattle.splice.proofs.NodeLaws.{reach-number}
-use Rattle.splice.specs.Parts.{Sound, blank}
+use Rattle.splice.proofs.NodeLaws.{reach-number, put-kept, put-other, put-same, kept-eq}
+use Rattle.splice.specs.Parts.{Sound}
+use Rattle.splice.specs.Read.{Kept}
 use Rattle.search_loop.specs.Runs.{endOf, counted, Follows, FollowsTurn, Begins, Going, Ran}
 
--- ---- the new path as an array
+-- what the rule of an array read gives past the end
+abbrev pub blank : DispNode
+blank =
+    record {
+      offset = record { 0 = nan };
+      «time_pass» = record { 0 = nan };
+      «link_event» = record { «link_idx» = record { 0 = 0 }; «est_type» = Arrive };
+      «est_idx» = record { 0 = 0 };
+      «disp_auth_idx_entry» = 0;
+    }
+
+-- ---- the new path in its buffer
 
 -- the last node of the new path, else the node before the split
-pub current-is : (n split k : ℕ) (f : ℕ → DispNode) (new : List DispNode) (d : DispNode) → 1 ≤ split → split ≤ n → k ≤ length new
-    → current (listed n f) (take k new) split ≡ ok (cond (eqb k 0) (f (split - 1)) (getD new (k - 1) d))
-current-is n zero k f new d a b c = absurd (omega arith)
-current-is n (suc j) zero f new d a b c = let e : suc j - 1 ≡ j = omega arith in rw e (listed-read n f j (omega arith))
-current-is n (suc j) (suc k) f [] d a b c = absurd (omega arith)
-current-is n (suc j) (suc k) f (x ∷ xs) d a b c = let e : suc k - 1 ≡ k = omega arith in rw (e, ne-eqb (suc k) 0 (omega arith)) (top (x ∷ xs) k d (omega arith))
+abbrev pub currentIn : List ℕ → List ℕ → ℕ → ℕ → DispNode
+currentIn img fresh split k = cond (eqb k 0) (nodeAt img (split - 1)) (nodeAt fresh (k - 1))
 
--- a node is written behind k nodes, of which with it c count
-pub write-is : (new : List DispNode) (k c : ℕ) (n : DispNode) → k < length new → c ≤ k + 1 → take c (set new k n) ≡ take c (take k new ++ (n ∷ []))
-write-is new k c n h l = sym (take-take c (suc k) (set new k n) (omega arith)) ∙ ap (take c) (take-suc-set new k n h)
+current-take : (n split k : ℕ) (f : ℕ → DispNode) (new : List DispNode) (d : DispNode) → 1 ≤ split → split ≤ n → k ≤ length new
+    → current (listed n f) (take k new) split ≡ ok (cond (eqb k 0) (f (split - 1)) (getD new (k - 1) d))
+current-take n zero k f new d a b c = absurd (omega arith)
+current-take n (suc j) zero f new d a b c = let e : suc j - 1 ≡ j = omega arith in rw e (listed-read n f j (omega arith))
+current-take n (suc j) (suc k) f [] d a b c = absurd (omega arith)
+current-take n (suc j) (suc k) f (x ∷ xs) d a b c = let e : suc k - 1 ≡ k = omega arith in rw (e, ne-eqb (suc k) 0 (omega arith)) (top (x ∷ xs) k d (omega arith))
+
+current-is : (n split k : ℕ) (f g : ℕ → DispNode) → 1 ≤ split → split ≤ n → current (listed n f) (listed k g) split ≡ ok (cond (eqb k 0) (f (split - 1)) (g (k - 1)))
+current-is n split k f g a b =
+    ap (λ (ns : List DispNode). current (listed n f) ns split) (sym (take-all k (listed k g) (omega (arith, listed-length k g))))
+    ∙ current-take n split k f (listed k g) (g 0) a b (omega (arith, listed-length k g))
+    ∙ ap ok (last k)
+  where
+    last : (m : ℕ) → cond (eqb m 0) (f (split - 1)) (getD (listed m g) (m - 1) (g 0)) ≡ cond (eqb m 0) (f (split - 1)) (g (m - 1))
+    last zero = refl
+    last (suc m) = let e : suc m - 1 ≡ m = omega arith in rw e (ap (cond (eqb (suc m) 0) (f (split - 1))) (listed-at (suc m) g m (g 0) (omega arith)))
+
+-- a node goes behind k nodes
+module _ (fresh : List ℕ) (k : ℕ) (n : DispNode) (l : nodePlace (estCount fresh) (k + 1) ≤ length fresh) (s : Sound n) where
+  abbrev longer-by : List ℕ
+  longer-by = putNode n (nodePlace (estCount fresh) k) fresh
+
+  put-last : nodeAt longer-by k ≡ n
+  put-last = put-same n fresh k l s
+
+  put-all : listed (suc k) (nodeAt longer-by) ≡ listed k (nodeAt fresh) ++ (n ∷ [])
+  unfolding listed
+  put-all = ap₂ (λ (xs : List DispNode) (y : DispNode). xs ++ (y ∷ [])) (listed-same k (nodeAt fresh) (nodeAt longer-by) (λ i h. put-other n fresh k i (λ w. omega arith))) put-last
+
+-- where it is one of the c nodes that count
+module _ (fresh fresh1 : List ℕ) (k : ℕ) (n : DispNode) (c : ℕ) (e : fresh1 ≡ cond (eqb c (k + 1)) (putNode n (nodePlace (estCount fresh) k) fresh) fresh) where
+  pub written-kept : Kept fresh1 fresh
+  written-kept = kept-eq fresh1 _ fresh e (go (eqb c (k + 1)))
+    where
+      go : (b : Bool) → Kept (cond b (putNode n (nodePlace (estCount fresh) k) fresh) fresh) fresh
+      go true = put-kept n fresh k
+      go false = record { size = refl; below = λ i h. refl }
+
+  module _ (l : nodePlace (estCount fresh) (k + 1) ≤ length fresh) (s : c ≡ k + 1 → Sound n) where
+    pub written : c ≤ k + 1 → listed c (nodeAt fresh1) ≡ take c (listed k (nodeAt fresh) ++ (n ∷ []))
+    written h = ap (λ (bs : List ℕ). listed c (nodeAt bs)) e ∙ go (eqb c (k + 1)) refl
+      where
+        long : length (listed k (nodeAt fresh)) ≡ k
+        long = listed-length k (nodeAt fresh)
+
+        go : (b : Bool) → eqb c (k + 1) ≡ b → listed c (nodeAt (cond b (putNode n (nodePlace (estCount fresh) k) fresh) fresh)) ≡ take c (listed k (nodeAt fresh) ++ (n ∷ []))
+        go true q =
+            let w : c ≡ suc k = omega (arith, eqb-true c (k + 1) q) in
+            rw w (put-all fresh k n l (s (eqb-true c (k + 1) q))) ∙ sym (take-all c (listed k (nodeAt fresh) ++ (n ∷ [])) (omega (arith, length-append (listed k (nodeAt fresh)) (n ∷ []), long)))
+        go false q =
+            let w = eqb-false c (k + 1) q in
+            let m : c ≤ k = below-next w in
+            sym (take-append-le c (listed k (nodeAt fresh)) (n ∷ []) (omega (arith, long)) ∙ listed-take c k (nodeAt fresh) m)
+          where
+            below-next : (c ≡ k + 1 → ⊥) → c ≤ k
+            below-next w = ⊎-elim (λ (u : c < k + 1). omega arith) (λ (u : k + 1 ≤ c). absurd (w (omega arith))) (below-or-not c (k + 1))
+
+    -- and the array has the same nodes
+    pub array-next : (new : List DispNode) (d : DispNode) → k < length new → ((i : ℕ) → i < k → getD new i d ≡ nodeAt fresh i) → (i : ℕ) → i < c → c ≤ k + 1 → getD (set new k n) i d ≡ nodeAt fresh1 i
+    array-next new d m h i j w = ⊎-elim
+        (λ (q : i ≡ k).
+        let v : c ≡ k + 1 = omega arith in
+        let u : fresh1 ≡ putNode n (nodePlace (estCount fresh) k) fresh = e ∙ ap (λ (b : Bool). cond b (putNode n (nodePlace (estCount fresh) k) fresh) fresh) (eq-eqb c (k + 1) v) in
+        rw (q, u) (getD-set-same new k n d m ∙ sym (put-last fresh k n l (s v))))
+        (λ (q : i ≡ k → ⊥). getD-set-other new k i n d q ∙ h i (less q) ∙ sym (ap (λ (bs : List ℕ). nodeAt bs i) e ∙ same (eqb c (k + 1)) q))
+        (same-or-not i k)
+      where
+        less : (i ≡ k → ⊥) → i < k
+        less q = ⊎-elim (λ (u : i < k). u) (λ (u : k ≤ i). absurd (q (omega arith))) (below-or-not i k)
+
+        same : (b : Bool) → (i ≡ k → ⊥) → nodeAt (cond b (putNode n (nodePlace (estCount fresh) k) fresh) fresh) i ≡ nodeAt fresh i
+        same true q = put-other n fresh k i q
+        same false q = refl
+
+-- the current node as the array has it
+pub current-in : (img fresh : List ℕ) (split c : ℕ) (new : List DispNode) (d : DispNode) → ((i : ℕ) → i < c → getD new i d ≡ nodeAt fresh i) → cond (eqb c 0) (nodeAt img (split - 1)) (getD new (c - 1) d) ≡ currentIn img fresh split c
+current-in img fresh split zero new d h = refl
+current-in img fresh split (suc c) new d h = ap (cond (eqb (suc c) 0) (nodeAt img (split - 1))) (let e : suc c - 1 ≡ c = omega arith in rw e (h c (omega arith)))
 
 -- ---- after a turn
 
@@ -106,8 +193,8 @@ follows-done go e k x q f = record {
 
 module _ (links : ℕ) (r : State.Round) (g : Accepted links (r .train)) (e : ℕ) (p : Place) (new : List DispNode) (nt nn : List ℕ) (a : Arrays)
     (k : Good links r (searchIn e p new (divsOf (p .«div_count») nt nn) a)) (l : length new ≡ p .«new_count») where
-  pub place-split : (1 ≤ p .«idx_split») × (p .«idx_split» < length (r .train .«disp_path»)) × (p .«idx_split» + p .«new_count» ≤ 512)
-  place-split = let b = good-bounds links r g (searchIn e p new (divsOf (p .«div_count») nt nn) a) k in (b .split-low, b .split-high, omega (arith, b .join-512, l))
+  pub place-split : (1 ≤ p .«idx_split») × (p .«idx_split» < length (r .train .«disp_path»)) × (p .«idx_split» + p .«new_count» ≤ 512) × (p .«idx_split» + p .«new_count» ≤ length (r .train .«est_times»))
+  place-split = let b = good-bounds links r g (searchIn e p new (divsOf (p .«div_count») nt nn) a) k in (b .split-low, b .split-high, omega (arith, b .join-512, l), omega (arith, b .join-high, l))
 
   pub place-small : p .«pool_count» ≤ 2048 → Small p
   place-small m =
@@ -154,64 +241,77 @@ module _ (links : ℕ) (r : State.Round) (s₀ : State.Search) (b : Begins links
   unfolding searchFrom
   going-out n₀ s g = sym (g .same)
 
--- ---- the loop's own values: the new path is an array of 512 nodes, of which p says how many count
+-- a node of the new path is one that a path record holds
+node-sound : (links : ℕ) (r : State.Round) (s₀ : State.Search) (b : Begins links r s₀) (n₀ n : ℕ) (s : State.Search) (g : Going links r n₀ s₀ n s) (i : ℕ) (x : DispNode) → at (s .«disp_path_new») i ≡ ok x → Sound x
+node-sound links r s₀ b n₀ n s g i x q =
+    let y = g .good .nodes-good i x q in
+    let z = g .fits .nodes i x q in
+    record {
+      offset = (z .offset-fits, reach-number (x .offset .0) (y .reach));
+      time = (z .time-fits, time-number (x .«time_pass» .0) (y .time));
+      link = omega (arith, y .event .link, b .few);
+      est = omega (arith, y .est, b .accepted .ests .few);
+      auth = z .auth;
+    }
+
+-- ---- the loop's own values: the new path as the buffer has it, and p says how many nodes of it count
 
 module _ (occ img dt dn : List ℕ) (r : Round) (t : Train) (s₀ : State.Search) (b : Begins (length occ) (roundOf t occ img dt dn r) s₀)
-    (n₀ left : ℕ) (p : Place) (new : List DispNode) (nt nn : List ℕ) (a : Arrays) (l : length new ≡ 512) (k : p .«new_count» ≤ 512)
-    (g : Going (length occ) (roundOf t occ img dt dn r) n₀ s₀ left (searchIn (r .«est_count») p (take (p .«new_count») new) (divsOf (p .«div_count») nt nn) a)) where
+    (n₀ left : ℕ) (p : Place) (fresh nt nn : List ℕ) (a : Arrays)
+    (g : Going (length occ) (roundOf t occ img dt dn r) n₀ s₀ left (searchIn (r .«est_count») p (listed (p .«new_count») (nodeAt fresh)) (divsOf (p .«div_count») nt nn) a)) where
   abbrev round : State.Round
   round = roundOf t occ img dt dn r
 
-  new-long : length (take (p .«new_count») new) ≡ p .«new_count»
-  new-long = length-take-le (p .«new_count») new (omega arith)
+  abbrev new : List DispNode
+  new = listed (p .«new_count») (nodeAt fresh)
 
-  pub top-split : (1 ≤ p .«idx_split») × (p .«idx_split» ≤ r .«path_count») × (p .«idx_split» + p .«new_count» ≤ 512)
+  pub new-long : length new ≡ p .«new_count»
+  new-long = listed-length (p .«new_count») (nodeAt fresh)
+
+  pub top-split : (1 ≤ p .«idx_split») × (p .«idx_split» ≤ r .«path_count») × (p .«idx_split» + p .«new_count» ≤ 512) × (p .«idx_split» + p .«new_count» ≤ r .«est_count»)
   top-split =
-      let w = place-split (length occ) round (b .accepted) (r .«est_count») p (take (p .«new_count») new) nt nn a (g .good) new-long in
-      (w .0, omega (arith, w .1, listed-length (r .«path_count») (nodeAt img)), w .2)
+      let w = place-split (length occ) round (b .accepted) (r .«est_count») p new nt nn a (g .good) new-long in
+      (w .0, omega (arith, w .1, listed-length (r .«path_count») (nodeAt img)), w .2, omega (arith, w .3, listed-length (r .«est_count») (estAt img)))
 
   pub top-small : p .«pool_count» ≤ 2048 → Small p
-  top-small m = place-small (length occ) round (b .accepted) (r .«est_count») p (take (p .«new_count») new) nt nn a (g .good) new-long m
+  top-small m = place-small (length occ) round (b .accepted) (r .«est_count») p new nt nn a (g .good) new-long m
 
-  pub top-current : current (pathOf img (r .«path_count»)) (take (p .«new_count») new) (p .«idx_split») ≡ ok (cond (eqb (p .«new_count») 0) (nodeAt img (p .«idx_split» - 1)) (getD new (p .«new_count» - 1) blank))
-  top-current = current-is (r .«path_count») (p .«idx_split») (p .«new_count») (nodeAt img) new blank (top-split .0) (top-split .1) (omega arith)
-
-  pub top-sound : (i : ℕ) → i < p .«new_count» → Sound (getD new i blank)
-  top-sound i m =
-      let q = read new (p .«new_count») i blank m (omega arith) in
-      let x = g .good .nodes-good i (getD new i blank) q in
-      let y = g .fits .nodes i (getD new i blank) q in
-      record {
-        offset = (y .offset-fits, reach-number (getD new i blank .offset .0) (x .reach));
-        time = (y .time-fits, time-number (getD new i blank .«time_pass» .0) (x .time));
-        link = omega (arith, x .event .link, b .few);
-        est = omega (arith, x .est, b .accepted .ests .few);
-        auth = y .auth;
-      }
+  pub top-current : current (pathOf img (r .«path_count»)) new (p .«idx_split») ≡ ok (currentIn img fresh (p .«idx_split») (p .«new_count»))
+  top-current = current-is (r .«path_count») (p .«idx_split») (p .«new_count») (nodeAt img) (nodeAt fresh) (top-split .0) (top-split .1)
 
   -- a turn was made
   module _ (nt′ nn′ : List ℕ) (a′ : Arrays) (go : Move) (e : Effect) (h : Look.Here) (q : Place) (m : ℕ) (n : left ≡ suc m)
-      (w : Answers go e round h (searchIn (r .«est_count») q (take (p .«new_count») new) (divsOf (q .«div_count») nt′ nn′) a′) (searchIn (r .«est_count») p (take (p .«new_count») new) (divsOf (p .«div_count») nt nn) a))
+      (w : Answers go e round h (searchIn (r .«est_count») q new (divsOf (q .«div_count») nt′ nn′) a′) (searchIn (r .«est_count») p new (divsOf (p .«div_count») nt nn) a))
       (x : Next) (f : FollowsTurn go e (p .«new_count») x) where
     abbrev after : State.Search
-    after = searchIn (r .«est_count») q (take (p .«new_count») new) (divsOf (q .«div_count») nt′ nn′) a′
+    after = searchIn (r .«est_count») q new (divsOf (q .«div_count») nt′ nn′) a′
 
-    left-one : Going (length occ) round n₀ s₀ (suc m) (searchIn (r .«est_count») p (take (p .«new_count») new) (divsOf (p .«div_count») nt nn) a)
-    left-one = subst (λ (j : ℕ). Going (length occ) round n₀ s₀ j (searchIn (r .«est_count») p (take (p .«new_count») new) (divsOf (p .«div_count») nt nn) a)) n g
+    left-one : Going (length occ) round n₀ s₀ (suc m) (searchIn (r .«est_count») p new (divsOf (p .«div_count») nt nn) a)
+    left-one = subst (λ (j : ℕ). Going (length occ) round n₀ s₀ j (searchIn (r .«est_count») p new (divsOf (p .«div_count») nt nn) a)) n g
 
-    pub turn-on : x .goes ≡ true → p .«new_count» < 512 → Going (length occ) round n₀ s₀ m (searchIn (r .«est_count») (counted q (x .count)) (take (x .count) (set new (p .«new_count») (x .node))) (divsOf (q .«div_count») nt′ nn′) a′)
-    turn-on y z = subst (λ (ns : List DispNode). Going (length occ) round n₀ s₀ m (searchIn (r .«est_count») (counted q (x .count)) ns (divsOf (q .«div_count») nt′ nn′) a′))
-        (sym (write-is new (p .«new_count») (x .count) (x .node) (omega arith) (f .few)))
-        (going-on (length occ) round s₀ b n₀ m _ left-one (turnOf go e round h after) (w .0) (State.setNew after (take (x .count) (take (p .«new_count») new ++ (x .node ∷ [])))) (f .node y round h after new-long))
+    -- it goes on with this new path
+    abbrev longer : List DispNode
+    longer = take (x .count) (new ++ (x .node ∷ []))
 
-    pub turn-ends : x .goes ≡ false → (fresh : List ℕ) → listed (p .«new_count») (nodeAt fresh) ≡ take (p .«new_count») new → n₀ ≡ turnLimit (round .train)
-        → Ran (length occ) round s₀ go e h (searchIn (r .«est_count») q (listed (p .«new_count») (nodeAt fresh)) (divsOf (q .«div_count») nt′ nn′) a′)
-    turn-ends y fresh z o = subst (λ (ns : List DispNode). Ran (length occ) round s₀ go e h (searchIn (r .«est_count») q ns (divsOf (q .«div_count») nt′ nn′) a′)) (sym z) (record {
+    goes-on : x .goes ≡ true → Going (length occ) round n₀ s₀ m (State.setNew after longer)
+    goes-on y = going-on (length occ) round s₀ b n₀ m _ left-one (turnOf go e round h after) (w .0) (State.setNew after longer) (f .node y round h after new-long)
+
+    pub turn-sound : x .goes ≡ true → x .count ≡ p .«new_count» + 1 → Sound (x .node)
+    turn-sound y z =
+        let u : longer ≡ new ++ (x .node ∷ []) = take-all (x .count) (new ++ (x .node ∷ [])) (omega (arith, length-append new (x .node ∷ []), new-long, z)) in
+        let v : at (new ++ (x .node ∷ [])) (p .«new_count») ≡ ok (x .node) = at-in (new ++ (x .node ∷ [])) (p .«new_count») (x .node) (omega (arith, length-append new (x .node ∷ []), new-long)) ∙ ap ok (getD-at new (x .node) [] (x .node) (p .«new_count») new-long) in
+        node-sound (length occ) round s₀ b n₀ m (State.setNew after longer) (goes-on y) (p .«new_count») (x .node) (ap (λ (ns : List DispNode). at ns (p .«new_count»)) u ∙ v)
+
+    pub turn-on : x .goes ≡ true → (fresh1 : List ℕ) → listed (x .count) (nodeAt fresh1) ≡ longer → Going (length occ) round n₀ s₀ m (searchIn (r .«est_count») (counted q (x .count)) (listed (x .count) (nodeAt fresh1)) (divsOf (q .«div_count») nt′ nn′) a′)
+    turn-on y fresh1 z = subst (λ (ns : List DispNode). Going (length occ) round n₀ s₀ m (searchIn (r .«est_count») (counted q (x .count)) ns (divsOf (q .«div_count») nt′ nn′) a′)) (sym z) (goes-on y)
+
+    pub turn-ends : x .goes ≡ false → n₀ ≡ turnLimit (round .train) → Ran (length occ) round s₀ go e h after
+    turn-ends y o = record {
       after = searchFrom m round;
       is = ap (λ (j : ℕ). searchFrom j round s₀) (sym o) ∙ going-ends (length occ) round s₀ b n₀ m _ left-one (turnOf go e round h after) (w .0);
       ended = λ c. f .stops y c;
-      left = λ c. record { top = searchIn (r .«est_count») p (take (p .«new_count») new) (divsOf (p .«div_count») nt nn) a; good = g .good; looked = w .1 c };
-    })
+      left = λ c. record { top = searchIn (r .«est_count») p new (divsOf (p .«div_count») nt nn) a; good = g .good; looked = w .1 c };
+    }
 
 -- no turn was left
 pub turns-out : (links : ℕ) (r : State.Round) (s₀ s u : State.Search) (b : Begins links r s₀) (h : Look.Here) (n₀ left : ℕ) → Going links r n₀ s₀ left s → left ≡ 0 → n₀ ≡ turnLimit (r .train) → Ran links r s₀ Advance (Refused 13) h u

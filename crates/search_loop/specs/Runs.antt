@@ -58,14 +58,14 @@ pub record Begins (links : ℕ) (r : State.Round) (s : State.Search) : Type 0 wh
   pub good : Good links r s
   pub fits : SearchFits (2 ^ 16) s
 
--- what the loop is lent: the flags of the path, arrays of their sizes, room for 512 new nodes; and some train of which it begins
+-- what the loop is lent: the flags of the path, arrays of their sizes, room for as many new nodes as there are est records; and some train of which it begins
 pub record Ready (img occ on dt dn : List ℕ) (r : Round) (start : Place) (fresh : List ℕ) (a : Arrays) (nt nn : List ℕ) : Type 0 where
   pub sized : Sized r
   pub marked : Marked on (pathOf img (r .«path_count»))
   pub lent : Lent (r .«est_count») a
   pub newTrains : length nt ≡ 1024
   pub newNodes : length nn ≡ 1024
-  pub buffer : nodePlace (estCount fresh) 512 ≤ length fresh
+  pub buffer : nodePlace (estCount fresh) (r .«est_count») ≤ length fresh
   pub none : start .«new_count» ≡ 0
   pub pooled : start .«pool_count» ≤ 2048
   pub train : Train

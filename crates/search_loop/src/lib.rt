@@ -1,6 +1,6 @@
 // The search of a round of update_free_path (free_path.rs 345-633): turn after turn, up to the one that ends it, proved equal to
-// searchFrom of train_update. The new path is an array of 512 path nodes; at the end it goes to a buffer of an image's layout,
-// for the join. The crate assumes nothing of its own.
+// searchFrom of train_update. The new path is an array of 512 path nodes; each node that it gains goes to a buffer of an image's layout too,
+// where a join finds it. The crate assumes nothing of its own.
 use disp_structs::DispNode;
 use image::codec;
 use search::Place;
@@ -9,7 +9,6 @@ use search::look;
 use search::look::Here;
 use search_moves::Effect;
 use search_moves::turn;
-use splice::path;
 use train_update::Move;
 ghost use mathlib.Core.Path.{_≡_};
 ghost use mathlib.Core.Bool.{true, false, cond};
@@ -19,7 +18,7 @@ ghost use lib.Dec.{eqb};
 ghost use lib.ListN.{length, take};
 ghost use Rattle.disp_structs.specs.Listed.{listed};
 ghost use Rattle.disp_structs.specs.Train.{Train};
-ghost use Rattle.image.specs.Image.{nodeAt};
+ghost use Rattle.image.specs.Image.{estCount, nodePlace, nodeAt, putNode};
 ghost use Rattle.free_path.specs.Base.{ok};
 ghost use Rattle.train_update.specs.State as State;
 ghost use Rattle.train_update.specs.Look as Look;
@@ -38,10 +37,11 @@ pub struct Searched {
 }
 
 // Does the search go on? Then the node that is written behind the new path, and how many nodes of it count.
+// The node stands first, so that copies of it are aligned.
 pub struct Next {
-    pub goes: bool,
     pub node: DispNode,
     pub count: usize,
+    pub goes: bool,
 }
 
 fn one_less(k: usize) -> usize
@@ -108,6 +108,17 @@ fn after(go: Move, effect: Effect, curr: DispNode, k: usize) -> Next
     next_of(effect, curr, k)
 }
 
+// A node that is one more goes behind the k nodes of the new path.
+fn put_new(fresh: &mut [u8], k: usize, a: Next)
+    requires { ⌜ k < 512 ⌝ }
+    ensures { λ _. ⌜ now (fresh .exit) ≡ cond (eqb (a .count) (k + 1)) (putNode (a .node) (nodePlace (estCount (now (fresh .entry))) k) (now (fresh .entry))) (now (fresh .entry)) ⌝ }
+{
+    if a.count == k + 1 {
+        codec::put_node(fresh, k as u32, a.node);
+        return;
+    }
+}
+
 fn at_count(p: Place, k: usize) -> Place
     ensures { λ r. ⌜ r ≡ counted p k ⌝ }
 {
@@ -129,7 +140,7 @@ fn out_of_turns(here: Here, p: Place) -> Searched
     }
 }
 
-// The search from start, its new path to the buffer fresh.
+// The search from start, its new path in the buffer fresh.
 pub fn run(
     img: &[u8],
     occ: &[u16],
@@ -148,13 +159,12 @@ pub fn run(
     requires { ⌜ Ready (now img) (now occ) (now on) (now dt) (now dn) r start (now fresh) (arrays (now pool) (now begins) (now ends)) (now nt) (now nn) ⌝ }
     ensures { λ x. ⌜ ((t : Train) → Begins (length (now (occ .entry))) (roundOf t (now (occ .entry)) (now (img .entry)) (now (dt .entry)) (now (dn .entry)) r) (searchIn (r .«est_count») start [] (divsOf (start .«div_count») (now (nt .entry)) (now (nn .entry))) (arrays (now (pool .entry)) (now (begins .entry)) (now (ends .entry)))) → Ran (length (now (occ .entry))) (roundOf t (now (occ .entry)) (now (img .entry)) (now (dt .entry)) (now (dn .entry)) r) (searchIn (r .«est_count») start [] (divsOf (start .«div_count») (now (nt .entry)) (now (nn .entry))) (arrays (now (pool .entry)) (now (begins .entry)) (now (ends .entry)))) (x .go) (x .effect) (hereOf (x .here)) (searchIn (r .«est_count») (x .place) (listed (x .«new_count») (nodeAt (now (fresh .exit)))) (divsOf (x .place .«div_count») (now (nt .exit)) (now (nn .exit))) (arrays (now (pool .exit)) (now (begins .exit)) (now (ends .exit))))) × Kept (now (fresh .exit)) (now (fresh .entry)) × (x .place .«pool_count» ≤ 2048) ⌝ }
 {
-    let none = codec::node_at(img, 0);
-    let mut new = [none; 512];
     let mut p = start;
+    let mut curr = codec::node_at(img, one_less(p.idx_split) as u32);
+    let mut new = [curr; 512];
     let mut left = 3 * r.est_count + 1;
     while 0 < left {
         let k = p.new_count;
-        let curr = current(img, p.idx_split, k, new[one_less(k)]);
         let t = turn::turn(img, occ, on, dt, dn, r, p, curr, pool, begins, ends, nt, nn);
         let go = t.go;
         let effect = t.effect;
@@ -162,7 +172,6 @@ pub fn run(
         let place = t.place;
         let a = after(go, effect, curr, k);
         if !a.goes {
-            path::write_new(fresh, new, k as u32);
             return Searched {
                 go: go,
                 effect: effect,
@@ -173,8 +182,10 @@ pub fn run(
         }
         let n = a.node;
         new[k] = n;
+        put_new(fresh, k, a);
         p = at_count(place, a.count);
+        curr = current(img, p.idx_split, a.count, new[one_less(a.count)]);
         left -= 1;
     }
-    out_of_turns(look::look_here(img, r, p, none, ends, dn), p)
+    out_of_turns(look::look_here(img, r, p, curr, ends, dn), p)
 }

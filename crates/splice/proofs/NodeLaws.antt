@@ -10,7 +10,7 @@ use lib.Dec.{T, ltb, eqb}
 use lib.Ieee.{Float, nan, inf, fin, binary64, fits, isNan, le}
 use lib.Ieee.Fits.{add-fits}
 use lib.ListN.{length, getD, take, drop}
-use lib.Seq.{take-suc, paste}
+use lib.Seq.{paste}
 use borrow.Author.Tests.{ltb-true, ltb-false, lt-ltb, le-ltb, eq-eqb, ne-eqb}
 use Rattle.link_rules.specs.Octets.{leAt, putLe}
 use Rattle.link_rules.proofs.OctetLaws.{le-cong, le-add, le-put-same, le-put-other, getD-put, length-put}
@@ -27,7 +27,7 @@ use Rattle.disp_structs.specs.Listed.{listed}
 use Rattle.disp_structs.proofs.ListedLaws.{listed-length, listed-at}
 use Rattle.train_update.specs.Join.{shiftOffsets, withOffset, freeIsCorrect}
 use Rattle.splice.specs.Read.{Kept}
-use Rattle.splice.specs.Parts.{fromOn, Splices, Sound, putOffset, blank}
+use Rattle.splice.specs.Parts.{fromOn, Splices, Sound, putOffset}
 use Rattle.splice.proofs.ListLaws.{listed-set, listed-splice, from-turn, from-no, from-end, column-splice, at-need, read-before}
 
 -- a number is its bytes, wherever they stand
@@ -346,21 +346,6 @@ module _ (img fresh img1 fresh1 : List ℕ) (n split base k : ℕ) (a : split �
       column-splice img fresh img1 fresh1 A B C K M (omega arith) l (omega arith) (omega arith)
       (e ∙ ap₂ (λ (g h : ℕ). paste fresh g (drop p img) h) x y ∙ ap (λ (g : ℕ). paste fresh (B + C) (drop g img) (M - K)) ep)
       (f ∙ ap₂ (λ (g h : ℕ). paste img g (drop r fresh1) h) es z ∙ ap (λ (g : ℕ). paste img A (drop g fresh1) (C + (M - K))) er)
-
--- ---- the new path in its buffer
-
-module _ (fresh fresh1 : List ℕ) (new : List DispNode) (j : ℕ) (e : fresh1 ≡ putNode (getD new j blank) (nodePlace (estCount fresh) j) fresh) where
-  pub write-turn : nodePlace (estCount fresh) (j + 1) ≤ length fresh → Sound (getD new j blank) → ((i : ℕ) → i < j → nodeAt fresh i ≡ getD new i blank) → (i : ℕ) → i < j + 1 → nodeAt fresh1 i ≡ getD new i blank
-  write-turn l s h i q = rw e (go (ltb i j) refl)
-    where
-      go : (t : Bool) → ltb i j ≡ t → nodeAt (putNode (getD new j blank) (nodePlace (estCount fresh) j) fresh) i ≡ getD new i blank
-      go true k = let z = ltb-true i j k in put-other (getD new j blank) fresh j i (λ w. omega arith) ∙ h i z
-      go false k = let z = ltb-false i j k in let w : i ≡ j = omega arith in rw w (put-same (getD new j blank) fresh j l s)
-
-pub write-end : (n : ℕ) (f : ℕ → DispNode) (new : List DispNode) → n ≤ length new → ((i : ℕ) → i < n → f i ≡ getD new i blank) → listed n f ≡ take n new
-unfolding listed
-write-end zero f new l h = refl
-write-end (suc n) f new l h = ap₂ (λ (x : List DispNode) (y : DispNode). x ++ (y ∷ [])) (write-end n f new (omega arith) (λ i k. h i (omega arith))) (h n (omega arith)) ∙ sym (take-suc new n blank (omega arith))
 
 -- ---- the begin of the free path
 

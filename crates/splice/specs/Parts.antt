@@ -4,13 +4,12 @@ use mathlib.Core.Path.{_≡_}
 use mathlib.Core.List.{List, _++_}
 use lib.ListN.{length, getD, take, drop, set}
 use lib.Dec.{T}
-use lib.Ieee.{Float, nan, binary64, fits, isNan}
+use lib.Ieee.{Float, binary64, fits, isNan}
 use mathlib.Core.Bool.{not}
 use Rattle.disp_structs.specs.Floats.{bitsOf}
 use Rattle.disp_structs.specs.declared.DispNode.{DispNode}
 use Rattle.link_rules.specs.Octets.{putLe}
 use Rattle.image.specs.Image.{estCount, nodePlace}
-use Rattle.disp_structs.specs.declared.EstType.the-variants.{Arrive}
 use Rattle.free_path.specs.Base.{Res, ok, _>>=_}
 
 -- the entries from i on go through F
@@ -51,14 +50,3 @@ pub record Sound (x : DispNode) : Type 0 where
   pub link : x .«link_event» .«link_idx» .0 < 2 ^ 32
   pub est : x .«est_idx» .0 < 2 ^ 32
   pub auth : x .«disp_auth_idx_entry» < 2 ^ 16
-
--- what the rule of an array read gives past the end
-abbrev pub blank : DispNode
-blank =
-    record {
-      offset = record { 0 = nan };
-      «time_pass» = record { 0 = nan };
-      «link_event» = record { «link_idx» = record { 0 = 0 }; «est_type» = Arrive };
-      «est_idx» = record { 0 = 0 };
-      «disp_auth_idx_entry» = 0;
-    }

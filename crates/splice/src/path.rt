@@ -11,7 +11,7 @@ ghost use Rattle.free_path.specs.Columns.{answer};
 ghost use Rattle.disp_structs.specs.Listed.{listed};
 ghost use Rattle.train_update.specs.Join.{shiftOffsets, freeIsCorrect};
 ghost use Rattle.splice.specs.Read.{Kept};
-ghost use Rattle.splice.specs.Parts.{fromOn, putOffset, blank, Sound};
+ghost use Rattle.splice.specs.Parts.{fromOn, putOffset};
 use crate::copies;
 use disp_structs::DispNode;
 use disp_structs::EstIdx;
@@ -78,18 +78,6 @@ pub(crate) fn update_offsets(img: &mut [u8], n: u32, i: u32, change: Metres) -> 
         return 0;
     }
     shift_offsets(img, n, i, change)
-}
-
-// The new path goes into its buffer.
-pub fn write_new(fresh: &mut [u8], new: [DispNode; 512], k: u32)
-    requires { ⌜ (k ≤ 512) × (length new ≡ 512) × (nodePlace (estCount (now fresh)) k ≤ length (now fresh)) × ((i : ℕ) → i < k → Sound (getD new i blank)) ⌝ }
-    ensures { λ _. ⌜ (listed k (nodeAt (now (fresh .exit))) ≡ take k new) × Kept (now (fresh .exit)) (now (fresh .entry)) ⌝ }
-{
-    let mut j: u32 = 0;
-    while j < k {
-        codec::put_node(fresh, j, new[j as usize]);
-        j += 1;
-    }
 }
 
 // disp_path.splice(split..base, the k nodes of the new path): the old path from base on goes behind the new one, and both behind the split.

@@ -170,32 +170,9 @@ pub(crate) fn rounds(
     requires { ⌜ Sizes (now col) (now on) (now dt) (now dn) × Top (now occ) (now img) (now col) (now on) (now dt) (now dn) start ⌝ }
     ensures { λ x. ⌜ Ended (now (occ .entry)) (now (known .entry)) g limit (now (img .entry)) (now (dt .entry)) (now (dn .entry)) start (now (img .exit)) (now (dt .exit)) (now (dn .exit)) x ⌝ }
 {
-    let mut fresh = [0u8; 16448];
-    let mut pool = [0u16; 2048];
-    let mut begins = [0u32; 512];
-    let mut ends = [0u32; 512];
-    let mut nt = [0u16; 1024];
-    let mut nn = [0u16; 1024];
     let mut w = start;
     while goes_on(w, limit) {
-        let x = splitting::round(
-            img,
-            &mut fresh,
-            occ,
-            col,
-            on,
-            g,
-            w.header,
-            w.split,
-            w.div_split,
-            dt,
-            dn,
-            &mut pool,
-            &mut begins,
-            &mut ends,
-            &mut nt,
-            &mut nn,
-        );
+        let x = splitting::round(img, occ, col, on, g, w.header, w.split, w.div_split, dt, dn);
         let end = x.end;
         let h = x.header;
         if is_last(end) {

@@ -11,137 +11,112 @@ use borrow.Author.Needs.{needs}
 use Rattle.round.proofs.splitting.round.Statement.{statement}
 use Rattle.round.proofs.splitting.round.Tie as tie
 
--- src/splitting.rt:177:13
-cast-n : tie.Need-cast-n
-cast-n c = search needs
+-- src/splitting.rt:139:13
+cast-m : tie.Need-cast-m
+cast-m c = search needs
 
--- src/splitting.rt:183:9
-cast-calc-idx-sentinels : tie.Need-cast-calc-idx-sentinels
-cast-calc-idx-sentinels c = search needs
-
--- src/splitting.rt:178:9
+-- src/splitting.rt:140:9
 calc-idx-sentinels-requires : tie.Need-calc-idx-sentinels-requires
 calc-idx-sentinels-requires c κs = search needs
 
--- src/splitting.rt:186:9
+-- src/splitting.rt:142:9
 refused-requires : tie.Need-refused-requires
 refused-requires c κs = search needs
 
--- src/splitting.rt:186:9
+-- src/splitting.rt:142:9
 same-length : tie.Need-same-length
 same-length c = search needs
 
--- src/splitting.rt:186:9
+-- src/splitting.rt:142:9
 same-length-2 : tie.Need-same-length-2
 same-length-2 c = search needs
 
--- src/splitting.rt:186:9
+-- src/splitting.rt:142:9
 returns : tie.Need-returns
 returns c =
-    let a = c .before .before .before .before .before .before .before .before .before .before .before .before .before .before .before .before .before .before .before .before .args in let g = c .before .before .before .before .before .before .before .before .before .before .before .before .before .before .before .before .before .before .before .before .pre in ((λ blocking start. rw (c .refused .ensures) (sentinels-refused (now (a .occ)) (now (a .img)) (now (a .dt)) (now (a .dn)) (now (a .col)) (a .h) (a .g) blocking start (a .split) (a .div-split) (g .2) (c .before .before .before .calc-idx-sentinels .result .code) (record { node = c .before .before .before .calc-idx-sentinels .result .node; divs = c .before .before .before .calc-idx-sentinels .result .divs }) (c .before .before .before .calc-idx-sentinels .ensures) (c .before .if1 .taken))), (λ q. record { size = refl; below = λ i h. refl }), (λ q. clash (isAtEnd (c .refused .result .end)) q (ap (λ (y : RoundEnd). isAtEnd (y .end)) (c .refused .ensures))))
+    let a = c .before .before .before .before .before .before .before .before .before .before .before .before .before .args in let g = c .before .before .before .before .before .before .before .before .before .before .before .before .before .pre in ((λ blocking start. rw (c .refused .ensures) (sentinels-refused (now (a .occ)) (now (a .img)) (now (a .dt)) (now (a .dn)) (now (a .col)) (a .h) (a .g) blocking start (a .split) (a .div-split) (g .3) (c .before .before .before .calc-idx-sentinels .result .code) (record { node = c .before .before .before .calc-idx-sentinels .result .node; divs = c .before .before .before .calc-idx-sentinels .result .divs }) (c .before .before .before .calc-idx-sentinels .ensures) (c .before .if1 .taken))), (λ q. record { size = refl; below = λ i h. refl }), (λ q. clash (isAtEnd (c .refused .result .end)) q (ap (λ (y : RoundEnd). isAtEnd (y .end)) (c .refused .ensures))))
 
--- src/splitting.rt:189:68
+-- src/splitting.rt:145:57
 cast-split-point : tie.Need-cast-split-point
 cast-split-point c = search needs
 
--- src/splitting.rt:189:9
+-- src/splitting.rt:145:9
 split-point-requires : tie.Need-split-point-requires
 split-point-requires c κs = search needs
 
--- src/splitting.rt:191:9
+-- src/splitting.rt:147:9
 refused-requires-2 : tie.Need-refused-requires-2
 refused-requires-2 c κs = search needs
 
--- src/splitting.rt:191:9
+-- src/splitting.rt:147:9
 same-length-3 : tie.Need-same-length-3
 same-length-3 c = search needs
 
--- src/splitting.rt:191:9
+-- src/splitting.rt:147:9
 same-length-4 : tie.Need-same-length-4
 same-length-4 c = search needs
 
--- src/splitting.rt:191:9
+-- src/splitting.rt:147:9
 same-length-5 : tie.Need-same-length-5
 same-length-5 c = search needs
 
--- src/splitting.rt:191:9
+-- src/splitting.rt:147:9
 returns-2 : tie.Need-returns-2
 returns-2 c =
-    let a = c .before .before .before .before .before .before .before .before .before .before .before .before .before .before .before .before .before .before .before .before .before .before .before .before .before .args in let g = c .before .before .before .before .before .before .before .before .before .before .before .before .before .before .before .before .before .before .before .before .before .before .before .before .before .pre in ((λ blocking start. rw (c .refused2 .ensures) (split-refused (now (a .occ)) (now (a .img)) (now (a .dt)) (now (a .dn)) (now (a .col)) (a .h) (a .g) blocking start (a .split) (a .div-split) (g .2) (c .before .before .before .before .before .before .before .before .calc-idx-sentinels .result .code) (record { node = c .before .before .before .before .before .before .before .before .calc-idx-sentinels .result .node; divs = c .before .before .before .before .before .before .before .before .calc-idx-sentinels .result .divs }) (c .before .before .before .before .before .before .before .before .calc-idx-sentinels .ensures) (c .before .before .before .before .before .before .if1 .left) (c .before .before .before .split-point .result .code) (c .before .before .before .split-point .result .index) (c .before .before .before .split-point .ensures) (c .before .if2 .taken))), (λ q. record { size = refl; below = λ i h. refl }), (λ q. clash (isAtEnd (c .refused2 .result .end)) q (ap (λ (y : RoundEnd). isAtEnd (y .end)) (c .refused2 .ensures))))
+    let a = c .before .before .before .before .before .before .before .before .before .before .before .before .before .before .before .before .before .before .args in let g = c .before .before .before .before .before .before .before .before .before .before .before .before .before .before .before .before .before .before .pre in ((λ blocking start. rw (c .refused2 .ensures) (split-refused (now (a .occ)) (now (a .img)) (now (a .dt)) (now (a .dn)) (now (a .col)) (a .h) (a .g) blocking start (a .split) (a .div-split) (g .3) (c .before .before .before .before .before .before .before .before .calc-idx-sentinels .result .code) (record { node = c .before .before .before .before .before .before .before .before .calc-idx-sentinels .result .node; divs = c .before .before .before .before .before .before .before .before .calc-idx-sentinels .result .divs }) (c .before .before .before .before .before .before .before .before .calc-idx-sentinels .ensures) (c .before .before .before .before .before .before .if1 .left) (c .before .before .before .split-point .result .code) (c .before .before .before .split-point .result .index) (c .before .before .before .split-point .ensures) (c .before .if2 .taken))), (λ q. record { size = refl; below = λ i h. refl }), (λ q. clash (isAtEnd (c .refused2 .result .end)) q (ap (λ (y : RoundEnd). isAtEnd (y .end)) (c .refused2 .ensures))))
 
--- src/splitting.rt:194:9
+-- src/splitting.rt:149:8
+cast-if3 : tie.Need-cast-if3
+cast-if3 c = search needs
+
+-- src/splitting.rt:150:9
 at-end-requires : tie.Need-at-end-requires
 at-end-requires c κs = search needs
 
--- src/splitting.rt:194:9
+-- src/splitting.rt:150:9
 same-length-6 : tie.Need-same-length-6
 same-length-6 c = search needs
 
--- src/splitting.rt:194:9
+-- src/splitting.rt:150:9
 same-length-7 : tie.Need-same-length-7
 same-length-7 c = search needs
 
--- src/splitting.rt:194:9
+-- src/splitting.rt:150:9
 same-length-8 : tie.Need-same-length-8
 same-length-8 c = search needs
 
--- src/splitting.rt:194:9
+-- src/splitting.rt:150:9
 returns-3 : tie.Need-returns-3
 returns-3 c =
-    let a = c .before .before .before .before .before .before .before .before .before .before .before .before .before .before .before .before .before .before .before .before .before .before .before .before .before .before .before .args in let g = c .before .before .before .before .before .before .before .before .before .before .before .before .before .before .before .before .before .before .before .before .before .before .before .before .before .before .before .pre in ((λ blocking start. rw (c .at-end .ensures) (round-end (now (a .occ)) (now (a .img)) (now (a .dt)) (now (a .dn)) (now (a .col)) (a .h) (a .g) blocking start (a .split) (a .div-split) (g .2) (c .before .before .before .before .before .before .before .before .before .before .calc-idx-sentinels .result .code) (record { node = c .before .before .before .before .before .before .before .before .before .before .calc-idx-sentinels .result .node; divs = c .before .before .before .before .before .before .before .before .before .before .calc-idx-sentinels .result .divs }) (c .before .before .before .before .before .before .before .before .before .before .calc-idx-sentinels .ensures) (c .before .before .before .before .before .before .before .before .if1 .left) (c .before .before .before .before .before .split-point .result .code) (c .before .before .before .before .before .split-point .result .index) (c .before .before .before .before .before .split-point .ensures) (c .before .before .before .if2 .left) (c .before .if3 .taken))), (λ q. record { size = refl; below = λ i h. refl }), (λ q. ap (λ (y : RoundEnd). trainOf (now (a .img)) (now (a .dt)) (now (a .dn)) (y .header)) (c .at-end .ensures)))
+    let a = c .before .before .before .before .before .before .before .before .before .before .before .before .before .before .before .before .before .before .before .before .args in let g = c .before .before .before .before .before .before .before .before .before .before .before .before .before .before .before .before .before .before .before .before .pre in ((λ blocking start. rw (c .at-end .ensures) (round-end (now (a .occ)) (now (a .img)) (now (a .dt)) (now (a .dn)) (now (a .col)) (a .h) (a .g) blocking start (a .split) (a .div-split) (g .3) (c .before .before .before .before .before .before .before .before .before .before .calc-idx-sentinels .result .code) (record { node = c .before .before .before .before .before .before .before .before .before .before .calc-idx-sentinels .result .node; divs = c .before .before .before .before .before .before .before .before .before .before .calc-idx-sentinels .result .divs }) (c .before .before .before .before .before .before .before .before .before .before .calc-idx-sentinels .ensures) (c .before .before .before .before .before .before .before .before .if1 .left) (c .before .before .before .before .before .split-point .result .code) (c .before .before .before .before .before .split-point .result .index) (c .before .before .before .before .before .split-point .ensures) (c .before .before .before .if2 .left) (c .before .if3 .taken))), (λ q. record { size = refl; below = λ i h. refl }), (λ q. ap (λ (y : RoundEnd). trainOf (now (a .img)) (now (a .dt)) (now (a .dn)) (y .header)) (c .at-end .ensures)))
 
--- src/splitting.rt:196:5
+-- src/splitting.rt:152:5
 search-at-requires : tie.Need-search-at-requires
 search-at-requires c κs =
-    let a = c .before .before .before .before .before .before .before .before .before .before .before .before .before .before .before .before .before .before .before .before .before .before .before .before .before .before .before .before .before .before .before .before .before .before .before .args in let g = c .before .before .before .before .before .before .before .before .before .before .before .before .before .before .before .before .before .before .before .before .before .before .before .before .before .before .before .before .before .before .before .before .before .before .before .pre in (g .0, g .1, split-first (now (a .occ)) (now (a .img)) (now (a .dt)) (now (a .dn)) (now (a .col)) (a .h) (a .g) [] [] (a .split) (a .div-split) (g .2) (c .before .before .before .before .before .before .before .before .before .before .before .before .before .before .before .before .before .before .calc-idx-sentinels .result .code) (record { node = c .before .before .before .before .before .before .before .before .before .before .before .before .before .before .before .before .before .before .calc-idx-sentinels .result .node; divs = c .before .before .before .before .before .before .before .before .before .before .before .before .before .before .before .before .before .before .calc-idx-sentinels .result .divs }) (c .before .before .before .before .before .before .before .before .before .before .before .before .before .before .before .before .before .before .calc-idx-sentinels .ensures) (c .before .before .before .before .before .before .before .before .before .before .before .before .before .before .before .before .if1 .left) (c .before .before .before .before .before .before .before .before .before .before .before .before .before .split-point .result .code) (c .before .before .before .before .before .before .before .before .before .before .before .before .before .split-point .result .index) (c .before .before .before .before .before .before .before .before .before .before .before .before .before .split-point .ensures) (c .before .before .before .before .before .before .before .before .before .before .before .if2 .left) (now (a .on)) (g .0) (g .3) (g .4), omega (arith, c .before .before .before .before .before .before .before .before .before .if3 .left))
+    let a = c .before .before .before .before .before .before .before .before .before .before .before .before .before .before .before .before .before .before .before .before .before .before .args in let g = c .before .before .before .before .before .before .before .before .before .before .before .before .before .before .before .before .before .before .before .before .before .before .pre in (g .0, g .1, g .2, split-first (now (a .occ)) (now (a .img)) (now (a .dt)) (now (a .dn)) (now (a .col)) (a .h) (a .g) [] [] (a .split) (a .div-split) (g .3) (c .before .before .before .before .before .before .before .before .before .before .before .before .calc-idx-sentinels .result .code) (record { node = c .before .before .before .before .before .before .before .before .before .before .before .before .calc-idx-sentinels .result .node; divs = c .before .before .before .before .before .before .before .before .before .before .before .before .calc-idx-sentinels .result .divs }) (c .before .before .before .before .before .before .before .before .before .before .before .before .calc-idx-sentinels .ensures) (c .before .before .before .before .before .before .before .before .before .before .if1 .left) (c .before .before .before .before .before .before .before .split-point .result .code) (c .before .before .before .before .before .before .before .split-point .result .index) (c .before .before .before .before .before .before .before .split-point .ensures) (c .before .before .before .before .before .if2 .left) (now (a .on)) (g .0) (g .4) (g .5), omega (arith, c .before .before .before .if3 .left))
 
--- src/splitting.rt:156:1
+-- src/splitting.rt:123:1
 same-length-9 : tie.Need-same-length-9
 same-length-9 c = search needs
 
--- src/splitting.rt:156:1
+-- src/splitting.rt:123:1
 same-length-10 : tie.Need-same-length-10
 same-length-10 c = search needs
 
--- src/splitting.rt:156:1
+-- src/splitting.rt:123:1
 same-length-11 : tie.Need-same-length-11
 same-length-11 c = search needs
 
--- src/splitting.rt:156:1
-same-length-12 : tie.Need-same-length-12
-same-length-12 c = search needs
-
--- src/splitting.rt:156:1
-same-length-13 : tie.Need-same-length-13
-same-length-13 c = search needs
-
--- src/splitting.rt:156:1
-same-length-14 : tie.Need-same-length-14
-same-length-14 c = search needs
-
--- src/splitting.rt:156:1
-same-length-15 : tie.Need-same-length-15
-same-length-15 c = search needs
-
--- src/splitting.rt:156:1
-same-length-16 : tie.Need-same-length-16
-same-length-16 c = search needs
-
--- src/splitting.rt:156:1
-same-length-17 : tie.Need-same-length-17
-same-length-17 c = search needs
-
--- src/splitting.rt:156:1
+-- src/splitting.rt:123:1
 returns-4 : tie.Need-returns-4
 returns-4 c =
-    let a = c .before .before .before .before .before .before .before .before .before .before .before .before .before .before .before .before .before .before .before .before .before .before .before .before .before .before .before .before .before .before .before .before .before .before .before .before .before .before .before .before .before .before .before .before .before .before .before .before .before .before .before .before .before .before .args in let g = c .before .before .before .before .before .before .before .before .before .before .before .before .before .before .before .before .before .before .before .before .before .before .before .before .before .before .before .before .before .before .before .before .before .before .before .before .before .before .before .before .before .before .before .before .before .before .before .before .before .before .before .before .before .before .pre in let x = c .before .before .before .before .before .before .before .before .before .before .before .before .before .before .before .before .before .before .search-at in ((λ blocking start. x .ensures .0 blocking start ∙ round-on (now (a .occ)) (now (a .img)) (now (a .dt)) (now (a .dn)) (now (a .col)) (a .h) (a .g) blocking start (a .split) (a .div-split) (g .2) (c .before .before .before .before .before .before .before .before .before .before .before .before .before .before .before .before .before .before .before .before .before .before .before .before .before .before .before .before .before .before .before .before .before .before .before .before .before .calc-idx-sentinels .result .code) (record { node = c .before .before .before .before .before .before .before .before .before .before .before .before .before .before .before .before .before .before .before .before .before .before .before .before .before .before .before .before .before .before .before .before .before .before .before .before .before .calc-idx-sentinels .result .node; divs = c .before .before .before .before .before .before .before .before .before .before .before .before .before .before .before .before .before .before .before .before .before .before .before .before .before .before .before .before .before .before .before .before .before .before .before .before .before .calc-idx-sentinels .result .divs }) (c .before .before .before .before .before .before .before .before .before .before .before .before .before .before .before .before .before .before .before .before .before .before .before .before .before .before .before .before .before .before .before .before .before .before .before .before .before .calc-idx-sentinels .ensures) (c .before .before .before .before .before .before .before .before .before .before .before .before .before .before .before .before .before .before .before .before .before .before .before .before .before .before .before .before .before .before .before .before .before .before .before .if1 .left) (c .before .before .before .before .before .before .before .before .before .before .before .before .before .before .before .before .before .before .before .before .before .before .before .before .before .before .before .before .before .before .before .before .split-point .result .code) (c .before .before .before .before .before .before .before .before .before .before .before .before .before .before .before .before .before .before .before .before .before .before .before .before .before .before .before .before .before .before .before .before .split-point .result .index) (c .before .before .before .before .before .before .before .before .before .before .before .before .before .before .before .before .before .before .before .before .before .before .before .before .before .before .before .before .before .before .before .before .split-point .ensures) (c .before .before .before .before .before .before .before .before .before .before .before .before .before .before .before .before .before .before .before .before .before .before .before .before .before .before .before .before .before .before .if2 .left) (omega (arith, c .before .before .before .before .before .before .before .before .before .before .before .before .before .before .before .before .before .before .before .before .before .before .before .before .before .before .before .before .if3 .left))), x .ensures .1, (λ q. clash (isAtEnd (x .result .end)) q (x .ensures .2)))
+    let a = c .before .before .before .before .before .before .before .before .before .before .before .before .before .before .before .before .before .before .before .before .before .before .before .before .before .before .before .before .before .args in let g = c .before .before .before .before .before .before .before .before .before .before .before .before .before .before .before .before .before .before .before .before .before .before .before .before .before .before .before .before .before .pre in let x = c .before .before .before .before .before .before .search-at in ((λ blocking start. x .ensures .0 blocking start ∙ round-on (now (a .occ)) (now (a .img)) (now (a .dt)) (now (a .dn)) (now (a .col)) (a .h) (a .g) blocking start (a .split) (a .div-split) (g .3) (c .before .before .before .before .before .before .before .before .before .before .before .before .before .before .before .before .before .before .before .calc-idx-sentinels .result .code) (record { node = c .before .before .before .before .before .before .before .before .before .before .before .before .before .before .before .before .before .before .before .calc-idx-sentinels .result .node; divs = c .before .before .before .before .before .before .before .before .before .before .before .before .before .before .before .before .before .before .before .calc-idx-sentinels .result .divs }) (c .before .before .before .before .before .before .before .before .before .before .before .before .before .before .before .before .before .before .before .calc-idx-sentinels .ensures) (c .before .before .before .before .before .before .before .before .before .before .before .before .before .before .before .before .before .if1 .left) (c .before .before .before .before .before .before .before .before .before .before .before .before .before .before .split-point .result .code) (c .before .before .before .before .before .before .before .before .before .before .before .before .before .before .split-point .result .index) (c .before .before .before .before .before .before .before .before .before .before .before .before .before .before .split-point .ensures) (c .before .before .before .before .before .before .before .before .before .before .before .before .if2 .left) (omega (arith, c .before .before .before .before .before .before .before .before .before .before .if3 .left))), x .ensures .1, (λ q. clash (isAtEnd (x .result .end)) q (x .ensures .2)))
 
 pub round-spec : {M : Type 1} → statement M
 round-spec =
     tie.close
     (tie.spec
-    cast-n
-    cast-calc-idx-sentinels
+    cast-m
     calc-idx-sentinels-requires
     refused-requires
     same-length
@@ -154,6 +129,7 @@ round-spec =
     same-length-4
     same-length-5
     returns-2
+    cast-if3
     at-end-requires
     same-length-6
     same-length-7
@@ -163,10 +139,4 @@ round-spec =
     same-length-9
     same-length-10
     same-length-11
-    same-length-12
-    same-length-13
-    same-length-14
-    same-length-15
-    same-length-16
-    same-length-17
     returns-4)
