@@ -268,11 +268,11 @@ fn node_fits(img: &[u8], l: u32, i: u32) -> bool
     let at = codec::node_place(e, i);
     if float_fits(octets::u64_at(img, at)) {
         if time_fits(octets::u64_at(img, at + 8)) {
-            let x = codec::node_at(img, i);
-            if e <= x.est_idx.0 {
+            let x = codec::node_est_idx(img, i);
+            if e <= x.0 {
                 return false;
             }
-            return event_fits(l, x.link_event);
+            return event_fits(l, codec::node_link_event(img, i));
         }
         return false;
     }

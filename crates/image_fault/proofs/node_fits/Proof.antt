@@ -25,19 +25,22 @@ u64-at-requires-2 c κs = search needs
 time-fits-requires : tie.Need-time-fits-requires
 time-fits-requires c κs = search needs
 
-node-at-requires : tie.Need-node-at-requires
-node-at-requires c κs = search needs
+node-est-idx-requires : tie.Need-node-est-idx-requires
+node-est-idx-requires c κs = search needs
 
 returns : tie.Need-returns
 unfolding nodeFits
-returns c = rw (← c .before .before .node-at .ensures, ← c .before .before .before .before .before .before .before .before .before .before .est-count .ensures, ← c .before .before .before .before .before .before .before .before .before .node-place .ensures, ← c .before .before .before .before .before .before .before .before .u64-at .ensures, ← c .before .before .before .before .before .before .before .float-fits .ensures, c .before .before .before .before .before .before .if1 .taken, ← c .before .before .before .before .before .u64-at2 .ensures, ← c .before .before .before .before .time-fits .ensures, c .before .before .before .if2 .taken, le-ltb _ _ (c .if3 .taken))
+returns c = rw (← c .before .before .node-est-idx .ensures, ← c .before .before .before .before .before .before .before .before .before .before .est-count .ensures, ← c .before .before .before .before .before .before .before .before .before .node-place .ensures, ← c .before .before .before .before .before .before .before .before .u64-at .ensures, ← c .before .before .before .before .before .before .before .float-fits .ensures, c .before .before .before .before .before .before .if1 .taken, ← c .before .before .before .before .before .u64-at2 .ensures, ← c .before .before .before .before .time-fits .ensures, c .before .before .before .if2 .taken, le-ltb _ _ (c .if3 .taken))
+
+node-link-event-requires : tie.Need-node-link-event-requires
+node-link-event-requires c κs = search needs
 
 event-fits-requires : tie.Need-event-fits-requires
 event-fits-requires c κs = search needs
 
 returns-2 : tie.Need-returns-2
 unfolding nodeFits
-returns-2 c = rw (← c .before .before .before .node-at .ensures, ← c .before .before .before .before .before .before .before .before .before .before .before .est-count .ensures, ← c .before .before .before .before .before .before .before .before .before .before .node-place .ensures, ← c .before .before .before .before .before .before .before .before .before .u64-at .ensures, ← c .before .before .before .before .before .before .before .before .float-fits .ensures, c .before .before .before .before .before .before .before .if1 .taken, ← c .before .before .before .before .before .before .u64-at2 .ensures, ← c .before .before .before .before .before .time-fits .ensures, c .before .before .before .before .if2 .taken, lt-ltb _ _ (c .before .if3 .left), ← c .event-fits .ensures)
+returns-2 c = rw (← c .before .node-link-event .ensures, ← c .before .before .before .before .node-est-idx .ensures, ← c .before .before .before .before .before .before .before .before .before .before .before .before .est-count .ensures, ← c .before .before .before .before .before .before .before .before .before .before .before .node-place .ensures, ← c .before .before .before .before .before .before .before .before .before .before .u64-at .ensures, ← c .before .before .before .before .before .before .before .before .before .float-fits .ensures, c .before .before .before .before .before .before .before .before .if1 .taken, ← c .before .before .before .before .before .before .before .u64-at2 .ensures, ← c .before .before .before .before .before .before .time-fits .ensures, c .before .before .before .before .before .if2 .taken, lt-ltb _ _ (c .before .before .if3 .left), ← c .event-fits .ensures)
 
 returns-3 : tie.Need-returns-3
 unfolding nodeFits
@@ -58,8 +61,9 @@ node-fits-spec =
     add-u64-at
     u64-at-requires-2
     time-fits-requires
-    node-at-requires
+    node-est-idx-requires
     returns
+    node-link-event-requires
     event-fits-requires
     returns-2
     returns-3
