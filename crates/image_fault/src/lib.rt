@@ -13,7 +13,7 @@ use link_rules::octets;
 ghost use mathlib.Core.Path.{_≡_};
 ghost use mathlib.Core.Bool.{cond, not, _&&_};
 ghost use lib.Dec.{eqb};
-ghost use Prim.Native.Nat.{ℕ, _+_, _*_, _^_, _≤_, _<_};
+ghost use Prim.Native.Nat.{ℕ, _+_, _-_, _*_, _^_, _≤_, _<_};
 ghost use Rattle.link_rules.specs.Network.{allBelow};
 ghost use Rattle.disp_structs.specs.Values.{isArrive};
 ghost use Rattle.image.specs.Image.{estCount, pathCount, nodeAt};
@@ -416,41 +416,42 @@ fn steps_to(next: EstIdx, alt: EstIdx, x: EstIdx) -> bool
     x.0 == alt.0
 }
 
-fn comes_from(img: &[u8], i: u32) -> bool
+// In the next three, x is the est index of node i, and b that of the node before it.
+fn comes_from(img: &[u8], i: u32, b: EstIdx, x: EstIdx) -> bool
+    requires { ⌜ (x ≡ nodeAt (now img) i .«est_idx») × (0 < i → b ≡ nodeAt (now img) (i - 1) .«est_idx») ⌝ }
     ensures { λ r. ⌜ r ≡ comesFrom (now (img .entry)) i ⌝ }
 {
-    let x = codec::node_est_idx(img, i);
     if i == 0 {
         return x.0 == 0;
     }
-    let b = codec::node_est_idx(img, i - 1);
     steps_to(codec::est_next(img, b.0), codec::est_next_alt(img, b.0), x)
 }
 
-fn ends_at(img: &[u8], i: u32) -> bool
+fn ends_at(img: &[u8], n: u32, i: u32, x: EstIdx) -> bool
+    requires { ⌜ (n ≡ pathCount (now img)) × (x ≡ nodeAt (now img) i .«est_idx») ⌝ }
     ensures { λ r. ⌜ r ≡ endsAt (now (img .entry)) i ⌝ }
 {
-    if (i as usize) + 1 != codec::path_count(img) as usize {
+    if (i as usize) + 1 != n as usize {
         return true;
     }
-    let x = codec::node_est_idx(img, i);
     let next = codec::est_next(img, x.0);
     next.0 == 0
 }
 
-// t is the type of node i, and seen the flag of its link: not 0 where an Arrive before it has the link.
-fn on_route(img: &[u8], i: u32, t: EstType, seen: u8) -> bool
-    ensures { λ r. ⌜ r ≡ (comesFrom (now (img .entry)) i && (endsAt (now (img .entry)) i && not (isArrive t && not (eqb seen 0)))) ⌝ }
+fn on_route(img: &[u8], n: u32, i: u32, b: EstIdx, x: EstIdx, first: bool) -> bool
+    requires { ⌜ (n ≡ pathCount (now img)) × (x ≡ nodeAt (now img) i .«est_idx») × (0 < i → b ≡ nodeAt (now img) (i - 1) .«est_idx») ⌝ }
+    ensures { λ r. ⌜ r ≡ (comesFrom (now (img .entry)) i && (endsAt (now (img .entry)) i && first)) ⌝ }
 {
-    if comes_from(img, i) {
-        if ends_at(img, i) {
-            return is_first(t, seen);
+    if comes_from(img, i, b, x) {
+        if ends_at(img, n, i, x) {
+            return first;
         }
         return false;
     }
     false
 }
 
+// t is the type of a node, and seen the flag of its link: not 0 where an Arrive before it has the link.
 fn is_first(t: EstType, seen: u8) -> bool
     ensures { λ r. ⌜ r ≡ not (isArrive t && not (eqb seen 0)) ⌝ }
 {
@@ -474,17 +475,20 @@ fn marked(t: EstType, seen: u8) -> u8
 
 // The links of the Arrive nodes so far are kept as flags.
 fn path_fault(img: &[u8], n: u32) -> Fault
-    requires { ⌜ (n ≤ 512) × ((i : ℕ) → i < n → nodeAt (now img) i .«link_event» .«link_idx» .0 < 4000) ⌝ }
+    requires { ⌜ (n ≡ pathCount (now img)) × (n ≤ 512) × ((i : ℕ) → i < n → nodeAt (now img) i .«link_event» .«link_idx» .0 < 4000) ⌝ }
     ensures { λ r. ⌜ r ≡ firstUnfit 9 (onRoute (now (img .entry))) n 0 ⌝ }
 {
     let mut seen = [0u8; 4000];
+    let mut b = EstIdx(0);
     let mut i: u32 = 0;
     while i < n {
+        let x = codec::node_est_idx(img, i);
         let e = codec::node_link_event(img, i);
         let t = e.est_type;
         let l = e.link_idx.0 as usize;
-        if on_route(img, i, t, seen[l]) {
+        if on_route(img, n, i, b, x, is_first(t, seen[l])) {
             seen[l] = marked(t, seen[l]);
+            b = x;
             i += 1;
         } else {
             return Fault {

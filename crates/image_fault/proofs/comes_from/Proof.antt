@@ -1,21 +1,13 @@
 use Rattle.image_fault.specs.ImageFault.{comesFrom}
 use borrow.Author.Tests.{eq-eqb, ne-eqb}
+use native.Mathlib.Omega.{arith}
 use borrow.Author.Needs.{needs}
 use Rattle.image_fault.proofs.comes_from.Statement.{statement}
 use Rattle.image_fault.proofs.comes_from.Tie as tie
 
-node-est-idx-requires : tie.Need-node-est-idx-requires
-node-est-idx-requires c κs = search needs
-
 returns : tie.Need-returns
 unfolding comesFrom
-returns c = rw (← c .before .before .node-est-idx .ensures, eq-eqb (c .before .before .before .before .args .i) 0 (c .before .if1 .taken))
-
-sub-node-est-idx : tie.Need-sub-node-est-idx
-sub-node-est-idx c = search needs
-
-node-est-idx-requires-2 : tie.Need-node-est-idx-requires-2
-node-est-idx-requires-2 c κs = search needs
+returns c = rw (← c .before .before .before .pre .0, eq-eqb (c .before .before .before .args .i) 0 (c .before .if1 .taken))
 
 est-next-requires : tie.Need-est-next-requires
 est-next-requires c κs = search needs
@@ -28,17 +20,9 @@ steps-to-requires c κs = search needs
 
 returns-2 : tie.Need-returns-2
 unfolding comesFrom
-returns-2 c = rw (← c .before .before .before .before .before .node-est-idx .ensures, ne-eqb (c .before .before .before .before .before .before .before .args .i) 0 (c .before .before .before .before .if1 .left), ← c .before .before .before .node-est-idx2 .ensures, ← c .before .before .est-next .ensures, ← c .before .est-next-alt .ensures, ← c .steps-to .ensures)
+returns-2 c = rw (← c .before .before .before .before .before .pre .0, ne-eqb (c .before .before .before .before .before .args .i) 0 (c .before .before .before .if1 .left), ← c .before .before .before .before .before .pre .1 (omega arith), ← c .before .before .est-next .ensures, ← c .before .est-next-alt .ensures, ← c .steps-to .ensures)
 
 pub comes-from-spec : {M : Type 1} → statement M
 comes-from-spec =
     tie.close
-    (tie.spec
-    node-est-idx-requires
-    returns
-    sub-node-est-idx
-    node-est-idx-requires-2
-    est-next-requires
-    est-next-alt-requires
-    steps-to-requires
-    returns-2)
+    (tie.spec returns est-next-requires est-next-alt-requires steps-to-requires returns-2)

@@ -11,34 +11,16 @@ use Rattle.image_fault.proofs.ends_at.Tie as tie
 add-if1 : tie.Need-add-if1
 add-if1 c = search needs
 
-path-count-requires : tie.Need-path-count-requires
-path-count-requires c κs = search needs
-
-cast-if1 : tie.Need-cast-if1
-cast-if1 c = search needs
-
 returns : tie.Need-returns
 unfolding endsAt
-returns c = rw (ne-eqb (c .before .before .before .args .i + 1) (pathCount (now (c .before .before .before .args .img))) (λ q. c .if1 .taken (omega arith)))
-
-node-est-idx-requires : tie.Need-node-est-idx-requires
-node-est-idx-requires c κs = search needs
+returns c = rw (ne-eqb (c .before .before .args .i + 1) (pathCount (now (c .before .before .args .img))) (λ q. c .if1 .taken (omega arith)))
 
 est-next-requires : tie.Need-est-next-requires
 est-next-requires c κs = search needs
 
 returns-2 : tie.Need-returns-2
 unfolding endsAt
-returns-2 c = rw (eq-eqb (c .before .before .before .before .before .before .args .i + 1) (pathCount (now (c .before .before .before .before .before .before .args .img))) (omega arith), ← c .before .before .node-est-idx .ensures, ← c .before .est-next .ensures)
+returns-2 c = rw (eq-eqb (c .before .before .before .before .args .i + 1) (pathCount (now (c .before .before .before .before .args .img))) (omega arith), ← c .before .before .before .before .pre .1, ← c .before .est-next .ensures)
 
 pub ends-at-spec : {M : Type 1} → statement M
-ends-at-spec =
-    tie.close
-    (tie.spec
-    add-if1
-    path-count-requires
-    cast-if1
-    returns
-    node-est-idx-requires
-    est-next-requires
-    returns-2)
+ends-at-spec = tie.close (tie.spec add-if1 returns est-next-requires returns-2)

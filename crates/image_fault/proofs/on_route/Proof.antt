@@ -8,11 +8,8 @@ comes-from-requires c κs = search needs
 ends-at-requires : tie.Need-ends-at-requires
 ends-at-requires c κs = search needs
 
-is-first-requires : tie.Need-is-first-requires
-is-first-requires c κs = search needs
-
 returns : tie.Need-returns
-returns c = rw (← c .before .before .before .before .comes-from .ensures, c .before .before .before .if1 .taken, ← c .before .before .ends-at .ensures, c .before .if2 .taken, ← c .is-first .ensures)
+returns c = rw (← c .before .before .before .comes-from .ensures, c .before .before .if1 .taken, ← c .before .ends-at .ensures, c .if2 .taken)
 
 returns-2 : tie.Need-returns-2
 returns-2 c = rw (← c .before .before .before .comes-from .ensures, c .before .before .if1 .taken, ← c .before .ends-at .ensures, c .if2 .left)
@@ -22,5 +19,4 @@ returns-3 c = rw (← c .before .comes-from .ensures, c .if1 .left)
 
 pub on-route-spec : {M : Type 1} → statement M
 on-route-spec =
-    tie.close
-    (tie.spec comes-from-requires ends-at-requires is-first-requires returns returns-2 returns-3)
+    tie.close (tie.spec comes-from-requires ends-at-requires returns returns-2 returns-3)
