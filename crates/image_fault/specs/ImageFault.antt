@@ -151,6 +151,14 @@ cycleRefused (At i) = refused 8 i
 unfoldable pub cycleFault : List ℕ → Fault
 cycleFault bs = cycleRefused (firstOnCycle (nexts bs) (alts bs) (estCount bs))
 
+-- t is none, or stands after record i
+abbrev pub isLater : ℕ → EstIdx → Bool
+isLater i t = sameEst t noEst || ltb i (t .0)
+
+-- record i leads to later ones alone; where every record does, there is no cycle
+unfoldable pub leadsOn : List ℕ → ℕ → Bool
+leadsOn bs i = isLater i (estAt bs i .«idx_next») && isLater i (estAt bs i .«idx_next_alt»)
+
 -- ---- 9: the path, then the diverge nodes
 
 -- a step by next or alt; 0 is none, and never a step

@@ -17,7 +17,7 @@ ghost use Prim.Native.Nat.{ℕ, _+_, _-_, _*_, _^_, _≤_, _<_};
 ghost use Rattle.link_rules.specs.Network.{allBelow};
 ghost use Rattle.disp_structs.specs.Values.{isArrive};
 ghost use Rattle.image.specs.Image.{estCount, pathCount, nodeAt};
-ghost use Rattle.image_fault.specs.ImageFault.{imageFault, imageFits, valueFault, cycleFault, routeFault, firstUnfit, CountsFit, countsFit, partsFit, trainFits, estTypeFits, nodeTypeFits, zeroWord, unusedZero, recordsFit, floatFits, timeFits, distFits, eventFits, estLinksFit, estFits, nodeFits, indicesFit, headerFits, stepsTo, comesFrom, endsAt, onRoute, innerFits, divergeFits};
+ghost use Rattle.image_fault.specs.ImageFault.{imageFault, imageFits, valueFault, cycleFault, routeFault, firstUnfit, CountsFit, countsFit, partsFit, trainFits, estTypeFits, nodeTypeFits, zeroWord, unusedZero, recordsFit, floatFits, timeFits, distFits, eventFits, estLinksFit, estFits, nodeFits, indicesFit, headerFits, isLater, leadsOn, stepsTo, comesFrom, endsAt, onRoute, innerFits, divergeFits};
 
 // A refusal's number and place; number 0 is none.
 pub struct Fault {
@@ -375,7 +375,40 @@ fn value_fault(img: &[u8], l: u32) -> Fault
 
 // ---- 8: next and alt form a cycle
 
-fn cycle_fault(img: &[u8], e: u32) -> Fault
+// t is none, or stands after record i.
+fn is_later(i: u32, t: EstIdx) -> bool
+    ensures { λ r. ⌜ r ≡ isLater i t ⌝ }
+{
+    if t.0 == 0 {
+        return true;
+    }
+    i < t.0
+}
+
+fn leads_on(img: &[u8], i: u32) -> bool
+    ensures { λ r. ⌜ r ≡ leadsOn (now (img .entry)) i ⌝ }
+{
+    if is_later(i, codec::est_next(img, i)) {
+        return is_later(i, codec::est_next_alt(img, i));
+    }
+    false
+}
+
+fn ascends(img: &[u8], e: u32) -> bool
+    ensures { λ r. ⌜ r ≡ allBelow e (leadsOn (now (img .entry))) ⌝ }
+{
+    let mut i: u32 = 0;
+    while i < e {
+        if leads_on(img, i) {
+            i += 1;
+        } else {
+            return false;
+        }
+    }
+    true
+}
+
+fn lowest_on_cycle(img: &[u8], e: u32) -> Fault
     requires { ⌜ (e ≡ estCount (now img)) × (e ≤ 512) ⌝ }
     ensures { λ r. ⌜ r ≡ cycleFault (now (img .entry)) ⌝ }
 {
@@ -400,6 +433,20 @@ fn cycle_fault(img: &[u8], e: u32) -> Fault
             place: a as u16,
         },
     }
+}
+
+// Where every record leads to later ones alone, as in most images, there is no cycle; only for the others are arrays filled and searched.
+fn cycle_fault(img: &[u8], e: u32) -> Fault
+    requires { ⌜ (e ≡ estCount (now img)) × (e ≤ 512) ⌝ }
+    ensures { λ r. ⌜ r ≡ cycleFault (now (img .entry)) ⌝ }
+{
+    if ascends(img, e) {
+        return Fault {
+            number: 0,
+            place: 0,
+        };
+    }
+    lowest_on_cycle(img, e)
 }
 
 // ---- 9: the path, then the diverge nodes
