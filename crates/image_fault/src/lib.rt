@@ -16,7 +16,7 @@ ghost use lib.Dec.{eqb};
 ghost use Prim.Native.Nat.{ℕ, _+_, _-_, _*_, _^_, _≤_, _<_};
 ghost use Rattle.link_rules.specs.Network.{allBelow};
 ghost use Rattle.disp_structs.specs.Values.{isArrive};
-ghost use Rattle.image.specs.Image.{estCount, pathCount, nodeAt};
+ghost use Rattle.image.specs.Image.{estCount, pathCount, estAt, nodeAt};
 ghost use Rattle.image_fault.specs.ImageFault.{imageFault, imageFits, valueFault, cycleFault, routeFault, firstUnfit, CountsFit, countsFit, partsFit, trainFits, estTypeFits, nodeTypeFits, zeroWord, unusedZero, recordsFit, floatFits, timeFits, distFits, eventFits, estLinksFit, estFits, nodeFits, indicesFit, headerFits, isLater, leadsOn, stepsTo, comesFrom, endsAt, onRoute, innerFits, divergeFits};
 
 // A refusal's number and place; number 0 is none.
@@ -451,15 +451,18 @@ fn cycle_fault(img: &[u8], e: u32) -> Fault
 
 // ---- 9: the path, then the diverge nodes
 
-fn steps_to(next: EstIdx, alt: EstIdx, x: EstIdx) -> bool
-    ensures { λ r. ⌜ r ≡ stepsTo next alt x ⌝ }
+// By next or alt of record b.
+fn steps_to(img: &[u8], b: EstIdx, x: EstIdx) -> bool
+    ensures { λ r. ⌜ r ≡ stepsTo (estAt (now (img .entry)) (b .0) .«idx_next») (estAt (now (img .entry)) (b .0) .«idx_next_alt») x ⌝ }
 {
     if x.0 == 0 {
         return false;
     }
+    let next = codec::est_next(img, b.0);
     if x.0 == next.0 {
         return true;
     }
+    let alt = codec::est_next_alt(img, b.0);
     x.0 == alt.0
 }
 
@@ -471,7 +474,7 @@ fn comes_from(img: &[u8], i: u32, b: EstIdx, x: EstIdx) -> bool
     if i == 0 {
         return x.0 == 0;
     }
-    steps_to(codec::est_next(img, b.0), codec::est_next_alt(img, b.0), x)
+    steps_to(img, b, x)
 }
 
 fn ends_at(img: &[u8], n: u32, i: u32, x: EstIdx) -> bool

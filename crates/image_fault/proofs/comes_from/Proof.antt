@@ -9,20 +9,12 @@ returns : tie.Need-returns
 unfolding comesFrom
 returns c = rw (← c .before .before .before .pre .0, eq-eqb (c .before .before .before .args .i) 0 (c .before .if1 .taken))
 
-est-next-requires : tie.Need-est-next-requires
-est-next-requires c κs = search needs
-
-est-next-alt-requires : tie.Need-est-next-alt-requires
-est-next-alt-requires c κs = search needs
-
 steps-to-requires : tie.Need-steps-to-requires
 steps-to-requires c κs = search needs
 
 returns-2 : tie.Need-returns-2
 unfolding comesFrom
-returns-2 c = rw (← c .before .before .before .before .before .pre .0, ne-eqb (c .before .before .before .before .before .args .i) 0 (c .before .before .before .if1 .left), ← c .before .before .before .before .before .pre .1 (omega arith), ← c .before .before .est-next .ensures, ← c .before .est-next-alt .ensures, ← c .steps-to .ensures)
+returns-2 c = rw (← c .before .before .before .pre .0, ne-eqb (c .before .before .before .args .i) 0 (c .before .if1 .left), ← c .before .before .before .pre .1 (omega arith), ← c .steps-to .ensures)
 
 pub comes-from-spec : {M : Type 1} → statement M
-comes-from-spec =
-    tie.close
-    (tie.spec returns est-next-requires est-next-alt-requires steps-to-requires returns-2)
+comes-from-spec = tie.close (tie.spec returns steps-to-requires returns-2)
