@@ -71,7 +71,7 @@ pub fn next<'a>(r: Reader<'a>) -> Reader<'a>
 
 // ---- for whoever has a plain slice
 
-// The sheet's last column.
+// For the sheet's last column, and for whether a train is finished.
 pub fn free_of(image: &[u8]) -> u16
     ensures { λ r. ⌜ r ≡ freeOf (now (image .entry)) ⌝ }
 {

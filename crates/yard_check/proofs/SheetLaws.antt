@@ -9,6 +9,7 @@ use lib.Dec.{eqb}
 use lib.ListN.{length, replicate}
 use borrow.Author.Tests.{eq-eqb, ne-eqb}
 use Rattle.link_rules.specs.Octets.{leAt}
+use Rattle.image_reader.specs.Reader.{freeOf}
 use Rattle.image_fault.specs.ImageFault.{imageFault}
 use Rattle.image_fault.specs.declared.Fault.{Fault}
 use Rattle.link_rules.specs.declared.refusal.Refusal.{Refusal}
@@ -31,7 +32,7 @@ word-refused c n0 n1 n2 n3 n4 n5 = rw (ne-eqb c 0 n0, ne-eqb c 1 n1, ne-eqb c 2 
 -- ---- free, 0 for a bad image
 
 module _ (img : List ℕ) (links : ℕ) (f : Fault) (is : f ≡ imageFault img links) where
-  pub free-good : f .number ≡ 0 → freeColumn img links ≡ leAt 2 img 36
+  pub free-good : f .number ≡ 0 → freeColumn img links ≡ freeOf img
   unfolding freeColumn
   free-good h = rw (← is, eq-eqb (f .number) 0 h)
 

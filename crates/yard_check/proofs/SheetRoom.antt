@@ -11,6 +11,7 @@ use borrow.Author.Tests.{leb-true, eqb-true}
 use Rattle.link_rules.specs.Octets.{leAt}
 use Rattle.disp_structs.specs.Listed.{listed}
 use Rattle.image.specs.Image.{pathCount, pathHeader}
+use Rattle.image_reader.specs.Reader.{freeOf}
 use Rattle.image_fault.specs.ImageFault.{noFault, refused, orElse, imageFault, distFits, indicesFit, headerFits}
 use Rattle.image_fault.specs.declared.Fault.{Fault}
 use Rattle.image_fault.proofs.ScanLaws.{both}
@@ -83,7 +84,7 @@ line-long t free r h l s =
     simp length-append (omega arith)
 
 -- free of an image that passes 6 to 9 is at most N
-free-within : (img : List ℕ) (links : ℕ) → imageFault img links .number ≡ 0 → leAt 2 img 36 ≤ 512
+free-within : (img : List ℕ) (links : ℕ) → imageFault img links .number ≡ 0 → freeOf img ≤ 512
 unfolding headerFits indicesFit pathHeader
 free-within img links z =
     let a = accepted img links z in
@@ -91,14 +92,14 @@ free-within img links z =
     let h1 = both (distFits (leAt 8 img 48)) _ (clean-header img links (a .values)) in
     let h2 = both (distFits (leAt 8 img 56)) _ (h1 .1) in
     let i1 = both (leb (leAt 2 img 34) (pathCount img)) _ (h2 .1) in
-    let i2 = both (leb (leAt 2 img 36) (pathCount img)) _ (i1 .1) in
-    omega (arith, leb-true (leAt 2 img 36) (pathCount img) (i2 .0))
+    let i2 = both (leb (freeOf img) (pathCount img)) _ (i1 .1) in
+    omega (arith, leb-true (freeOf img) (pathCount img) (i2 .0))
 
 free-few : (img : List ℕ) (links : ℕ) → freeColumn img links ≤ 512
 unfolding freeColumn
 free-few img links = go (eqb (imageFault img links .number) 0) refl
   where
-    go : (t : Bool) → eqb (imageFault img links .number) 0 ≡ t → cond t (leAt 2 img 36) 0 ≤ 512
+    go : (t : Bool) → eqb (imageFault img links .number) 0 ≡ t → cond t (freeOf img) 0 ≤ 512
     go true e = free-within img links (eqb-true (imageFault img links .number) 0 e)
     go false e = omega arith
 

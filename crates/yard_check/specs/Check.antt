@@ -6,6 +6,7 @@ use lib.Dec.{ltb, leb, eqb}
 use lib.ListN.{length}
 use Rattle.link_rules.specs.Octets.{leAt, putLe}
 use Rattle.image.specs.Image.{pathCount}
+use Rattle.image_reader.specs.Reader.{freeOf}
 use Rattle.image_fault.specs.ImageFault.{noFault, refused, orElse, imageFault}
 use Rattle.image_fault.specs.declared.Fault.{Fault}
 use Rattle.train_update.specs.Update.{Status, Success, Blocked, Faulty, Refused as UpdateRefused}
@@ -111,7 +112,7 @@ rowAt report t = rowFrom report (16 * (t - 1))
 
 -- is_finished (train_disp/mod.rs 75-77): free equals N
 unfoldable pub isFinished : List ℕ → Bool
-isFinished img = eqb (leAt 2 img 36) (pathCount img)
+isFinished img = eqb (freeOf img) (pathCount img)
 
 -- what a slot is reported with, and the image that is left in it
 pub record Visit : Type 0 where

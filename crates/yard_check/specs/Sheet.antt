@@ -8,6 +8,7 @@ use lib.Dec.{ltb, leb, eqb}
 use lib.ListN.{length, drop, replicate}
 use Rattle.link_rules.specs.Octets.{leAt}
 use Rattle.disp_structs.specs.Listed.{listed}
+use Rattle.image_reader.specs.Reader.{freeOf}
 use Rattle.image_fault.specs.ImageFault.{imageFault}
 use Rattle.yard_check.specs.Yard.{slotCount, partOf, yardFits}
 use Rattle.yard_check.specs.Check.{Row, rowAt, Answer, Refused, Erred, Done, Checked, checked}
@@ -99,7 +100,7 @@ yesOrNo false = ascii "no"
 
 -- free of the image that is left, 0 for a bad image
 unfoldable pub freeColumn : List ℕ → ℕ → ℕ
-freeColumn img links = cond (eqb (imageFault img links .number) 0) (leAt 2 img 36) 0
+freeColumn img links = cond (eqb (imageFault img links .number) 0) (freeOf img) 0
 
 -- rounds, holder, strays, faults, free
 abbrev pub rowColumns : Row → ℕ → List ℕ

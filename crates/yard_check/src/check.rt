@@ -4,6 +4,7 @@ use crate::yard;
 use image::codec;
 use image_fault;
 use image_fault::Fault;
+use image_reader;
 use link_rules::link_idx::TrainIdx;
 use link_rules::octets;
 use link_rules::refusal::Refusal;
@@ -172,7 +173,7 @@ fn put_row(report: &mut [u8], at: usize, r: Row)
 fn is_finished(img: &[u8]) -> bool
     ensures { λ r. ⌜ r ≡ Check.isFinished (now (img .entry)) ⌝ }
 {
-    octets::u16_at(img, 36) as u32 == codec::path_count(img)
+    image_reader::free_of(img) as u32 == codec::path_count(img)
 }
 
 // The row of a slot that is not updated: refused by 6 to 9, else this code.

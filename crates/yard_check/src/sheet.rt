@@ -67,7 +67,7 @@ fn free_column(image: &[u8], links: u32) -> u16
 {
     let fault = image_fault::image_fault(image, links);
     if fault.number == 0 {
-        return octets::u16_at(image, 36);
+        return image_reader::free_of(image);
     }
     0
 }

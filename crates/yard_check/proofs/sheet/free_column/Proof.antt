@@ -8,14 +8,14 @@ use Rattle.yard_check.proofs.sheet.free_column.Tie as tie
 image-fault-requires : tie.Need-image-fault-requires
 image-fault-requires c κs = search needs
 
-u16-at-requires : tie.Need-u16-at-requires
-u16-at-requires c κs = search needs
+free-of-requires : tie.Need-free-of-requires
+free-of-requires c κs = search needs
 
 returns : tie.Need-returns
-returns c = let a = c .before .before .before .before .before .args in c .u16-at .ensures ∙ sym (free-good (now (a .image)) (a .links) (c .before .before .before .image-fault .result) (c .before .before .before .image-fault .ensures) (c .before .if1 .taken))
+returns c = let a = c .before .before .before .before .before .args in c .free-of .ensures ∙ sym (free-good (now (a .image)) (a .links) (c .before .before .before .image-fault .result) (c .before .before .before .image-fault .ensures) (c .before .if1 .taken))
 
 returns-2 : tie.Need-returns-2
 returns-2 c = let a = c .before .before .before .before .args in sym (free-bad (now (a .image)) (a .links) (c .before .before .image-fault .result) (c .before .before .image-fault .ensures) (c .if1 .left))
 
 pub free-column-spec : {M : Type 1} → statement M
-free-column-spec = tie.close (tie.spec image-fault-requires u16-at-requires returns returns-2)
+free-column-spec = tie.close (tie.spec image-fault-requires free-of-requires returns returns-2)
