@@ -8,12 +8,18 @@ ghost use Rattle.free_path.specs.Base.{count};
 ghost use Rattle.free_path.specs.Columns.{answer};
 ghost use Rattle.free_path.specs.Validate.{badPath, inConflict, validateFreePath};
 ghost use Rattle.disp_structs.specs.Values.{isArrive};
-ghost use Rattle.image.specs.Image.{nodeAt};
+ghost use Rattle.image.specs.Image.{estCount, nodeAt};
 ghost use Rattle.validate.specs.Paths.{estsOf, pathOf};
+use disp_structs::DispNode;
+use disp_structs::EstIdx;
 use disp_structs::EstType;
+use disp_structs::Metres;
+use disp_structs::Seconds;
+use disp_structs::floats;
 use free_path::columns;
 use free_path::validate;
 use image::codec;
+use link_rules::octets;
 
 // A refusal's number, or 0; and the number of errors.
 pub struct Errors {
@@ -38,6 +44,24 @@ pub fn validate_free_path(img: &[u8], n: u32, occ: &[u16], free: u32) -> Errors
     }
 }
 
+// Node i of an image with e est records. As codec::node_at, but called at one place and inlined there: fields that bad_step does not read are not computed.
+fn path_node(img: &[u8], e: u32, i: u32) -> DispNode
+    requires { ⌜ e ≡ estCount (now img) ⌝ }
+    ensures { λ r. ⌜ r ≡ nodeAt (now (img .entry)) i ⌝ }
+{
+    let at = codec::node_place(e, i);
+    if img.len() < at + 32 {
+        return codec::node_at(img, i);
+    }
+    DispNode {
+        offset: Metres(floats::real_of(octets::u64_at(img, at))),
+        time_pass: Seconds(floats::real_of(octets::u64_at(img, at + 8))),
+        link_event: codec::node_link_event(img, i),
+        est_idx: EstIdx(octets::u32_at(img, at + 20)),
+        disp_auth_idx_entry: octets::u16_at(img, at + 24),
+    }
+}
+
 // An est number past the records is 13. a and x are node i and its est record.
 fn step_errors(img: &[u8], n: u32) -> Errors
     ensures { λ r. ⌜ (answer (r .code) (r .count) ≡ badPath (estsOf (now (img .entry))) (pathOf (now (img .entry)) n)) × (r .count < 2 ^ 32) ⌝ }
@@ -48,7 +72,7 @@ fn step_errors(img: &[u8], n: u32) -> Errors
     let mut k: u64 = 0;
     let mut i: u32 = 0;
     while (i as u64) + 1 < (n as u64) {
-        let b = codec::node_at(img, i + 1);
+        let b = path_node(img, e, i + 1);
         if e <= a.est_idx.0 {
             return Errors { code: 13, count: 0 };
         }

@@ -40,11 +40,11 @@ cast-loop c = search needs
 add-loop : tie.Need-add-loop Inv-loop μ-loop
 add-loop c = search needs
 
-add-node-at : tie.Need-add-node-at Inv-loop μ-loop
-add-node-at c = search needs
+add-path-node : tie.Need-add-path-node Inv-loop μ-loop
+add-path-node c = search needs
 
-node-at-requires-2 : tie.Need-node-at-requires-2 Inv-loop μ-loop
-node-at-requires-2 c κs = search needs
+path-node-requires : tie.Need-path-node-requires Inv-loop μ-loop
+path-node-requires c κs = search needs
 
 returns : tie.Need-returns Inv-loop μ-loop
 returns c =
@@ -67,7 +67,7 @@ returns-2 c =
     let e = c .before .before .before .before .before .before .before .before .before .est-count in
     let n = p .n in
     let b : nodeAt t (g .i) .«est_idx» .0 < e .result = omega (arith, c .before .before .if1 .left, ap (λ (m : DispNode). m .«est_idx» .0) (g .inv .3)) in
-    let o : e .result ≤ nodeAt t (g .i + 1) .«est_idx» .0 = rw (c .before .before .before .before .node-at2 .ensures) at (c .if2 .taken) in (
+    let o : e .result ≤ nodeAt t (g .i + 1) .«est_idx» .0 = rw (c .before .before .before .before .path-node .ensures) at (c .if2 .taken) in (
       sym (error-second (e .result) (n) (estAt t) (nodeAt t) (g .k) (g .i) (c .before .before .before .before .before .loop-test .taken) b o) ∙ g .inv .2
           ∙ ap (λ (x : ℕ). badPath (listed x (estAt t)) (listed n (nodeAt t))) (e .ensures),
       search needs,
@@ -97,7 +97,7 @@ loop-again c =
     let t = now (p .img) in
     let e = c .before .before .before .before .before .before .before .before .before .before .before .before .est-count in
     let n = p .n in
-    let b = c .before .before .before .before .before .before .before .node-at2 in
+    let b = c .before .before .before .before .before .before .before .path-node in
     let y = c .before .before .est-at2 in
     let s = c .before .bad-step in
     let h = c .before .before .before .before .before .before .before .before .loop-test .taken in
@@ -137,8 +137,8 @@ step-errors-spec =
     loop-holds
     cast-loop
     add-loop
-    add-node-at
-    node-at-requires-2
+    add-path-node
+    path-node-requires
     returns
     returns-2
     est-at-requires-2
