@@ -2,10 +2,15 @@
 // searchFrom of train_update. The new path is an array of 512 path nodes; each node that it gains goes to a buffer of an image's layout too,
 // where a join finds it. The crate assumes nothing of its own.
 use disp_structs::DispNode;
+use disp_structs::EstIdx;
+use disp_structs::EstType;
+use disp_structs::LinkEvent;
+use disp_structs::Metres;
+use disp_structs::Seconds;
 use image::codec;
+use link_rules::link_idx::LinkIdx;
 use search::Place;
 use search::Round;
-use search::look;
 use search::look::Here;
 use search_moves::Effect;
 use search_moves::turn;
@@ -127,16 +132,38 @@ fn at_count(p: Place, k: usize) -> Place
     q
 }
 
-// The turns are at an end, which no search of an accepted train meets.
-fn out_of_turns(here: Here, p: Place) -> Searched
+// The turns are at an end, which no search of an accepted train meets. Where it stood does not count.
+fn out_of_turns(img: &[u8], curr: DispNode, p: Place) -> Searched
     ensures { λ x. ⌜ (x .go ≡ Move.Advance) × (x .effect ≡ Effect.Refused 13) × (x .place ≡ p) × (x .«new_count» ≡ 0) ⌝ }
 {
+    let est = codec::est_at(img, 0);
     Searched {
         go: Move::Advance,
         effect: Effect::Refused(13),
-        here: here,
+        here: Here {
+            code: 13,
+            idx_join_new: 0,
+            disp_node_curr: curr,
+            est_curr: est,
+            est_next: est,
+        },
         place: p,
         new_count: 0,
+    }
+}
+
+// An entry of the array that no node was put into: all its bits are 0, and the array is cleared at once.
+fn no_node() -> DispNode {
+    let e = LinkEvent {
+        link_idx: LinkIdx(0),
+        est_type: EstType::Arrive,
+    };
+    DispNode {
+        offset: Metres(0.0),
+        time_pass: Seconds(0.0),
+        link_event: e,
+        est_idx: EstIdx(0),
+        disp_auth_idx_entry: 0,
     }
 }
 
@@ -161,7 +188,7 @@ pub fn run(
 {
     let mut p = start;
     let mut curr = codec::node_at(img, one_less(p.idx_split) as u32);
-    let mut new = [curr; 512];
+    let mut new = [no_node(); 512];
     let mut left = 3 * r.est_count + 1;
     while 0 < left {
         let k = p.new_count;
@@ -187,5 +214,5 @@ pub fn run(
         curr = current(img, p.idx_split, a.count, new[one_less(a.count)]);
         left -= 1;
     }
-    out_of_turns(look::look_here(img, r, p, curr, ends, dn), p)
+    out_of_turns(img, curr, p)
 }

@@ -25,10 +25,10 @@ use Rattle.search_loop.proofs.run.Tie as tie
 use Rattle.search_loop.proofs.run.Reads as reads
 use Rattle.search_loop.proofs.run.Lts as lts
 use Rattle.image.proofs.codec.node_at.Reads as node-at-reads
-use Rattle.search.proofs.look.look_here.Reads as look-here-reads
 use Rattle.search_loop.proofs.after.Reads as after-reads
 use Rattle.search_loop.proofs.at_count.Reads as at-count-reads
 use Rattle.search_loop.proofs.current.Reads as current-reads
+use Rattle.search_loop.proofs.no_node.Reads as no-node-reads
 use Rattle.search_loop.proofs.one_less.Reads as one-less-reads
 use Rattle.search_loop.proofs.out_of_turns.Reads as out-of-turns-reads
 use Rattle.search_loop.proofs.put_new.Reads as put-new-reads
@@ -47,36 +47,36 @@ abbrev μ-loop : tie.MeasureT-loop
 -- ---- at the top of the loop
 
 abbrev Top : Type 0
-Top = lts.At-loop (one-less-reads.Asked, one-less-reads.Learnt, node-at-reads.Asked, node-at-reads.Learnt, turn-reads.Asked, turn-reads.Learnt, after-reads.Asked, after-reads.Learnt, put-new-reads.Asked, put-new-reads.Learnt, at-count-reads.Asked, at-count-reads.Learnt, current-reads.Asked, current-reads.Learnt, look-here-reads.Asked, look-here-reads.Learnt, out-of-turns-reads.Asked, out-of-turns-reads.Learnt) reads.Pre reads.Post Inv-loop μ-loop
+Top = lts.At-loop (one-less-reads.Asked, one-less-reads.Learnt, node-at-reads.Asked, node-at-reads.Learnt, no-node-reads.Asked, no-node-reads.Learnt, turn-reads.Asked, turn-reads.Learnt, after-reads.Asked, after-reads.Learnt, put-new-reads.Asked, put-new-reads.Learnt, at-count-reads.Asked, at-count-reads.Learnt, current-reads.Asked, current-reads.Learnt, out-of-turns-reads.Asked, out-of-turns-reads.Learnt) reads.Pre reads.Post Inv-loop μ-loop
 
 -- the laws of the loop's values, for the train with which it was lent
 module _ (o : Top) where
-  split : (1 ≤ o .loop .p .«idx_split») × (o .loop .p .«idx_split» ≤ o .before .before .before .before .before .before .before .before .before .before .before .before .before .before .before .args .r .«path_count») × (o .loop .p .«idx_split» + o .loop .p .«new_count» ≤ 512) × (o .loop .p .«idx_split» + o .loop .p .«new_count» ≤ o .before .before .before .before .before .before .before .before .before .before .before .before .before .before .before .args .r .«est_count»)
+  split : (1 ≤ o .loop .p .«idx_split») × (o .loop .p .«idx_split» ≤ o .before .before .before .before .before .before .before .before .before .before .before .before .before .before .before .before .args .r .«path_count») × (o .loop .p .«idx_split» + o .loop .p .«new_count» ≤ 512) × (o .loop .p .«idx_split» + o .loop .p .«new_count» ≤ o .before .before .before .before .before .before .before .before .before .before .before .before .before .before .before .before .args .r .«est_count»)
   split =
-      let v = o .loop in let g = o .before .before .before .before .before .before .before .before .before .before .before .before .before .before .before .pre in let a = o .before .before .before .before .before .before .before .before .before .before .before .before .before .before .before .args in
+      let v = o .loop in let g = o .before .before .before .before .before .before .before .before .before .before .before .before .before .before .before .before .pre in let a = o .before .before .before .before .before .before .before .before .before .before .before .before .before .before .before .before .args in
       top-split (now (a .occ)) (now (a .img)) (now (a .dt)) (now (a .dn)) (a .r) (g .train) _ (g .begins) _ (v .left) (v .p) (v .fresh) (v .nt) (v .nn) (arrays (v .pool) (v .begins) (v .ends)) (v .inv .6 (g .train) (g .begins))
 
   small : Small (o .loop .p)
   small =
-      let v = o .loop in let g = o .before .before .before .before .before .before .before .before .before .before .before .before .before .before .before .pre in let a = o .before .before .before .before .before .before .before .before .before .before .before .before .before .before .before .args in
+      let v = o .loop in let g = o .before .before .before .before .before .before .before .before .before .before .before .before .before .before .before .before .pre in let a = o .before .before .before .before .before .before .before .before .before .before .before .before .before .before .before .before .args in
       top-small (now (a .occ)) (now (a .img)) (now (a .dt)) (now (a .dn)) (a .r) (g .train) _ (g .begins) _ (v .left) (v .p) (v .fresh) (v .nt) (v .nn) (arrays (v .pool) (v .begins) (v .ends)) (v .inv .6 (g .train) (g .begins)) (v .inv .4)
 
   -- there is room for one node more
   room : nodePlace (estCount (o .loop .fresh)) (o .loop .p .«new_count» + 1) ≤ length (o .loop .fresh)
-  room = let v = o .loop in let g = o .before .before .before .before .before .before .before .before .before .before .before .before .before .before .before .pre in omega (arith, split .0, split .3, kept-count _ _ (v .inv .0), v .inv .0 .size, g .buffer)
+  room = let v = o .loop in let g = o .before .before .before .before .before .before .before .before .before .before .before .before .before .before .before .before .pre in omega (arith, split .0, split .3, kept-count _ _ (v .inv .0), v .inv .0 .size, g .buffer)
 
 -- ---- after a turn
 
 abbrev Done : Type 0
-Done = lts.After-after (one-less-reads.Asked, one-less-reads.Learnt, node-at-reads.Asked, node-at-reads.Learnt, turn-reads.Asked, turn-reads.Learnt, after-reads.Asked, after-reads.Learnt, put-new-reads.Asked, put-new-reads.Learnt, at-count-reads.Asked, at-count-reads.Learnt, current-reads.Asked, current-reads.Learnt, look-here-reads.Asked, look-here-reads.Learnt, out-of-turns-reads.Asked, out-of-turns-reads.Learnt) reads.Pre reads.Post Inv-loop μ-loop
+Done = lts.After-after (one-less-reads.Asked, one-less-reads.Learnt, node-at-reads.Asked, node-at-reads.Learnt, no-node-reads.Asked, no-node-reads.Learnt, turn-reads.Asked, turn-reads.Learnt, after-reads.Asked, after-reads.Learnt, put-new-reads.Asked, put-new-reads.Learnt, at-count-reads.Asked, at-count-reads.Learnt, current-reads.Asked, current-reads.Learnt, out-of-turns-reads.Asked, out-of-turns-reads.Learnt) reads.Pre reads.Post Inv-loop μ-loop
 
 module _ (d : Done) where
-  current-node : Look.current (pathOf (now (d .before .before .before .before .before .before .before .before .before .before .before .before .before .before .before .before .before .before .before .before .before .before .before .before .before .before .before .before .before .before .before .before .before .before .before .args .img)) (d .before .before .before .before .before .before .before .before .before .before .before .before .before .before .before .before .before .before .before .before .before .before .before .before .before .before .before .before .before .before .before .before .before .before .before .args .r .«path_count»)) (listed (d .before .before .before .before .before .before .before .before .before .before .before .before .before .before .before .before .before .before .before .before .loop .p .«new_count») (nodeAt (d .before .before .before .before .before .before .before .before .before .before .before .before .before .before .before .before .before .before .before .before .loop .fresh))) (d .before .before .before .before .before .before .before .before .before .before .before .before .before .before .before .before .before .before .before .before .loop .p .«idx_split») ≡ ok (d .before .before .before .before .before .before .before .before .before .before .before .before .before .before .before .before .before .before .before .before .loop .curr)
+  current-node : Look.current (pathOf (now (d .before .before .before .before .before .before .before .before .before .before .before .before .before .before .before .before .before .before .before .before .before .before .before .before .before .before .before .before .before .before .before .before .before .before .before .before .args .img)) (d .before .before .before .before .before .before .before .before .before .before .before .before .before .before .before .before .before .before .before .before .before .before .before .before .before .before .before .before .before .before .before .before .before .before .before .before .args .r .«path_count»)) (listed (d .before .before .before .before .before .before .before .before .before .before .before .before .before .before .before .before .before .before .before .before .loop .p .«new_count») (nodeAt (d .before .before .before .before .before .before .before .before .before .before .before .before .before .before .before .before .before .before .before .before .loop .fresh))) (d .before .before .before .before .before .before .before .before .before .before .before .before .before .before .before .before .before .before .before .before .loop .p .«idx_split») ≡ ok (d .before .before .before .before .before .before .before .before .before .before .before .before .before .before .before .before .before .before .before .before .loop .curr)
   current-node =
-      let v = d .before .before .before .before .before .before .before .before .before .before .before .before .before .before .before .before .before .before .before .before .loop in let g = d .before .before .before .before .before .before .before .before .before .before .before .before .before .before .before .before .before .before .before .before .before .before .before .before .before .before .before .before .before .before .before .before .before .before .before .pre in let a = d .before .before .before .before .before .before .before .before .before .before .before .before .before .before .before .before .before .before .before .before .before .before .before .before .before .before .before .before .before .before .before .before .before .before .before .args in
+      let v = d .before .before .before .before .before .before .before .before .before .before .before .before .before .before .before .before .before .before .before .before .loop in let g = d .before .before .before .before .before .before .before .before .before .before .before .before .before .before .before .before .before .before .before .before .before .before .before .before .before .before .before .before .before .before .before .before .before .before .before .before .pre in let a = d .before .before .before .before .before .before .before .before .before .before .before .before .before .before .before .before .before .before .before .before .before .before .before .before .before .before .before .before .before .before .before .before .before .before .before .before .args in
       top-current (now (a .occ)) (now (a .img)) (now (a .dt)) (now (a .dn)) (a .r) (g .train) _ (g .begins) _ (v .left) (v .p) (v .fresh) (v .nt) (v .nn) (arrays (v .pool) (v .begins) (v .ends)) (v .inv .6 (g .train) (g .begins)) ∙ ap ok (sym (v .inv .5))
 
-  lent : Lent (d .before .before .before .before .before .before .before .before .before .before .before .before .before .before .before .before .before .before .before .before .before .before .before .before .before .before .before .before .before .before .before .before .before .before .before .args .r .«est_count») (arrays (d .before .before .before .before .before .before .before .before .before .before .before .before .before .turn .last .1 .1 .1 .1 .1 .1 .1 .1 .0) (d .before .before .before .before .before .before .before .before .before .before .before .before .before .turn .last .1 .1 .1 .1 .1 .1 .1 .1 .1 .0) (d .before .before .before .before .before .before .before .before .before .before .before .before .before .turn .last .1 .1 .1 .1 .1 .1 .1 .1 .1 .1 .0))
+  lent : Lent (d .before .before .before .before .before .before .before .before .before .before .before .before .before .before .before .before .before .before .before .before .before .before .before .before .before .before .before .before .before .before .before .before .before .before .before .before .args .r .«est_count») (arrays (d .before .before .before .before .before .before .before .before .before .before .before .before .before .turn .last .1 .1 .1 .1 .1 .1 .1 .1 .0) (d .before .before .before .before .before .before .before .before .before .before .before .before .before .turn .last .1 .1 .1 .1 .1 .1 .1 .1 .1 .0) (d .before .before .before .before .before .before .before .before .before .before .before .before .before .turn .last .1 .1 .1 .1 .1 .1 .1 .1 .1 .1 .0))
   lent = let v = d .before .before .before .before .before .before .before .before .before .before .before .before .before .before .before .before .before .before .before .before .loop in record { est = v .inv .1 .est; trains = d .before .before .before .before .before .before .before .before .before .before .before .before .pool .given ∙ v .inv .1 .trains; first = d .before .before .before .before .before .before .before .before .before .before .begins .given ∙ v .inv .1 .first; last = d .before .before .before .before .before .before .before .before .ends .given ∙ v .inv .1 .last }
 
   left-suc : d .before .before .before .before .before .before .before .before .before .before .before .before .before .before .before .before .before .before .before .before .loop .left ≡ suc (d .before .before .before .before .before .before .before .before .before .before .before .before .before .before .before .before .before .before .before .before .loop .left - 1)
@@ -86,20 +86,20 @@ module _ (d : Done) where
   module _ (y : d .after .result .goes ≡ true) (fresh1 : List ℕ) (e : fresh1 ≡ cond (eqb (d .after .result .count) (d .before .before .before .before .before .before .before .before .before .before .before .before .before .before .before .before .before .before .before .before .loop .p .«new_count» + 1)) (putNode (d .after .result .node) (nodePlace (estCount (d .before .before .before .before .before .before .before .before .before .before .before .before .before .before .before .before .before .before .before .before .loop .fresh)) (d .before .before .before .before .before .before .before .before .before .before .before .before .before .before .before .before .before .before .before .before .loop .p .«new_count»)) (d .before .before .before .before .before .before .before .before .before .before .before .before .before .before .before .before .before .before .before .before .loop .fresh)) (d .before .before .before .before .before .before .before .before .before .before .before .before .before .before .before .before .before .before .before .before .loop .fresh)) where
     sound : d .after .result .count ≡ d .before .before .before .before .before .before .before .before .before .before .before .before .before .before .before .before .before .before .before .before .loop .p .«new_count» + 1 → Sound (d .after .result .node)
     sound =
-        let v = d .before .before .before .before .before .before .before .before .before .before .before .before .before .before .before .before .before .before .before .before .loop in let g = d .before .before .before .before .before .before .before .before .before .before .before .before .before .before .before .before .before .before .before .before .before .before .before .before .before .before .before .before .before .before .before .before .before .before .before .pre in let a = d .before .before .before .before .before .before .before .before .before .before .before .before .before .before .before .before .before .before .before .before .before .before .before .before .before .before .before .before .before .before .before .before .before .before .before .args in let u = d .before .before .before .before .before .before .before .before .before .before .before .before .before .turn in
+        let v = d .before .before .before .before .before .before .before .before .before .before .before .before .before .before .before .before .before .before .before .before .loop in let g = d .before .before .before .before .before .before .before .before .before .before .before .before .before .before .before .before .before .before .before .before .before .before .before .before .before .before .before .before .before .before .before .before .before .before .before .before .pre in let a = d .before .before .before .before .before .before .before .before .before .before .before .before .before .before .before .before .before .before .before .before .before .before .before .before .before .before .before .before .before .before .before .before .before .before .before .before .args in let u = d .before .before .before .before .before .before .before .before .before .before .before .before .before .turn in
         turn-sound (now (a .occ)) (now (a .img)) (now (a .dt)) (now (a .dn)) (a .r) (g .train) _ (g .begins) _ (v .left) (v .p) (v .fresh) (v .nt) (v .nn) (arrays (v .pool) (v .begins) (v .ends)) (v .inv .6 (g .train) (g .begins)) (u .last .1 .1 .1 .1 .1 .1 .1 .1 .1 .1 .1 .0) (u .last .1 .1 .1 .1 .1 .1 .1 .1 .1 .1 .1 .1 .0) (arrays (u .last .1 .1 .1 .1 .1 .1 .1 .1 .0) (u .last .1 .1 .1 .1 .1 .1 .1 .1 .1 .0) (u .last .1 .1 .1 .1 .1 .1 .1 .1 .1 .1 .0)) (u .result .go) (u .result .effect) (hereOf (u .result .here)) (u .result .place) (v .left - 1) left-suc (u .ensures .0 (g .train) (listed (v .p .«new_count») (nodeAt (v .fresh))) (listed-length _ _) current-node) (d .after .result) (d .after .ensures) y
 
-    going : (t : Train) (b : Begins (length (now (d .before .before .before .before .before .before .before .before .before .before .before .before .before .before .before .before .before .before .before .before .before .before .before .before .before .before .before .before .before .before .before .before .before .before .before .args .occ))) (roundOf t (now (d .before .before .before .before .before .before .before .before .before .before .before .before .before .before .before .before .before .before .before .before .before .before .before .before .before .before .before .before .before .before .before .before .before .before .before .args .occ)) (now (d .before .before .before .before .before .before .before .before .before .before .before .before .before .before .before .before .before .before .before .before .before .before .before .before .before .before .before .before .before .before .before .before .before .before .before .args .img)) (now (d .before .before .before .before .before .before .before .before .before .before .before .before .before .before .before .before .before .before .before .before .before .before .before .before .before .before .before .before .before .before .before .before .before .before .before .args .dt)) (now (d .before .before .before .before .before .before .before .before .before .before .before .before .before .before .before .before .before .before .before .before .before .before .before .before .before .before .before .before .before .before .before .before .before .before .before .args .dn)) (d .before .before .before .before .before .before .before .before .before .before .before .before .before .before .before .before .before .before .before .before .before .before .before .before .before .before .before .before .before .before .before .before .before .before .before .args .r)) (searchIn (d .before .before .before .before .before .before .before .before .before .before .before .before .before .before .before .before .before .before .before .before .before .before .before .before .before .before .before .before .before .before .before .before .before .before .before .args .r .«est_count») (d .before .before .before .before .before .before .before .before .before .before .before .before .before .before .before .before .before .before .before .before .before .before .before .before .before .before .before .before .before .before .before .before .before .before .before .args .start) [] (divsOf (d .before .before .before .before .before .before .before .before .before .before .before .before .before .before .before .before .before .before .before .before .before .before .before .before .before .before .before .before .before .before .before .before .before .before .before .args .start .«div_count») (now (d .before .before .before .before .before .before .before .before .before .before .before .before .before .before .before .before .before .before .before .before .before .before .before .before .before .before .before .before .before .before .before .before .before .before .before .args .nt)) (now (d .before .before .before .before .before .before .before .before .before .before .before .before .before .before .before .before .before .before .before .before .before .before .before .before .before .before .before .before .before .before .before .before .before .before .before .args .nn))) (arrays (now (d .before .before .before .before .before .before .before .before .before .before .before .before .before .before .before .before .before .before .before .before .before .before .before .before .before .before .before .before .before .before .before .before .before .before .before .args .pool)) (now (d .before .before .before .before .before .before .before .before .before .before .before .before .before .before .before .before .before .before .before .before .before .before .before .before .before .before .before .before .before .before .before .before .before .before .before .args .begins)) (now (d .before .before .before .before .before .before .before .before .before .before .before .before .before .before .before .before .before .before .before .before .before .before .before .before .before .before .before .before .before .before .before .before .before .before .before .args .ends)))))
-        → Going (length (now (d .before .before .before .before .before .before .before .before .before .before .before .before .before .before .before .before .before .before .before .before .before .before .before .before .before .before .before .before .before .before .before .before .before .before .before .args .occ))) (roundOf t (now (d .before .before .before .before .before .before .before .before .before .before .before .before .before .before .before .before .before .before .before .before .before .before .before .before .before .before .before .before .before .before .before .before .before .before .before .args .occ)) (now (d .before .before .before .before .before .before .before .before .before .before .before .before .before .before .before .before .before .before .before .before .before .before .before .before .before .before .before .before .before .before .before .before .before .before .before .args .img)) (now (d .before .before .before .before .before .before .before .before .before .before .before .before .before .before .before .before .before .before .before .before .before .before .before .before .before .before .before .before .before .before .before .before .before .before .before .args .dt)) (now (d .before .before .before .before .before .before .before .before .before .before .before .before .before .before .before .before .before .before .before .before .before .before .before .before .before .before .before .before .before .before .before .before .before .before .before .args .dn)) (d .before .before .before .before .before .before .before .before .before .before .before .before .before .before .before .before .before .before .before .before .before .before .before .before .before .before .before .before .before .before .before .before .before .before .before .args .r)) (3 * d .before .before .before .before .before .before .before .before .before .before .before .before .before .before .before .before .before .before .before .before .before .before .before .before .before .before .before .before .before .before .before .before .before .before .before .args .r .«est_count» + 1) (searchIn (d .before .before .before .before .before .before .before .before .before .before .before .before .before .before .before .before .before .before .before .before .before .before .before .before .before .before .before .before .before .before .before .before .before .before .before .args .r .«est_count») (d .before .before .before .before .before .before .before .before .before .before .before .before .before .before .before .before .before .before .before .before .before .before .before .before .before .before .before .before .before .before .before .before .before .before .before .args .start) [] (divsOf (d .before .before .before .before .before .before .before .before .before .before .before .before .before .before .before .before .before .before .before .before .before .before .before .before .before .before .before .before .before .before .before .before .before .before .before .args .start .«div_count») (now (d .before .before .before .before .before .before .before .before .before .before .before .before .before .before .before .before .before .before .before .before .before .before .before .before .before .before .before .before .before .before .before .before .before .before .before .args .nt)) (now (d .before .before .before .before .before .before .before .before .before .before .before .before .before .before .before .before .before .before .before .before .before .before .before .before .before .before .before .before .before .before .before .before .before .before .before .args .nn))) (arrays (now (d .before .before .before .before .before .before .before .before .before .before .before .before .before .before .before .before .before .before .before .before .before .before .before .before .before .before .before .before .before .before .before .before .before .before .before .args .pool)) (now (d .before .before .before .before .before .before .before .before .before .before .before .before .before .before .before .before .before .before .before .before .before .before .before .before .before .before .before .before .before .before .before .before .before .before .before .args .begins)) (now (d .before .before .before .before .before .before .before .before .before .before .before .before .before .before .before .before .before .before .before .before .before .before .before .before .before .before .before .before .before .before .before .before .before .before .before .args .ends)))) (d .before .before .before .before .before .before .before .before .before .before .before .before .before .before .before .before .before .before .before .before .loop .left - 1)
-        (searchIn (d .before .before .before .before .before .before .before .before .before .before .before .before .before .before .before .before .before .before .before .before .before .before .before .before .before .before .before .before .before .before .before .before .before .before .before .args .r .«est_count») (counted (d .before .before .before .before .before .before .before .before .before .before .before .before .before .turn .result .place) (d .after .result .count)) (listed (d .after .result .count) (nodeAt fresh1)) (divsOf (d .before .before .before .before .before .before .before .before .before .before .before .before .before .turn .result .place .«div_count») (d .before .before .before .before .before .before .before .before .before .before .before .before .before .turn .last .1 .1 .1 .1 .1 .1 .1 .1 .1 .1 .1 .0) (d .before .before .before .before .before .before .before .before .before .before .before .before .before .turn .last .1 .1 .1 .1 .1 .1 .1 .1 .1 .1 .1 .1 .0)) (arrays (d .before .before .before .before .before .before .before .before .before .before .before .before .before .turn .last .1 .1 .1 .1 .1 .1 .1 .1 .0) (d .before .before .before .before .before .before .before .before .before .before .before .before .before .turn .last .1 .1 .1 .1 .1 .1 .1 .1 .1 .0) (d .before .before .before .before .before .before .before .before .before .before .before .before .before .turn .last .1 .1 .1 .1 .1 .1 .1 .1 .1 .1 .0)))
+    going : (t : Train) (b : Begins (length (now (d .before .before .before .before .before .before .before .before .before .before .before .before .before .before .before .before .before .before .before .before .before .before .before .before .before .before .before .before .before .before .before .before .before .before .before .before .args .occ))) (roundOf t (now (d .before .before .before .before .before .before .before .before .before .before .before .before .before .before .before .before .before .before .before .before .before .before .before .before .before .before .before .before .before .before .before .before .before .before .before .before .args .occ)) (now (d .before .before .before .before .before .before .before .before .before .before .before .before .before .before .before .before .before .before .before .before .before .before .before .before .before .before .before .before .before .before .before .before .before .before .before .before .args .img)) (now (d .before .before .before .before .before .before .before .before .before .before .before .before .before .before .before .before .before .before .before .before .before .before .before .before .before .before .before .before .before .before .before .before .before .before .before .before .args .dt)) (now (d .before .before .before .before .before .before .before .before .before .before .before .before .before .before .before .before .before .before .before .before .before .before .before .before .before .before .before .before .before .before .before .before .before .before .before .before .args .dn)) (d .before .before .before .before .before .before .before .before .before .before .before .before .before .before .before .before .before .before .before .before .before .before .before .before .before .before .before .before .before .before .before .before .before .before .before .before .args .r)) (searchIn (d .before .before .before .before .before .before .before .before .before .before .before .before .before .before .before .before .before .before .before .before .before .before .before .before .before .before .before .before .before .before .before .before .before .before .before .before .args .r .«est_count») (d .before .before .before .before .before .before .before .before .before .before .before .before .before .before .before .before .before .before .before .before .before .before .before .before .before .before .before .before .before .before .before .before .before .before .before .before .args .start) [] (divsOf (d .before .before .before .before .before .before .before .before .before .before .before .before .before .before .before .before .before .before .before .before .before .before .before .before .before .before .before .before .before .before .before .before .before .before .before .before .args .start .«div_count») (now (d .before .before .before .before .before .before .before .before .before .before .before .before .before .before .before .before .before .before .before .before .before .before .before .before .before .before .before .before .before .before .before .before .before .before .before .before .args .nt)) (now (d .before .before .before .before .before .before .before .before .before .before .before .before .before .before .before .before .before .before .before .before .before .before .before .before .before .before .before .before .before .before .before .before .before .before .before .before .args .nn))) (arrays (now (d .before .before .before .before .before .before .before .before .before .before .before .before .before .before .before .before .before .before .before .before .before .before .before .before .before .before .before .before .before .before .before .before .before .before .before .before .args .pool)) (now (d .before .before .before .before .before .before .before .before .before .before .before .before .before .before .before .before .before .before .before .before .before .before .before .before .before .before .before .before .before .before .before .before .before .before .before .before .args .begins)) (now (d .before .before .before .before .before .before .before .before .before .before .before .before .before .before .before .before .before .before .before .before .before .before .before .before .before .before .before .before .before .before .before .before .before .before .before .before .args .ends)))))
+        → Going (length (now (d .before .before .before .before .before .before .before .before .before .before .before .before .before .before .before .before .before .before .before .before .before .before .before .before .before .before .before .before .before .before .before .before .before .before .before .before .args .occ))) (roundOf t (now (d .before .before .before .before .before .before .before .before .before .before .before .before .before .before .before .before .before .before .before .before .before .before .before .before .before .before .before .before .before .before .before .before .before .before .before .before .args .occ)) (now (d .before .before .before .before .before .before .before .before .before .before .before .before .before .before .before .before .before .before .before .before .before .before .before .before .before .before .before .before .before .before .before .before .before .before .before .before .args .img)) (now (d .before .before .before .before .before .before .before .before .before .before .before .before .before .before .before .before .before .before .before .before .before .before .before .before .before .before .before .before .before .before .before .before .before .before .before .before .args .dt)) (now (d .before .before .before .before .before .before .before .before .before .before .before .before .before .before .before .before .before .before .before .before .before .before .before .before .before .before .before .before .before .before .before .before .before .before .before .before .args .dn)) (d .before .before .before .before .before .before .before .before .before .before .before .before .before .before .before .before .before .before .before .before .before .before .before .before .before .before .before .before .before .before .before .before .before .before .before .before .args .r)) (3 * d .before .before .before .before .before .before .before .before .before .before .before .before .before .before .before .before .before .before .before .before .before .before .before .before .before .before .before .before .before .before .before .before .before .before .before .before .args .r .«est_count» + 1) (searchIn (d .before .before .before .before .before .before .before .before .before .before .before .before .before .before .before .before .before .before .before .before .before .before .before .before .before .before .before .before .before .before .before .before .before .before .before .before .args .r .«est_count») (d .before .before .before .before .before .before .before .before .before .before .before .before .before .before .before .before .before .before .before .before .before .before .before .before .before .before .before .before .before .before .before .before .before .before .before .before .args .start) [] (divsOf (d .before .before .before .before .before .before .before .before .before .before .before .before .before .before .before .before .before .before .before .before .before .before .before .before .before .before .before .before .before .before .before .before .before .before .before .before .args .start .«div_count») (now (d .before .before .before .before .before .before .before .before .before .before .before .before .before .before .before .before .before .before .before .before .before .before .before .before .before .before .before .before .before .before .before .before .before .before .before .before .args .nt)) (now (d .before .before .before .before .before .before .before .before .before .before .before .before .before .before .before .before .before .before .before .before .before .before .before .before .before .before .before .before .before .before .before .before .before .before .before .before .args .nn))) (arrays (now (d .before .before .before .before .before .before .before .before .before .before .before .before .before .before .before .before .before .before .before .before .before .before .before .before .before .before .before .before .before .before .before .before .before .before .before .before .args .pool)) (now (d .before .before .before .before .before .before .before .before .before .before .before .before .before .before .before .before .before .before .before .before .before .before .before .before .before .before .before .before .before .before .before .before .before .before .before .before .args .begins)) (now (d .before .before .before .before .before .before .before .before .before .before .before .before .before .before .before .before .before .before .before .before .before .before .before .before .before .before .before .before .before .before .before .before .before .before .before .before .args .ends)))) (d .before .before .before .before .before .before .before .before .before .before .before .before .before .before .before .before .before .before .before .before .loop .left - 1)
+        (searchIn (d .before .before .before .before .before .before .before .before .before .before .before .before .before .before .before .before .before .before .before .before .before .before .before .before .before .before .before .before .before .before .before .before .before .before .before .before .args .r .«est_count») (counted (d .before .before .before .before .before .before .before .before .before .before .before .before .before .turn .result .place) (d .after .result .count)) (listed (d .after .result .count) (nodeAt fresh1)) (divsOf (d .before .before .before .before .before .before .before .before .before .before .before .before .before .turn .result .place .«div_count») (d .before .before .before .before .before .before .before .before .before .before .before .before .before .turn .last .1 .1 .1 .1 .1 .1 .1 .1 .1 .1 .1 .0) (d .before .before .before .before .before .before .before .before .before .before .before .before .before .turn .last .1 .1 .1 .1 .1 .1 .1 .1 .1 .1 .1 .1 .0)) (arrays (d .before .before .before .before .before .before .before .before .before .before .before .before .before .turn .last .1 .1 .1 .1 .1 .1 .1 .1 .0) (d .before .before .before .before .before .before .before .before .before .before .before .before .before .turn .last .1 .1 .1 .1 .1 .1 .1 .1 .1 .0) (d .before .before .before .before .before .before .before .before .before .before .before .before .before .turn .last .1 .1 .1 .1 .1 .1 .1 .1 .1 .1 .0)))
     going t b =
-        let v = d .before .before .before .before .before .before .before .before .before .before .before .before .before .before .before .before .before .before .before .before .loop in let g = d .before .before .before .before .before .before .before .before .before .before .before .before .before .before .before .before .before .before .before .before .before .before .before .before .before .before .before .before .before .before .before .before .before .before .before .pre in let a = d .before .before .before .before .before .before .before .before .before .before .before .before .before .before .before .before .before .before .before .before .before .before .before .before .before .before .before .before .before .before .before .before .before .before .before .args in let u = d .before .before .before .before .before .before .before .before .before .before .before .before .before .turn in
+        let v = d .before .before .before .before .before .before .before .before .before .before .before .before .before .before .before .before .before .before .before .before .loop in let g = d .before .before .before .before .before .before .before .before .before .before .before .before .before .before .before .before .before .before .before .before .before .before .before .before .before .before .before .before .before .before .before .before .before .before .before .before .pre in let a = d .before .before .before .before .before .before .before .before .before .before .before .before .before .before .before .before .before .before .before .before .before .before .before .before .before .before .before .before .before .before .before .before .before .before .before .before .args in let u = d .before .before .before .before .before .before .before .before .before .before .before .before .before .turn in
         turn-on (now (a .occ)) (now (a .img)) (now (a .dt)) (now (a .dn)) (a .r) t _ b _ (v .left) (v .p) (v .fresh) (v .nt) (v .nn) (arrays (v .pool) (v .begins) (v .ends)) (v .inv .6 t b) (u .last .1 .1 .1 .1 .1 .1 .1 .1 .1 .1 .1 .0) (u .last .1 .1 .1 .1 .1 .1 .1 .1 .1 .1 .1 .1 .0) (arrays (u .last .1 .1 .1 .1 .1 .1 .1 .1 .0) (u .last .1 .1 .1 .1 .1 .1 .1 .1 .1 .0) (u .last .1 .1 .1 .1 .1 .1 .1 .1 .1 .1 .0)) (u .result .go) (u .result .effect) (hereOf (u .result .here)) (u .result .place) (v .left - 1) left-suc (u .ensures .0 t (listed (v .p .«new_count») (nodeAt (v .fresh))) (listed-length _ _) current-node) (d .after .result) (d .after .ensures) y
         fresh1 (written (v .fresh) fresh1 (v .p .«new_count») (d .after .result .node) (d .after .result .count) e (room (d .before .before .before .before .before .before .before .before .before .before .before .before .before .before .before .before .before .before .before .before)) sound (d .after .ensures .few))
 
-    next-split : (1 ≤ d .before .before .before .before .before .before .before .before .before .before .before .before .before .turn .result .place .«idx_split») × (d .before .before .before .before .before .before .before .before .before .before .before .before .before .turn .result .place .«idx_split» ≤ d .before .before .before .before .before .before .before .before .before .before .before .before .before .before .before .before .before .before .before .before .before .before .before .before .before .before .before .before .before .before .before .before .before .before .before .args .r .«path_count») × (d .before .before .before .before .before .before .before .before .before .before .before .before .before .turn .result .place .«idx_split» + d .after .result .count ≤ 512) × (d .before .before .before .before .before .before .before .before .before .before .before .before .before .turn .result .place .«idx_split» + d .after .result .count ≤ d .before .before .before .before .before .before .before .before .before .before .before .before .before .before .before .before .before .before .before .before .before .before .before .before .before .before .before .before .before .before .before .before .before .before .before .args .r .«est_count»)
+    next-split : (1 ≤ d .before .before .before .before .before .before .before .before .before .before .before .before .before .turn .result .place .«idx_split») × (d .before .before .before .before .before .before .before .before .before .before .before .before .before .turn .result .place .«idx_split» ≤ d .before .before .before .before .before .before .before .before .before .before .before .before .before .before .before .before .before .before .before .before .before .before .before .before .before .before .before .before .before .before .before .before .before .before .before .before .args .r .«path_count») × (d .before .before .before .before .before .before .before .before .before .before .before .before .before .turn .result .place .«idx_split» + d .after .result .count ≤ 512) × (d .before .before .before .before .before .before .before .before .before .before .before .before .before .turn .result .place .«idx_split» + d .after .result .count ≤ d .before .before .before .before .before .before .before .before .before .before .before .before .before .before .before .before .before .before .before .before .before .before .before .before .before .before .before .before .before .before .before .before .before .before .before .before .args .r .«est_count»)
     next-split =
-        let v = d .before .before .before .before .before .before .before .before .before .before .before .before .before .before .before .before .before .before .before .before .loop in let g = d .before .before .before .before .before .before .before .before .before .before .before .before .before .before .before .before .before .before .before .before .before .before .before .before .before .before .before .before .before .before .before .before .before .before .before .pre in let a = d .before .before .before .before .before .before .before .before .before .before .before .before .before .before .before .before .before .before .before .before .before .before .before .before .before .before .before .before .before .before .before .before .before .before .before .args in let u = d .before .before .before .before .before .before .before .before .before .before .before .before .before .turn in
+        let v = d .before .before .before .before .before .before .before .before .before .before .before .before .before .before .before .before .before .before .before .before .loop in let g = d .before .before .before .before .before .before .before .before .before .before .before .before .before .before .before .before .before .before .before .before .before .before .before .before .before .before .before .before .before .before .before .before .before .before .before .before .pre in let a = d .before .before .before .before .before .before .before .before .before .before .before .before .before .before .before .before .before .before .before .before .before .before .before .before .before .before .before .before .before .before .before .before .before .before .before .before .args in let u = d .before .before .before .before .before .before .before .before .before .before .before .before .before .turn in
         top-split (now (a .occ)) (now (a .img)) (now (a .dt)) (now (a .dn)) (a .r) (g .train) _ (g .begins) _ (v .left - 1) (counted (u .result .place) (d .after .result .count)) fresh1 (u .last .1 .1 .1 .1 .1 .1 .1 .1 .1 .1 .1 .0) (u .last .1 .1 .1 .1 .1 .1 .1 .1 .1 .1 .1 .1 .0) (arrays (u .last .1 .1 .1 .1 .1 .1 .1 .1 .0) (u .last .1 .1 .1 .1 .1 .1 .1 .1 .1 .0) (u .last .1 .1 .1 .1 .1 .1 .1 .1 .1 .1 .0)) (going (g .train) (g .begins))
 
 one-less-requires : tie.Need-one-less-requires Inv-loop μ-loop
@@ -114,48 +114,51 @@ cast-node-at c =
 node-at-requires : tie.Need-node-at-requires Inv-loop μ-loop
 node-at-requires c κs = search needs
 
+no-node-requires : tie.Need-no-node-requires Inv-loop μ-loop
+no-node-requires c κs = search needs
+
 mul-left : tie.Need-mul-left Inv-loop μ-loop
-mul-left c = let h = c .before .before .before .before .before .before .before .before .before .before .before .before .before .before .pre .sized .est in omega (arith, h)
+mul-left c = let h = c .before .before .before .before .before .before .before .before .before .before .before .before .before .before .before .pre .sized .est in omega (arith, h)
 
 add-left : tie.Need-add-left Inv-loop μ-loop
-add-left c = let h = c .before .before .before .before .before .before .before .before .before .before .before .before .before .before .pre .sized .est in omega (arith, h)
+add-left c = let h = c .before .before .before .before .before .before .before .before .before .before .before .before .before .before .before .pre .sized .est in omega (arith, h)
 
 loop-holds : tie.Need-loop-holds Inv-loop μ-loop
 unfolding listed
 loop-holds c =
-    let g = c .before .before .before .before .before .before .before .before .before .before .before .before .before .before .pre in
-    (record { size = refl; below = λ i h. refl }, g .lent, g .newTrains, g .newNodes, g .pooled, rw (g .none) (c .before .node-at .ensures ∙ ap (nodeAt _) (c .before .before .one-less .ensures)), (λ t b. rw (g .none) (going-first _ _ _ b _)), refl, (λ i h. absurd (omega (arith, g .none, h))))
+    let g = c .before .before .before .before .before .before .before .before .before .before .before .before .before .before .before .pre in
+    (record { size = refl; below = λ i h. refl }, g .lent, g .newTrains, g .newNodes, g .pooled, rw (g .none) (c .before .before .node-at .ensures ∙ ap (nodeAt _) (c .before .before .before .one-less .ensures)), (λ t b. rw (g .none) (going-first _ _ _ b _)), refl, (λ i h. absurd (omega (arith, g .none, h))))
 
 turn-requires : tie.Need-turn-requires Inv-loop μ-loop
 turn-requires c κs =
     let v = c .before .before .before .before .before .before .loop .inv in
-    let g = c .before .before .before .before .before .before .before .before .before .before .before .before .before .before .before .before .before .before .before .before .before .pre in
+    let g = c .before .before .before .before .before .before .before .before .before .before .before .before .before .before .before .before .before .before .before .before .before .before .pre in
     (small (c .before .before .before .before .before .before), g .sized, v .1, v .2, v .3, g .marked)
 
 after-requires : tie.Need-after-requires Inv-loop μ-loop
 after-requires c κs = let h = split (c .before .before .before .before .before .before .before .before .before .before .before .before .before .before .before .before .before .before .before) in omega (arith, h .0, h .2)
 
 same-length : tie.Need-same-length Inv-loop μ-loop
-same-length c = let d = c .before .before in let v = d .before .before .before .before .before .before .before .before .before .before .before .before .before .before .before .before .before .before .before .before .loop in let g = d .before .before .before .before .before .before .before .before .before .before .before .before .before .before .before .before .before .before .before .before .before .before .before .before .before .before .before .before .before .before .before .before .before .before .before .pre in v .inv .0 .size
+same-length c = let d = c .before .before in let v = d .before .before .before .before .before .before .before .before .before .before .before .before .before .before .before .before .before .before .before .before .loop in let g = d .before .before .before .before .before .before .before .before .before .before .before .before .before .before .before .before .before .before .before .before .before .before .before .before .before .before .before .before .before .before .before .before .before .before .before .before .pre in v .inv .0 .size
 
 same-length-2 : tie.Need-same-length-2 Inv-loop μ-loop
-same-length-2 c = let d = c .before .before in let v = d .before .before .before .before .before .before .before .before .before .before .before .before .before .before .before .before .before .before .before .before .loop in let g = d .before .before .before .before .before .before .before .before .before .before .before .before .before .before .before .before .before .before .before .before .before .before .before .before .before .before .before .before .before .before .before .before .before .before .before .pre in lent d .trains ∙ sym (g .lent .trains)
+same-length-2 c = let d = c .before .before in let v = d .before .before .before .before .before .before .before .before .before .before .before .before .before .before .before .before .before .before .before .before .loop in let g = d .before .before .before .before .before .before .before .before .before .before .before .before .before .before .before .before .before .before .before .before .before .before .before .before .before .before .before .before .before .before .before .before .before .before .before .before .pre in lent d .trains ∙ sym (g .lent .trains)
 
 same-length-3 : tie.Need-same-length-3 Inv-loop μ-loop
-same-length-3 c = let d = c .before .before in let v = d .before .before .before .before .before .before .before .before .before .before .before .before .before .before .before .before .before .before .before .before .loop in let g = d .before .before .before .before .before .before .before .before .before .before .before .before .before .before .before .before .before .before .before .before .before .before .before .before .before .before .before .before .before .before .before .before .before .before .before .pre in lent d .first ∙ sym (g .lent .first)
+same-length-3 c = let d = c .before .before in let v = d .before .before .before .before .before .before .before .before .before .before .before .before .before .before .before .before .before .before .before .before .loop in let g = d .before .before .before .before .before .before .before .before .before .before .before .before .before .before .before .before .before .before .before .before .before .before .before .before .before .before .before .before .before .before .before .before .before .before .before .before .pre in lent d .first ∙ sym (g .lent .first)
 
 same-length-4 : tie.Need-same-length-4 Inv-loop μ-loop
-same-length-4 c = let d = c .before .before in let v = d .before .before .before .before .before .before .before .before .before .before .before .before .before .before .before .before .before .before .before .before .loop in let g = d .before .before .before .before .before .before .before .before .before .before .before .before .before .before .before .before .before .before .before .before .before .before .before .before .before .before .before .before .before .before .before .before .before .before .before .pre in lent d .last ∙ sym (g .lent .last)
+same-length-4 c = let d = c .before .before in let v = d .before .before .before .before .before .before .before .before .before .before .before .before .before .before .before .before .before .before .before .before .loop in let g = d .before .before .before .before .before .before .before .before .before .before .before .before .before .before .before .before .before .before .before .before .before .before .before .before .before .before .before .before .before .before .before .before .before .before .before .before .pre in lent d .last ∙ sym (g .lent .last)
 
 same-length-5 : tie.Need-same-length-5 Inv-loop μ-loop
-same-length-5 c = let d = c .before .before in let v = d .before .before .before .before .before .before .before .before .before .before .before .before .before .before .before .before .before .before .before .before .loop in let g = d .before .before .before .before .before .before .before .before .before .before .before .before .before .before .before .before .before .before .before .before .before .before .before .before .before .before .before .before .before .before .before .before .before .before .before .pre in d .before .before .before .before .before .before .nt .given ∙ v .inv .2 ∙ sym (g .newTrains)
+same-length-5 c = let d = c .before .before in let v = d .before .before .before .before .before .before .before .before .before .before .before .before .before .before .before .before .before .before .before .before .loop in let g = d .before .before .before .before .before .before .before .before .before .before .before .before .before .before .before .before .before .before .before .before .before .before .before .before .before .before .before .before .before .before .before .before .before .before .before .before .pre in d .before .before .before .before .before .before .nt .given ∙ v .inv .2 ∙ sym (g .newTrains)
 
 same-length-6 : tie.Need-same-length-6 Inv-loop μ-loop
-same-length-6 c = let d = c .before .before in let v = d .before .before .before .before .before .before .before .before .before .before .before .before .before .before .before .before .before .before .before .before .loop in let g = d .before .before .before .before .before .before .before .before .before .before .before .before .before .before .before .before .before .before .before .before .before .before .before .before .before .before .before .before .before .before .before .before .before .before .before .pre in d .before .before .before .before .nn .given ∙ v .inv .3 ∙ sym (g .newNodes)
+same-length-6 c = let d = c .before .before in let v = d .before .before .before .before .before .before .before .before .before .before .before .before .before .before .before .before .before .before .before .before .loop in let g = d .before .before .before .before .before .before .before .before .before .before .before .before .before .before .before .before .before .before .before .before .before .before .before .before .before .before .before .before .before .before .before .before .before .before .before .before .pre in d .before .before .before .before .nn .given ∙ v .inv .3 ∙ sym (g .newNodes)
 
 returns : tie.Need-returns Inv-loop μ-loop
 returns c =
-    let d = c .before .before in let v = d .before .before .before .before .before .before .before .before .before .before .before .before .before .before .before .before .before .before .before .before .loop in let g = d .before .before .before .before .before .before .before .before .before .before .before .before .before .before .before .before .before .before .before .before .before .before .before .before .before .before .before .before .before .before .before .before .before .before .before .pre in let a = d .before .before .before .before .before .before .before .before .before .before .before .before .before .before .before .before .before .before .before .before .before .before .before .before .before .before .before .before .before .before .before .before .before .before .before .args in let u = d .before .before .before .before .before .before .before .before .before .before .before .before .before .turn in (
+    let d = c .before .before in let v = d .before .before .before .before .before .before .before .before .before .before .before .before .before .before .before .before .before .before .before .before .loop in let g = d .before .before .before .before .before .before .before .before .before .before .before .before .before .before .before .before .before .before .before .before .before .before .before .before .before .before .before .before .before .before .before .before .before .before .before .before .pre in let a = d .before .before .before .before .before .before .before .before .before .before .before .before .before .before .before .before .before .before .before .before .before .before .before .before .before .before .before .before .before .before .before .before .before .before .before .before .args in let u = d .before .before .before .before .before .before .before .before .before .before .before .before .before .turn in (
       (λ t b. turn-ends (now (a .occ)) (now (a .img)) (now (a .dt)) (now (a .dn)) (a .r) t _ b _ (v .left) (v .p) (v .fresh) (v .nt) (v .nn) (arrays (v .pool) (v .begins) (v .ends)) (v .inv .6 t b) (u .last .1 .1 .1 .1 .1 .1 .1 .1 .1 .1 .1 .0) (u .last .1 .1 .1 .1 .1 .1 .1 .1 .1 .1 .1 .1 .0) (arrays (u .last .1 .1 .1 .1 .1 .1 .1 .1 .0) (u .last .1 .1 .1 .1 .1 .1 .1 .1 .1 .0) (u .last .1 .1 .1 .1 .1 .1 .1 .1 .1 .1 .0)) (u .result .go) (u .result .effect) (hereOf (u .result .here)) (u .result .place) (v .left - 1) (left-suc d) (u .ensures .0 t (listed (v .p .«new_count») (nodeAt (v .fresh))) (listed-length _ _) (current-node d)) (d .after .result) (d .after .ensures) (not-true _ (c .if1 .taken)) (ap (λ (j : ℕ). 3 * j + 1) (sym (listed-length (a .r .«est_count») (estAt (now (a .img))))))),
       v .inv .0,
       u .ensures .1 .pool,
@@ -195,7 +198,7 @@ loop-less c = let h = c .before .before .before .before .before .before .before 
 
 loop-again : tie.Need-loop-again Inv-loop μ-loop
 loop-again c =
-    let d = c .before .before .before .before .before .before .before .before .before .before .before in let v = d .before .before .before .before .before .before .before .before .before .before .before .before .before .before .before .before .before .before .before .before .loop in let a = d .before .before .before .before .before .before .before .before .before .before .before .before .before .before .before .before .before .before .before .before .before .before .before .before .before .before .before .before .before .before .before .before .before .before .before .args in let u = d .before .before .before .before .before .before .before .before .before .before .before .before .before .turn in let e = c .before .before .before .at-count .ensures in let y = not-false _ (c .before .before .before .before .before .before .before .before .before .if1 .left) in let w = c .before .before .before .before .before .before .put-new .ensures in
+    let d = c .before .before .before .before .before .before .before .before .before .before .before in let v = d .before .before .before .before .before .before .before .before .before .before .before .before .before .before .before .before .before .before .before .before .loop in let a = d .before .before .before .before .before .before .before .before .before .before .before .before .before .before .before .before .before .before .before .before .before .before .before .before .before .before .before .before .before .before .before .before .before .before .before .before .args in let u = d .before .before .before .before .before .before .before .before .before .before .before .before .before .turn in let e = c .before .before .before .at-count .ensures in let y = not-false _ (c .before .before .before .before .before .before .before .before .before .if1 .left) in let w = c .before .before .before .before .before .before .put-new .ensures in
     let h = split (d .before .before .before .before .before .before .before .before .before .before .before .before .before .before .before .before .before .before .before .before) in
     let same : (i : ℕ) → i < d .after .result .count → getD (set (v .new) (v .p .«new_count») (d .after .result .node)) i blank ≡ nodeAt (c .before .before .before .before .before .before .put-new .last .0) i =
     λ i j. array-next (v .fresh) _ (v .p .«new_count») (d .after .result .node) (d .after .result .count) w (room (d .before .before .before .before .before .before .before .before .before .before .before .before .before .before .before .before .before .before .before .before)) (sound d y _ w) (v .new) blank (omega (arith, h .0, h .2, v .inv .7)) (v .inv .8) i j (d .after .ensures .few) in (
@@ -210,34 +213,31 @@ loop-again c =
       rw e same,
     )
 
-look-here-requires : tie.Need-look-here-requires Inv-loop μ-loop
-look-here-requires c κs = small (c .before .before)
-
 out-of-turns-requires : tie.Need-out-of-turns-requires Inv-loop μ-loop
 out-of-turns-requires c κs = search needs
 
 same-length-7 : tie.Need-same-length-7 Inv-loop μ-loop
-same-length-7 c = let v = c .before .before .before .before .loop in let g = c .before .before .before .before .before .before .before .before .before .before .before .before .before .before .before .before .before .before .before .pre in v .inv .0 .size
+same-length-7 c = let v = c .before .before .loop in let g = c .before .before .before .before .before .before .before .before .before .before .before .before .before .before .before .before .before .before .pre in v .inv .0 .size
 
 same-length-8 : tie.Need-same-length-8 Inv-loop μ-loop
-same-length-8 c = let v = c .before .before .before .before .loop in let g = c .before .before .before .before .before .before .before .before .before .before .before .before .before .before .before .before .before .before .before .pre in v .inv .1 .trains ∙ sym (g .lent .trains)
+same-length-8 c = let v = c .before .before .loop in let g = c .before .before .before .before .before .before .before .before .before .before .before .before .before .before .before .before .before .before .pre in v .inv .1 .trains ∙ sym (g .lent .trains)
 
 same-length-9 : tie.Need-same-length-9 Inv-loop μ-loop
-same-length-9 c = let v = c .before .before .before .before .loop in let g = c .before .before .before .before .before .before .before .before .before .before .before .before .before .before .before .before .before .before .before .pre in v .inv .1 .first ∙ sym (g .lent .first)
+same-length-9 c = let v = c .before .before .loop in let g = c .before .before .before .before .before .before .before .before .before .before .before .before .before .before .before .before .before .before .pre in v .inv .1 .first ∙ sym (g .lent .first)
 
 same-length-10 : tie.Need-same-length-10 Inv-loop μ-loop
-same-length-10 c = let v = c .before .before .before .before .loop in let g = c .before .before .before .before .before .before .before .before .before .before .before .before .before .before .before .before .before .before .before .pre in v .inv .1 .last ∙ sym (g .lent .last)
+same-length-10 c = let v = c .before .before .loop in let g = c .before .before .before .before .before .before .before .before .before .before .before .before .before .before .before .before .before .before .pre in v .inv .1 .last ∙ sym (g .lent .last)
 
 same-length-11 : tie.Need-same-length-11 Inv-loop μ-loop
-same-length-11 c = let v = c .before .before .before .before .loop in let g = c .before .before .before .before .before .before .before .before .before .before .before .before .before .before .before .before .before .before .before .pre in v .inv .2 ∙ sym (g .newTrains)
+same-length-11 c = let v = c .before .before .loop in let g = c .before .before .before .before .before .before .before .before .before .before .before .before .before .before .before .before .before .before .pre in v .inv .2 ∙ sym (g .newTrains)
 
 same-length-12 : tie.Need-same-length-12 Inv-loop μ-loop
-same-length-12 c = let v = c .before .before .before .before .loop in let g = c .before .before .before .before .before .before .before .before .before .before .before .before .before .before .before .before .before .before .before .pre in v .inv .3 ∙ sym (g .newNodes)
+same-length-12 c = let v = c .before .before .loop in let g = c .before .before .before .before .before .before .before .before .before .before .before .before .before .before .before .before .before .before .pre in v .inv .3 ∙ sym (g .newNodes)
 
 returns-2 : tie.Need-returns-2 Inv-loop μ-loop
 returns-2 c =
-    let v = c .before .before .before .before .loop in let a = c .before .before .before .before .before .before .before .before .before .before .before .before .before .before .before .before .before .before .before .args in let e = c .out-of-turns .ensures in (
-      (λ t b. rw (e .0, e .1) (turns-out (length (now (a .occ))) (roundOf t (now (a .occ)) (now (a .img)) (now (a .dt)) (now (a .dn)) (a .r)) _ _ _ b _ _ (v .left) (v .inv .6 t b) (omega (arith, c .before .before .before .loop-test .left)) (ap (λ (j : ℕ). 3 * j + 1) (sym (listed-length (a .r .«est_count») (estAt (now (a .img)))))))),
+    let v = c .before .before .loop in let a = c .before .before .before .before .before .before .before .before .before .before .before .before .before .before .before .before .before .before .args in let e = c .out-of-turns .ensures in (
+      (λ t b. rw (e .0, e .1) (turns-out (length (now (a .occ))) (roundOf t (now (a .occ)) (now (a .img)) (now (a .dt)) (now (a .dn)) (a .r)) _ _ _ b _ _ (v .left) (v .inv .6 t b) (omega (arith, c .before .loop-test .left)) (ap (λ (j : ℕ). 3 * j + 1) (sym (listed-length (a .r .«est_count») (estAt (now (a .img)))))))),
       v .inv .0,
       rw (e .2) (v .inv .4),
     )
@@ -251,6 +251,7 @@ run-spec =
     one-less-requires
     cast-node-at
     node-at-requires
+    no-node-requires
     mul-left
     add-left
     loop-holds
@@ -274,7 +275,6 @@ run-spec =
     sub-left
     loop-less
     loop-again
-    look-here-requires
     out-of-turns-requires
     same-length-7
     same-length-8
