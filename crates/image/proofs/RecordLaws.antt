@@ -17,8 +17,30 @@ use Rattle.disp_structs.specs.declared.EstTime.{EstTime}
 use Rattle.disp_structs.specs.declared.DispNode.{DispNode}
 use Rattle.disp_structs.specs.declared.DivergeNode.{DivergeNode}
 use Rattle.disp_structs.proofs.FloatLaws.{bits-real, bits-lt, real-bits}
-use Rattle.image.specs.Image.{typeOf, typeNumber, estFrom, nodeFrom, divergeFrom, putEst, putNode, putDiverge}
+use Rattle.image.specs.Image.{estCount, estPlace, nodePlace, typeOf, typeNumber, estFrom, nodeFrom, divergeFrom, estAt, nodeAt, zeroEst, zeroNode, wholeEst, wholeNode, putEst, putNode, putDiverge}
+use borrow.Author.Tests.{le-ltb, lt-ltb}
 use Rattle.image.proofs.Writers.{Writes, put-to, then}
+
+-- ---- records within an image
+
+module _ (bs : List ℕ) (i : ℕ) where
+  pub whole-est : estPlace i + 32 ≤ length bs → wholeEst bs i ≡ estAt bs i
+  unfolding wholeEst
+  whole-est h = rw (le-ltb (length bs) (estPlace i + 32) h)
+
+  pub whole-est-past : length bs < estPlace i + 32 → wholeEst bs i ≡ zeroEst
+  unfolding wholeEst
+  whole-est-past h = rw (lt-ltb (length bs) (estPlace i + 32) h)
+
+  pub whole-node : nodePlace (estCount bs) i + 32 ≤ length bs → wholeNode bs i ≡ nodeAt bs i
+  unfolding wholeNode
+  whole-node h = rw (le-ltb (length bs) (nodePlace (estCount bs) i + 32) h)
+
+  pub whole-node-past : length bs < nodePlace (estCount bs) i + 32 → wholeNode bs i ≡ zeroNode
+  unfolding wholeNode
+  whole-node-past h = rw (lt-ltb (length bs) (nodePlace (estCount bs) i + 32) h)
+
+-- ---- floats
 
 -- the pattern of no NaN
 abbrev pub Number : ℕ → Type 0

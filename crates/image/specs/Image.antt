@@ -1,8 +1,9 @@
 -- The image of one train (document 01, Layouts): its header, its records, and the state that they hold. Assumes nothing.
 use Prim.Native.Nat.{ℕ, zero, suc, _+_, _*_, _-_}
 use mathlib.Core.Bool.{cond}
-use mathlib.Core.List.{List}
-use lib.Dec.{eqb}
+use mathlib.Core.List.{List, []}
+use lib.Dec.{eqb, ltb}
+use lib.ListN.{length}
 use Rattle.link_rules.specs.Octets.{leAt, putLe}
 use Rattle.link_rules.specs.declared.link_idx.TrainIdx.{TrainIdx}
 use Rattle.disp_structs.specs.Floats.{realOf, bitsOf}
@@ -118,6 +119,20 @@ nodeAt bs i = nodeFrom bs (nodePlace (estCount bs) i)
 
 abbrev pub divergeAt : List ℕ → ℕ → DivergeNode
 divergeAt bs i = divergeFrom bs (divergePlace (estCount bs) i)
+
+-- records of zeros
+abbrev pub zeroEst : EstTime
+zeroEst = estFrom [] 0
+
+abbrev pub zeroNode : DispNode
+zeroNode = nodeFrom [] 0
+
+-- est_times[i] and disp_path[i] where the record lies within the image, else a record of zeros
+unfoldable pub wholeEst : List ℕ → ℕ → EstTime
+wholeEst bs i = cond (ltb (length bs) (estPlace i + 32)) zeroEst (estAt bs i)
+
+unfoldable pub wholeNode : List ℕ → ℕ → DispNode
+wholeNode bs i = cond (ltb (length bs) (nodePlace (estCount bs) i + 32)) zeroNode (nodeAt bs i)
 
 -- ---- records written, every byte of them, spare bytes too
 

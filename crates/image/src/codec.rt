@@ -16,7 +16,7 @@ ghost use mathlib.Core.Path.{_≡_};
 ghost use Prim.Native.Nat.{_+_, _*_, _-_, _^_, _<_};
 ghost use Rattle.link_rules.specs.Octets.{leAt, putLe};
 ghost use Rattle.disp_structs.specs.Floats.{realOf};
-ghost use Rattle.image.specs.Image.{sizeOf, estCount, pathCount, divergeCount, divergeRoom, trainIdx, pathHeader, distDispPathSearch, distFixedMax, estPlace, nodePlace, divergePlace, typeOf, typeNumber, estFrom, estAt, nodeFrom, nodeAt, divergeAt, putEst, putNode, putDiverge, zeroWords, clearNodes, clearDiverges, putPathHeader};
+ghost use Rattle.image.specs.Image.{sizeOf, estCount, pathCount, divergeCount, divergeRoom, trainIdx, pathHeader, distDispPathSearch, distFixedMax, estPlace, nodePlace, divergePlace, typeOf, typeNumber, estFrom, estAt, nodeFrom, nodeAt, zeroEst, zeroNode, wholeEst, wholeNode, divergeAt, putEst, putNode, putDiverge, zeroWords, clearNodes, clearDiverges, putPathHeader};
 
 // The header's numbers that an update changes.
 pub struct PathHeader {
@@ -160,6 +160,18 @@ pub fn est_at(img: &[u8], i: u32) -> EstTime
     if img.len() < at + 32 {
         return est_from(img, at);
     }
+    whole_est(img, i)
+}
+
+// The est record of index i, or one of zeros where it does not lie within the image. No call is made for that, so that the fields of the record stay
+// in registers where this function is inlined.
+pub fn whole_est(img: &[u8], i: u32) -> EstTime
+    ensures { λ r. ⌜ r ≡ wholeEst (now (img .entry)) i ⌝ }
+{
+    let at = est_place(i);
+    if img.len() < at + 32 {
+        return zero_est();
+    }
     EstTime {
         dist_to_next: Metres(floats::real_of(octets::u64_at(img, at))),
         idx_next: EstIdx(octets::u32_at(img, at + 8)),
@@ -170,6 +182,24 @@ pub fn est_at(img: &[u8], i: u32) -> EstTime
             link_idx: LinkIdx(octets::u32_at(img, at + 24)),
             est_type: type_of(octet_at(img, at + 28)),
         },
+    }
+}
+
+// An est record of zeros.
+pub fn zero_est() -> EstTime
+    ensures { λ r. ⌜ r ≡ zeroEst ⌝ }
+{
+    let e = LinkEvent {
+        link_idx: LinkIdx(0),
+        est_type: EstType::Arrive,
+    };
+    EstTime {
+        dist_to_next: Metres(floats::real_of(0)),
+        idx_next: EstIdx(0),
+        idx_next_alt: EstIdx(0),
+        idx_prev: EstIdx(0),
+        idx_prev_alt: EstIdx(0),
+        link_event: e,
     }
 }
 
@@ -204,6 +234,17 @@ pub fn node_at(img: &[u8], i: u32) -> DispNode
     if img.len() < at + 32 {
         return node_past(img, at);
     }
+    whole_node(img, i)
+}
+
+// The path record of index i, or one of zeros where it does not lie within the image, as whole_est.
+pub fn whole_node(img: &[u8], i: u32) -> DispNode
+    ensures { λ r. ⌜ r ≡ wholeNode (now (img .entry)) i ⌝ }
+{
+    let at = node_place(est_count(img), i);
+    if img.len() < at + 32 {
+        return zero_node();
+    }
     DispNode {
         offset: Metres(floats::real_of(octets::u64_at(img, at))),
         time_pass: Seconds(floats::real_of(octets::u64_at(img, at + 8))),
@@ -216,7 +257,24 @@ pub fn node_at(img: &[u8], i: u32) -> DispNode
     }
 }
 
-// A node record that ends past the image. Apart from node_at, so that there one test of the length serves every field.
+// A path record of zeros.
+pub fn zero_node() -> DispNode
+    ensures { λ r. ⌜ r ≡ zeroNode ⌝ }
+{
+    let e = LinkEvent {
+        link_idx: LinkIdx(0),
+        est_type: EstType::Arrive,
+    };
+    DispNode {
+        offset: Metres(floats::real_of(0)),
+        time_pass: Seconds(floats::real_of(0)),
+        link_event: e,
+        est_idx: EstIdx(0),
+        disp_auth_idx_entry: 0,
+    }
+}
+
+// A node record that ends past the image. Apart from whole_node, so that there one test of the length serves every field.
 fn node_past(s: &[u8], at: usize) -> DispNode
     requires { ⌜ at < 2 ^ 48 ⌝ }
     ensures { λ r. ⌜ r ≡ nodeFrom (now (s .entry)) at ⌝ }

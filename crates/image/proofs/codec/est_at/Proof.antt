@@ -1,4 +1,7 @@
-use Rattle.image.specs.Image.{estFrom}
+use mathlib.Core.Path.{_∙_}
+use native.Mathlib.Omega.{arith}
+use denote.Ref.{now}
+use Rattle.image.proofs.RecordLaws.{whole-est}
 use borrow.Author.Needs.{needs}
 use Rattle.image.proofs.codec.est_at.Statement.{statement}
 use Rattle.image.proofs.codec.est_at.Tie as tie
@@ -15,76 +18,13 @@ est-from-requires c κs = search needs
 returns : tie.Need-returns
 returns c = cc
 
-u64-at-requires : tie.Need-u64-at-requires
-u64-at-requires c κs = search needs
-
-real-of-requires : tie.Need-real-of-requires
-real-of-requires c κs = search needs
-
-add-u32-at : tie.Need-add-u32-at
-add-u32-at c = search needs
-
-u32-at-requires : tie.Need-u32-at-requires
-u32-at-requires c κs = search needs
-
-add-u32-at-2 : tie.Need-add-u32-at-2
-add-u32-at-2 c = search needs
-
-u32-at-requires-2 : tie.Need-u32-at-requires-2
-u32-at-requires-2 c κs = search needs
-
-add-u32-at-3 : tie.Need-add-u32-at-3
-add-u32-at-3 c = search needs
-
-u32-at-requires-3 : tie.Need-u32-at-requires-3
-u32-at-requires-3 c κs = search needs
-
-add-u32-at-4 : tie.Need-add-u32-at-4
-add-u32-at-4 c = search needs
-
-u32-at-requires-4 : tie.Need-u32-at-requires-4
-u32-at-requires-4 c κs = search needs
-
-add-u32-at-5 : tie.Need-add-u32-at-5
-add-u32-at-5 c = search needs
-
-u32-at-requires-5 : tie.Need-u32-at-requires-5
-u32-at-requires-5 c κs = search needs
-
-add-octet-at : tie.Need-add-octet-at
-add-octet-at c = search needs
-
-octet-at-requires : tie.Need-octet-at-requires
-octet-at-requires c κs = search needs
-
-type-of-requires : tie.Need-type-of-requires
-type-of-requires c κs = search needs
+whole-est-requires : tie.Need-whole-est-requires
+whole-est-requires c κs = search needs
 
 returns-2 : tie.Need-returns-2
-unfolding estFrom
-returns-2 c = cc
+returns-2 c = c .whole-est .ensures ∙ whole-est (now (c .before .before .before .before .args .img)) (c .before .before .before .before .args .i) (omega (arith, c .before .if1 .left, c .before .before .est-place .ensures))
 
 pub est-at-spec : {M : Type 1} → statement M
 est-at-spec =
     tie.close
-    (tie.spec
-    est-place-requires
-    add-if1
-    est-from-requires
-    returns
-    u64-at-requires
-    real-of-requires
-    add-u32-at
-    u32-at-requires
-    add-u32-at-2
-    u32-at-requires-2
-    add-u32-at-3
-    u32-at-requires-3
-    add-u32-at-4
-    u32-at-requires-4
-    add-u32-at-5
-    u32-at-requires-5
-    add-octet-at
-    octet-at-requires
-    type-of-requires
-    returns-2)
+    (tie.spec est-place-requires add-if1 est-from-requires returns whole-est-requires returns-2)

@@ -1,4 +1,7 @@
-use Rattle.image.specs.Image.{nodeFrom}
+use mathlib.Core.Path.{_∙_}
+use native.Mathlib.Omega.{arith}
+use denote.Ref.{now}
+use Rattle.image.proofs.RecordLaws.{whole-node}
 use borrow.Author.Needs.{needs}
 use Rattle.image.proofs.codec.node_at.Statement.{statement}
 use Rattle.image.proofs.codec.node_at.Tie as tie
@@ -18,51 +21,11 @@ node-past-requires c κs = search needs
 returns : tie.Need-returns
 returns c = cc
 
-u64-at-requires : tie.Need-u64-at-requires
-u64-at-requires c κs = search needs
-
-real-of-requires : tie.Need-real-of-requires
-real-of-requires c κs = search needs
-
-add-u64-at : tie.Need-add-u64-at
-add-u64-at c = search needs
-
-u64-at-requires-2 : tie.Need-u64-at-requires-2
-u64-at-requires-2 c κs = search needs
-
-real-of-requires-2 : tie.Need-real-of-requires-2
-real-of-requires-2 c κs = search needs
-
-add-u32-at : tie.Need-add-u32-at
-add-u32-at c = search needs
-
-u32-at-requires : tie.Need-u32-at-requires
-u32-at-requires c κs = search needs
-
-add-octet-at : tie.Need-add-octet-at
-add-octet-at c = search needs
-
-octet-at-requires : tie.Need-octet-at-requires
-octet-at-requires c κs = search needs
-
-type-of-requires : tie.Need-type-of-requires
-type-of-requires c κs = search needs
-
-add-u32-at-2 : tie.Need-add-u32-at-2
-add-u32-at-2 c = search needs
-
-u32-at-requires-2 : tie.Need-u32-at-requires-2
-u32-at-requires-2 c κs = search needs
-
-add-u16-at : tie.Need-add-u16-at
-add-u16-at c = search needs
-
-u16-at-requires : tie.Need-u16-at-requires
-u16-at-requires c κs = search needs
+whole-node-requires : tie.Need-whole-node-requires
+whole-node-requires c κs = search needs
 
 returns-2 : tie.Need-returns-2
-unfolding nodeFrom
-returns-2 c = cc
+returns-2 c = c .whole-node .ensures ∙ whole-node (now (c .before .before .before .before .before .args .img)) (c .before .before .before .before .before .args .i) (omega (arith, c .before .if1 .left, c .before .before .node-place .ensures, c .before .before .before .est-count .ensures))
 
 pub node-at-spec : {M : Type 1} → statement M
 node-at-spec =
@@ -73,18 +36,5 @@ node-at-spec =
     add-if1
     node-past-requires
     returns
-    u64-at-requires
-    real-of-requires
-    add-u64-at
-    u64-at-requires-2
-    real-of-requires-2
-    add-u32-at
-    u32-at-requires
-    add-octet-at
-    octet-at-requires
-    type-of-requires
-    add-u32-at-2
-    u32-at-requires-2
-    add-u16-at
-    u16-at-requires
+    whole-node-requires
     returns-2)
