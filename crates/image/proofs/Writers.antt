@@ -1,11 +1,13 @@
 -- A write to the bytes from at up to e: what it writes depends on the length alone, and all else stays. Assumes nothing.
-use mathlib.Core.Path.{_≡_, refl, sym, _∙_}
+use mathlib.Core.Path.{_≡_, refl, sym, ap, _∙_}
 use mathlib.Core.Logic.{_⊎_, inl, inr, ⊎-elim}
-use mathlib.Core.List.{List, [], _∷_}
+use mathlib.Core.List.{List, [], _∷_, _++_, append-assoc}
 use Prim.Native.Nat.{ℕ, zero, suc, _+_, _*_, _/_, _%_, _≤_, _<_}
+use native.Mathlib.Nat.{add-zero}
+use native.Mathlib.Numerals.{add-one}
 use native.Mathlib.Omega.{arith}
-use lib.ListN.{length, getD, set, length-set}
-use lib.Seq.{getD-set-same, getD-set-other}
+use lib.ListN.{length, getD, set, take, drop, replicate, length-set, length-replicate, replicate-append-replicate}
+use lib.Seq.{getD-set-same, getD-set-other, sets, sets-eq}
 use Rattle.link_rules.specs.Octets.{leAt, putLe}
 use Rattle.link_rules.proofs.OctetLaws.{le-cong}
 use Rattle.image.specs.Image.{zeroWords}
@@ -90,3 +92,29 @@ module _ {a b : ℕ} {f : List ℕ → List ℕ} (wf : Writes a b f) where
   le-outside v j bs h =
       le-cong v (f bs) bs j (λ i l m. wf .outside bs i
       (⊎-elim (λ (k : j + v ≤ a). inl (omega arith)) (λ (k : b ≤ j). inr (omega arith)) h))
+
+-- ---- zero words as one run of bytes
+
+zeros-set : (w at : ℕ) (bs : List ℕ) → putLe w 0 at bs ≡ sets bs at (replicate w 0)
+unfolding putLe
+zeros-set zero at bs = refl
+zeros-set (suc w) at bs = zeros-set w (at + 1) (set bs at 0) ∙ ap (λ (n : ℕ). sets (set bs at 0) n (replicate w 0)) (add-one at)
+
+sets-more : (vs ws bs : List ℕ) (i : ℕ) → sets bs i (vs ++ ws) ≡ sets (sets bs i vs) (i + length vs) ws
+sets-more [] ws bs i = rw add-zero
+sets-more (v ∷ vs) ws bs i =
+    let e : suc i + length vs ≡ i + suc (length vs) = omega arith in
+    rw (← e) (sets-more vs ws (set bs i v) (suc i))
+
+zero-sets : (k at : ℕ) (bs : List ℕ) → zeroWords k at bs ≡ sets bs at (replicate (4 * k) 0)
+unfolding zeroWords
+zero-sets zero at bs = refl
+zero-sets (suc k) at bs =
+    let e : 4 * suc k ≡ 4 * k + 4 = omega arith in
+    rw (e, ← replicate-append-replicate {A = ℕ} (4 * k) 4 0, sets-more (replicate (4 * k) 0), length-replicate {A = ℕ} (4 * k) 0, ← zero-sets k at bs)
+    (zeros-set 4 (at + 4 * k) (zeroWords k at bs))
+
+pub zero-run : (k at : ℕ) (bs : List ℕ) → at + 4 * k ≤ length bs → zeroWords k at bs ≡ take at bs ++ (replicate (4 * k) 0 ++ drop (at + 4 * k) bs)
+zero-run k at bs h =
+    let n = length-replicate {A = ℕ} (4 * k) 0 in
+    zero-sets k at bs ∙ (rw n at (sets-eq (replicate (4 * k) 0) bs at (rw n h)) ∙ append-assoc (take at bs) (replicate (4 * k) 0) (drop (at + 4 * k) bs))

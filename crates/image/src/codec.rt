@@ -14,6 +14,7 @@ use link_rules::link_idx::TrainIdx;
 use link_rules::octets;
 ghost use mathlib.Core.Path.{_≡_};
 ghost use Prim.Native.Nat.{_+_, _*_, _-_, _^_, _<_};
+ghost use lib.ListN.{length, replicate};
 ghost use Rattle.link_rules.specs.Octets.{leAt, putLe};
 ghost use Rattle.disp_structs.specs.Floats.{realOf};
 ghost use Rattle.image.specs.Image.{sizeOf, estCount, pathCount, divergeCount, divergeRoom, trainIdx, pathHeader, distDispPathSearch, distFixedMax, estPlace, nodePlace, divergePlace, typeOf, typeNumber, estFrom, estAt, nodeFrom, nodeAt, zeroEst, zeroNode, wholeEst, wholeNode, divergeAt, putEst, putNode, putDiverge, zeroWords, clearNodes, clearDiverges, putPathHeader};
@@ -427,7 +428,32 @@ pub fn count_from(a: u32, b: u32) -> usize
     (b - a) as usize
 }
 
+// k numbers of 4 bytes from at become zero: as one run of bytes where they lie within the image.
 fn clear_words(img: &mut [u8], at: usize, k: usize)
+    requires { ⌜ at + 4 * k < 2 ^ 48 ⌝ }
+    ensures { λ _. ⌜ now (img .exit) ≡ zeroWords k at (now (img .entry)) ⌝ }
+{
+    let end = at + 4 * k;
+    if img.len() < end {
+        clear_words_past(img, at, k);
+        return;
+    }
+    zero_all(&mut img[at..end])
+}
+
+// Every byte becomes zero.
+fn zero_all(s: &mut [u8])
+    ensures { λ _. ⌜ now (s .exit) ≡ replicate (length (now (s .entry))) 0 ⌝ }
+{
+    let mut i = 0;
+    while i < s.len() {
+        s[i] = 0;
+        i += 1;
+    }
+}
+
+// Numbers that end past the image.
+fn clear_words_past(img: &mut [u8], at: usize, k: usize)
     requires { ⌜ at + 4 * k < 2 ^ 48 ⌝ }
     ensures { λ _. ⌜ now (img .exit) ≡ zeroWords k at (now (img .entry)) ⌝ }
 {

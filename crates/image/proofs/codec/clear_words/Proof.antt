@@ -1,60 +1,64 @@
-use Rattle.image.specs.Image.{zeroWords}
-use Prim.Native.Nat.{_-_, _≤_}
-use lib.ListN.{length}
-use mathlib.Core.Path.{_≡_, refl}
+use mathlib.Core.Path.{_≡_, sym}
+use Prim.Native.Nat.{_+_, _*_, _-_}
 use native.Mathlib.Omega.{arith}
-use native.Mathlib.Numerals.{add-one}
+use denote.Ref.{now}
+use borrow.Rule.Slice.PartMut.{mid-len, post-is}
+use Rattle.image.proofs.Writers.{zero-run}
 use borrow.Author.Needs.{needs}
 use Rattle.image.proofs.codec.clear_words.Statement.{statement}
 use Rattle.image.proofs.codec.clear_words.Tie as tie
 
-abbrev Inv-loop : tie.InvT-loop
-Inv-loop img₀ at k i₀ img i = (i ≤ k) × (length img ≡ length img₀) × (img ≡ zeroWords i at img₀)
+mul-end : tie.Need-mul-end
+mul-end c = search needs
 
-abbrev μ-loop : tie.MeasureT-loop
-μ-loop img₀ at k i₀ img i = k - i
+add-end : tie.Need-add-end
+add-end c = search needs
 
-loop-holds : tie.Need-loop-holds Inv-loop μ-loop
-unfolding zeroWords
-loop-holds c = (search needs, refl, refl)
+clear-words-past-requires : tie.Need-clear-words-past-requires
+clear-words-past-requires c κs = search needs
 
-mul-put-u32 : tie.Need-mul-put-u32 Inv-loop μ-loop
-mul-put-u32 c = search needs
-
-add-put-u32 : tie.Need-add-put-u32 Inv-loop μ-loop
-add-put-u32 c = search needs
-
-put-u32-requires : tie.Need-put-u32-requires Inv-loop μ-loop
-put-u32-requires c κs = search needs
-
-add-i : tie.Need-add-i Inv-loop μ-loop
-add-i c = search needs
-
-loop-less : tie.Need-loop-less Inv-loop μ-loop
-loop-less c = search needs
-
-loop-again : tie.Need-loop-again Inv-loop μ-loop
-unfolding zeroWords
-loop-again c = (search needs, search needs, rw add-one (cc))
-
-same-length : tie.Need-same-length Inv-loop μ-loop
+same-length : tie.Need-same-length
 same-length c = search needs
 
-returns : tie.Need-returns Inv-loop μ-loop
-returns c = let e : c .before .loop .i ≡ c .before .before .before .args .k = omega arith in cc
+returns : tie.Need-returns
+returns c = search needs
+
+sub-zero-all : tie.Need-sub-zero-all
+sub-zero-all c = search needs
+
+part-zero-all-start : tie.Need-part-zero-all-start
+part-zero-all-start c = search needs
+
+part-zero-all-end : tie.Need-part-zero-all-end
+part-zero-all-end c = search needs
+
+zero-all-requires : tie.Need-zero-all-requires
+zero-all-requires c κs = search needs
+
+same-length-2 : tie.Need-same-length-2
+same-length-2 c = search needs
+
+returns-2 : tie.Need-returns-2
+returns-2 c =
+    let a = c .before .before .before .before .before .before .args in
+    let bs = now (a .img) in
+    let e = a .at + 4 * a .k in
+    let d : e - a .at ≡ 4 * a .k = omega arith in
+    rw (c .before .before .zero-all .ensures, mid-len (a .at) e bs (omega arith), post-is (a .at) e bs (omega arith), d)
+    (sym (zero-run (a .k) (a .at) bs (omega arith)))
 
 pub clear-words-spec : {M : Type 1} → statement M
 clear-words-spec =
     tie.close
     (tie.spec
-    Inv-loop
-    μ-loop
-    loop-holds
-    mul-put-u32
-    add-put-u32
-    put-u32-requires
-    add-i
-    loop-less
-    loop-again
+    mul-end
+    add-end
+    clear-words-past-requires
     same-length
-    returns)
+    returns
+    sub-zero-all
+    part-zero-all-start
+    part-zero-all-end
+    zero-all-requires
+    same-length-2
+    returns-2)
