@@ -1,4 +1,5 @@
 pub mod ScanLaws
+pub mod ZeroLaws
 pub mod ArrivalLaws
 pub mod AcceptLaws
 pub mod CycleArrays

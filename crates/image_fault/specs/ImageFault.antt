@@ -4,7 +4,7 @@ use mathlib.Core.Bool.{Bool, true, false, cond, not, _&&_, _||_}
 use mathlib.Core.List.{List}
 use lib.Dec.{ltb, leb, eqb}
 use lib.Ieee.{lt}
-use lib.ListN.{length}
+use lib.ListN.{length, getD}
 use Rattle.link_rules.specs.Octets.{leAt}
 use Rattle.link_rules.specs.LinkIdx.{noLink, sameLink}
 use Rattle.link_rules.specs.Network.{allBelow}
@@ -78,6 +78,9 @@ nodeTypeFits bs i = leb (leAt 2 bs (nodePlace (estCount bs) i + 26)) 2 && eqb (l
 -- the four bytes of number j from at are 0
 unfoldable pub zeroWord : List ℕ → ℕ → ℕ → Bool
 zeroWord bs at j = eqb (leAt 4 bs (at + 4 * j)) 0
+
+abbrev pub zeroByte : List ℕ → ℕ → Bool
+zeroByte bs i = eqb (getD bs i 0) 0
 
 -- the path records from N on and the diverge records from M on are zero
 unfoldable pub unusedZero : List ℕ → Bool

@@ -13,11 +13,12 @@ use link_rules::octets;
 ghost use mathlib.Core.Path.{_≡_};
 ghost use mathlib.Core.Bool.{cond, not, _&&_};
 ghost use lib.Dec.{eqb};
+ghost use lib.ListN.{length};
 ghost use Prim.Native.Nat.{ℕ, _+_, _-_, _*_, _^_, _≤_, _<_};
 ghost use Rattle.link_rules.specs.Network.{allBelow};
 ghost use Rattle.disp_structs.specs.Values.{isArrive};
 ghost use Rattle.image.specs.Image.{estCount, pathCount, estAt, nodeAt};
-ghost use Rattle.image_fault.specs.ImageFault.{imageFault, imageFits, valueFault, cycleFault, routeFault, firstUnfit, CountsFit, countsFit, partsFit, trainFits, estTypeFits, nodeTypeFits, zeroWord, unusedZero, recordsFit, floatFits, timeFits, distFits, eventFits, estLinksFit, estFits, nodeFits, indicesFit, headerFits, isLater, leadsOn, stepsTo, comesFrom, endsAt, onRoute, innerFits, divergeFits};
+ghost use Rattle.image_fault.specs.ImageFault.{imageFault, imageFits, valueFault, cycleFault, routeFault, firstUnfit, CountsFit, countsFit, partsFit, trainFits, estTypeFits, nodeTypeFits, zeroWord, zeroByte, unusedZero, recordsFit, floatFits, timeFits, distFits, eventFits, estLinksFit, estFits, nodeFits, indicesFit, headerFits, isLater, leadsOn, stepsTo, comesFrom, endsAt, onRoute, innerFits, divergeFits};
 
 // A refusal's number and place; number 0 is none.
 pub struct Fault {
@@ -133,7 +134,33 @@ fn node_types_fit(img: &[u8], n: u32) -> bool
     true
 }
 
+// k numbers of 4 bytes from at are 0: one run of bytes where they lie within the image.
 fn words_zero(img: &[u8], at: usize, k: usize) -> bool
+    requires { ⌜ at + 4 * k < 2 ^ 48 ⌝ }
+    ensures { λ r. ⌜ r ≡ allBelow k (zeroWord (now (img .entry)) at) ⌝ }
+{
+    let end = at + 4 * k;
+    if img.len() < end {
+        return words_zero_past(img, at, k);
+    }
+    bytes_zero(&img[at..end])
+}
+
+// Every byte is read, so that the compiler can take many at once.
+fn bytes_zero(s: &[u8]) -> bool
+    ensures { λ r. ⌜ r ≡ allBelow (length (now (s .entry))) (zeroByte (now (s .entry))) ⌝ }
+{
+    let mut bits: u8 = 0;
+    let mut i = 0;
+    while i < s.len() {
+        bits |= s[i];
+        i += 1;
+    }
+    bits == 0
+}
+
+// Numbers that end past the image.
+fn words_zero_past(img: &[u8], at: usize, k: usize) -> bool
     requires { ⌜ at + 4 * k < 2 ^ 48 ⌝ }
     ensures { λ r. ⌜ r ≡ allBelow k (zeroWord (now (img .entry)) at) ⌝ }
 {

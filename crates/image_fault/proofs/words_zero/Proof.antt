@@ -1,64 +1,58 @@
-use Rattle.link_rules.proofs.TableLaws.{all-more, all-fails}
-use Rattle.link_rules.specs.Network.{allBelow}
-use mathlib.Core.Path.{refl, _≡_, sym}
-use mathlib.Core.Bool.{true}
-use Prim.Native.Nat.{_-_, _≤_}
-use denote.Ref.{now}
+use mathlib.Core.Path.{_≡_, _∙_}
+use Prim.Native.Nat.{_+_, _*_, _-_}
 use native.Mathlib.Omega.{arith}
+use denote.Ref.{now}
+use lib.ListN.{length, take, drop, length-drop}
+use lib.Seq.{length-take-le, getD-take, getD-drop}
+use Rattle.image_fault.proofs.ZeroLaws.{zero-words}
 use borrow.Author.Needs.{needs}
-use Rattle.image_fault.specs.ImageFault.{zeroWord}
-use borrow.Author.Tests.{eq-eqb, ne-eqb}
 use Rattle.image_fault.proofs.words_zero.Statement.{statement}
 use Rattle.image_fault.proofs.words_zero.Tie as tie
 
-abbrev Inv-loop : tie.InvT-loop
-Inv-loop img at k j₀ j = (j ≤ k) × (allBelow j (zeroWord img at) ≡ true)
+mul-end : tie.Need-mul-end
+mul-end c = search needs
 
-abbrev μ-loop : tie.MeasureT-loop
-μ-loop img at k j₀ j = k - j
+add-end : tie.Need-add-end
+add-end c = search needs
 
-loop-holds : tie.Need-loop-holds Inv-loop μ-loop
-unfolding allBelow
-loop-holds c = (search needs, refl)
+words-zero-past-requires : tie.Need-words-zero-past-requires
+words-zero-past-requires c κs = search needs
 
-mul-u32-at : tie.Need-mul-u32-at Inv-loop μ-loop
-mul-u32-at c = search needs
+returns : tie.Need-returns
+returns c = search needs
 
-add-u32-at : tie.Need-add-u32-at Inv-loop μ-loop
-add-u32-at c = search needs
+sub-bytes-zero : tie.Need-sub-bytes-zero
+sub-bytes-zero c = search needs
 
-u32-at-requires : tie.Need-u32-at-requires Inv-loop μ-loop
-u32-at-requires c κs = search needs
+part-bytes-zero-start : tie.Need-part-bytes-zero-start
+part-bytes-zero-start c = search needs
 
-returns : tie.Need-returns Inv-loop μ-loop
-unfolding zeroWord
-returns c = sym (all-fails (zeroWord (now (c .before .before .before .before .before .args .img)) (c .before .before .before .before .before .args .at)) (c .before .before .before .before .before .args .k) (c .before .before .before .loop .j) (omega arith) (rw (← c .before .u32-at .ensures) (ne-eqb _ _ (c .if1 .taken))))
+part-bytes-zero-end : tie.Need-part-bytes-zero-end
+part-bytes-zero-end c = search needs
 
-add-j : tie.Need-add-j Inv-loop μ-loop
-add-j c = search needs
+bytes-zero-requires : tie.Need-bytes-zero-requires
+bytes-zero-requires c κs = search needs
 
-loop-less : tie.Need-loop-less Inv-loop μ-loop
-loop-less c = search needs
-
-loop-again : tie.Need-loop-again Inv-loop μ-loop
-unfolding zeroWord
-loop-again c = (search needs, all-more (zeroWord (now (c .before .before .before .before .before .args .img)) (c .before .before .before .before .before .args .at)) (c .before .before .before .loop .j) (c .before .before .before .loop .inv .1) (rw (← c .before .u32-at .ensures) (eq-eqb _ _ (c .if1 .left))))
-
-returns-2 : tie.Need-returns-2 Inv-loop μ-loop
-returns-2 c = let e : c .before .loop .j ≡ c .before .before .before .args .k = omega arith in rw (← e) (sym (c .before .loop .inv .1))
+returns-2 : tie.Need-returns-2
+returns-2 c =
+    let a = c .before .before .before .before .args in
+    let bs = now (a .img) in
+    let n = 4 * a .k in
+    let d : a .at + n - a .at ≡ n = omega arith in
+    let l : length (take n (drop (a .at) bs)) ≡ n = length-take-le n (drop (a .at) bs) (rw length-drop (omega arith)) in
+    rw (c .bytes-zero .ensures, d, l)
+    (zero-words (take n (drop (a .at) bs)) bs (a .at) (a .k) (λ i h. getD-take n (drop (a .at) bs) i 0 h ∙ getD-drop (a .at) bs i 0))
 
 pub words-zero-spec : {M : Type 1} → statement M
 words-zero-spec =
     tie.close
     (tie.spec
-    Inv-loop
-    μ-loop
-    loop-holds
-    mul-u32-at
-    add-u32-at
-    u32-at-requires
+    mul-end
+    add-end
+    words-zero-past-requires
     returns
-    add-j
-    loop-less
-    loop-again
+    sub-bytes-zero
+    part-bytes-zero-start
+    part-bytes-zero-end
+    bytes-zero-requires
     returns-2)
