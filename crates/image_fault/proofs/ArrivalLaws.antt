@@ -13,13 +13,13 @@ use Rattle.disp_structs.specs.Values.{isArrive}
 use Rattle.image.specs.Image.{nodeAt}
 use Rattle.image_fault.specs.ImageFault.{comesFrom, endsAt, arrivesOn, arrived, firstArrival, onRoute}
 
--- the flags are those of the links of the Arrive nodes before i
-abbrev pub Flagged : List ℕ → List ℕ → ℕ → Type 0
-Flagged bs flags i = (l : ℕ) → l < 4000 → eqb (getD flags l 0) 0 ≡ not (arrived bs (record { 0 = l }) i)
+-- the first m flags are those of the links of the Arrive nodes before i
+abbrev pub Flagged : ℕ → List ℕ → List ℕ → ℕ → Type 0
+Flagged m bs flags i = (l : ℕ) → l < m → eqb (getD flags l 0) 0 ≡ not (arrived bs (record { 0 = l }) i)
 
-pub flagged-none : (bs : List ℕ) → Flagged bs (replicate 4000 0) 0
+pub flagged-none : (m : ℕ) (bs flags : List ℕ) → flags ≡ replicate m 0 → Flagged m bs flags 0
 unfolding arrived
-flagged-none bs l h = rw (getD-replicate {A = ℕ} 4000 l 0 0 h)
+flagged-none m bs flags e l h = rw (e, getD-replicate {A = ℕ} m l 0 0 h)
 
 pub not-not : (b : Bool) → not (not b) ≡ b
 not-not true = refl
@@ -34,13 +34,13 @@ or-false true = refl
 or-false false = refl
 
 -- ---- at node i, with the event's link and type
-module _ (bs flags : List ℕ) (i : ℕ) (f : Flagged bs flags i) (b : nodeAt bs i .«link_event» .«link_idx» .0 < 4000) where
+module _ (m : ℕ) (bs flags : List ℕ) (i : ℕ) (f : Flagged m bs flags i) (b : nodeAt bs i .«link_event» .«link_idx» .0 < m) where
   pub route-is : (comesFrom bs i && (endsAt bs i && not (isArrive (nodeAt bs i .«link_event» .«est_type») && not (eqb (getD flags (nodeAt bs i .«link_event» .«link_idx» .0) 0) 0)))) ≡ onRoute bs i
   unfolding onRoute firstArrival
   route-is = rw (f (nodeAt bs i .«link_event» .«link_idx» .0) b, not-not (arrived bs (nodeAt bs i .«link_event» .«link_idx») i))
 
-  pub flagged-more : length flags ≡ 4000
-      → Flagged bs (set flags (nodeAt bs i .«link_event» .«link_idx» .0) (cond (isArrive (nodeAt bs i .«link_event» .«est_type»)) 1 (getD flags (nodeAt bs i .«link_event» .«link_idx» .0) 0))) (i + 1)
+  pub flagged-more : length flags ≡ m
+      → Flagged m bs (set flags (nodeAt bs i .«link_event» .«link_idx» .0) (cond (isArrive (nodeAt bs i .«link_event» .«est_type»)) 1 (getD flags (nodeAt bs i .«link_event» .«link_idx» .0) 0))) (i + 1)
   unfolding arrived arrivesOn
   flagged-more n l h = rw add-one (go (isArrive (nodeAt bs i .«link_event» .«est_type»)))
     where

@@ -13,7 +13,7 @@ use link_rules::octets;
 ghost use mathlib.Core.Path.{_≡_};
 ghost use mathlib.Core.Bool.{cond, not, _&&_};
 ghost use lib.Dec.{eqb};
-ghost use lib.ListN.{length};
+ghost use lib.ListN.{length, replicate};
 ghost use Prim.Native.Nat.{ℕ, _+_, _-_, _*_, _^_, _≤_, _<_};
 ghost use Rattle.link_rules.specs.Network.{allBelow};
 ghost use Rattle.disp_structs.specs.Values.{isArrive};
@@ -550,12 +550,11 @@ fn marked(t: EstType, seen: u8) -> u8
     }
 }
 
-// The links of the Arrive nodes so far are kept as flags.
-fn path_fault(img: &[u8], n: u32) -> Fault
-    requires { ⌜ (n ≡ pathCount (now img)) × (n ≤ 512) × ((i : ℕ) → i < n → nodeAt (now img) i .«link_event» .«link_idx» .0 < 4000) ⌝ }
+// The links of the Arrive nodes so far are kept as flags, all 0 at first.
+fn path_fault_in(img: &[u8], n: u32, seen: &mut [u8]) -> Fault
+    requires { ⌜ (n ≡ pathCount (now img)) × (n ≤ 512) × (now seen ≡ replicate (length (now seen)) 0) × ((i : ℕ) → i < n → nodeAt (now img) i .«link_event» .«link_idx» .0 < length (now seen)) ⌝ }
     ensures { λ r. ⌜ r ≡ firstUnfit 9 (onRoute (now (img .entry))) n 0 ⌝ }
 {
-    let mut seen = [0u8; 4000];
     let mut b = EstIdx(0);
     let mut i: u32 = 0;
     while i < n {
@@ -578,6 +577,19 @@ fn path_fault(img: &[u8], n: u32) -> Fault
         number: 0,
         place: 0,
     }
+}
+
+// Few links have few flags, which take less time to clear.
+fn path_fault(img: &[u8], n: u32, links: u32) -> Fault
+    requires { ⌜ (n ≡ pathCount (now img)) × (n ≤ 512) × (links ≤ 4000) × ((i : ℕ) → i < n → nodeAt (now img) i .«link_event» .«link_idx» .0 < links) ⌝ }
+    ensures { λ r. ⌜ r ≡ firstUnfit 9 (onRoute (now (img .entry))) n 0 ⌝ }
+{
+    if links <= 512 {
+        let mut few = [0u8; 512];
+        return path_fault_in(img, n, &mut few);
+    }
+    let mut seen = [0u8; 4000];
+    path_fault_in(img, n, &mut seen)
 }
 
 fn inner_fits(n: u32, d: DivergeNode, b: DivergeNode) -> bool
@@ -633,11 +645,11 @@ fn diverge_fault(img: &[u8], m: u32) -> Fault
     }
 }
 
-fn route_fault(img: &[u8]) -> Fault
-    requires { ⌜ (CountsFit (now img)) × ((i : ℕ) → i < pathCount (now img) → nodeAt (now img) i .«link_event» .«link_idx» .0 < 4000) ⌝ }
+fn route_fault(img: &[u8], links: u32) -> Fault
+    requires { ⌜ (CountsFit (now img)) × (links ≤ 4000) × ((i : ℕ) → i < pathCount (now img) → nodeAt (now img) i .«link_event» .«link_idx» .0 < links) ⌝ }
     ensures { λ r. ⌜ r ≡ routeFault (now (img .entry)) ⌝ }
 {
-    let f = path_fault(img, codec::path_count(img));
+    let f = path_fault(img, codec::path_count(img), links);
     if f.number != 0 {
         return f;
     }
@@ -669,7 +681,7 @@ pub fn image_fault(img: &[u8], links: u32) -> Fault
         if g.number != 0 {
             return g;
         }
-        return route_fault(img);
+        return route_fault(img, links);
     }
     Fault {
         number: 6,

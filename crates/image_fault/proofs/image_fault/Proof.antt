@@ -40,7 +40,7 @@ returns-4 c = rw (le-leb 2 (c .before .before .before .before .before .before .b
 route-fault-requires : tie.Need-route-fault-requires
 route-fault-requires c κs =
     let clean = sym (ap (λ (f : Fault). f .number) (c .before .before .before .before .before .before .value-fault .ensures)) ∙ c .before .before .before .before .if4 .left in
-    (fits-counts (now (c .before .before .before .before .before .before .before .before .before .before .before .before .args .img)) (sym (c .before .before .before .before .before .before .before .before .image-fits .ensures) ∙ c .before .before .before .before .before .before .before .if3 .taken), λ i h. let k = clean-link (now (c .before .before .before .before .before .before .before .before .before .before .before .before .args .img)) (c .before .before .before .before .before .before .before .before .before .before .before .before .args .links) clean i h in omega arith)
+    (fits-counts (now (c .before .before .before .before .before .before .before .before .before .before .before .before .args .img)) (sym (c .before .before .before .before .before .before .before .before .image-fits .ensures) ∙ c .before .before .before .before .before .before .before .if3 .taken), omega arith, clean-link (now (c .before .before .before .before .before .before .before .before .before .before .before .before .args .img)) (c .before .before .before .before .before .before .before .before .before .before .before .before .args .links) clean)
 
 returns-5 : tie.Need-returns-5
 unfolding imageFault

@@ -9,7 +9,7 @@ path-count-requires : tie.Need-path-count-requires
 path-count-requires c κs = search needs
 
 path-fault-requires : tie.Need-path-fault-requires
-path-fault-requires c κs = let n = c .before .before .pre .0 .few-path in let e = c .before .before .pre .0 .few-est in (c .path-count .ensures, rw (c .path-count .ensures) (omega arith), rw (c .path-count .ensures) (c .before .before .pre .1))
+path-fault-requires c κs = let n = c .before .before .pre .0 .few-path in let e = c .before .before .pre .0 .few-est in (c .path-count .ensures, rw (c .path-count .ensures) (omega arith), c .before .before .pre .1, rw (c .path-count .ensures) (c .before .before .pre .2))
 
 returns : tie.Need-returns
 unfolding routeFault
