@@ -69,7 +69,7 @@ module _ (occ img on dt dn : List ℕ) (h : PathHeader) (g : Held occ img on dt 
   divs-long = listed-length (r .«diverge_count») (divAt dt dn) ∙ m .divs
 
   -- a search u that has looked and stands at x, its new path in a buffer
-  module _ (size : ℕ) (fresh pool begins ends nt nn : List ℕ) (b : Room (estCount img) size fresh dt dn pool begins ends nt nn) (z : estCount fresh ≡ 0) (p : Place) (k : ℕ) (a : Arrays) (x : Here) where
+  module _ (size : ℕ) (fresh pool begins ends nt nn : List ℕ) (b : Room (estCount img) (divergeRoom img) size fresh dt dn pool begins ends nt nn) (z : estCount fresh ≡ 0) (p : Place) (k : ℕ) (a : Arrays) (x : Here) where
     abbrev pub looked : State.Search
     looked = searchIn (r .«est_count») p (listed k (nodeAt fresh)) (divsOf (p .«div_count») nt nn) a
 
@@ -93,10 +93,10 @@ module _ (occ img on dt dn : List ℕ) (h : PathHeader) (g : Held occ img on dt 
         held = omega (arith, round-accepted .divs .few, divs-long, m .room);
         made = omega (arith, bounds .new-divs-high, listed-length (p .«div_count») (divAt nt nn), m .room);
         first = bounds .div-split-low;
-        trains = omega (arith, round-accepted .room, m .room, b .trains);
-        nodes = omega (arith, round-accepted .room, m .room, b .nodes);
-        newTrains = omega (arith, round-accepted .room, m .room, b .newTrains);
-        newNodes = omega (arith, round-accepted .room, m .room, b .newNodes);
+        trains = b .trains;
+        nodes = b .nodes;
+        newTrains = b .newTrains;
+        newNodes = b .newNodes;
         number = λ i l.
             let y : at (divsOf (h .«diverge_count») dt dn) i ≡ ok (divAt dt dn i) = listed-read (h .«diverge_count») (divAt dt dn) i l in
             let z = node-low (length (round .train .«disp_path»)) (r .«diverge_room») (divsOf (r .«diverge_count») dt dn) (round-accepted .divs) i (divAt dt dn i) (ap (λ (n : ℕ). at (divsOf n dt dn) i) (m .divs) ∙ y) in

@@ -9,7 +9,7 @@ use Rattle.link_rules.specs.Octets.{putLe}
 use Rattle.link_rules.proofs.OctetLaws.{le-put-same}
 use Rattle.disp_structs.specs.Listed.{listed}
 use Rattle.disp_structs.proofs.ListedLaws.{listed-length}
-use Rattle.image.specs.Image.{estCount, nodeAt}
+use Rattle.image.specs.Image.{estCount, divergeRoom, nodeAt}
 use Rattle.image.specs.declared.codec.PathHeader.{PathHeader}
 use Rattle.free_path.specs.Columns.{divAt}
 use Rattle.est_times.proofs.Counting.{clash}
@@ -71,13 +71,17 @@ module _ (occ img on dt dn : List ℕ) (h : PathHeader) (g : Held occ img on dt 
         fixed = omega (arith, a .fixed, a .path .few, a .ests .few, est-long occ img on dt dn h g r (s .numbers), path-long occ img on dt dn h g r (s .numbers));
       }
 
-  pub ready : (size : ℕ) (fresh : List ℕ) → Room (estCount img) size fresh dt dn pool begins ends nt nn → estCount fresh ≡ 0 → Ready img occ on dt dn r start fresh (arrays pool begins ends) nt nn
+  pub ready : (size : ℕ) (fresh : List ℕ) → Room (estCount img) (divergeRoom img) size fresh dt dn pool begins ends nt nn → estCount fresh ≡ 0 → Ready img occ on dt dn r start fresh (arrays pool begins ends) nt nn
   ready size fresh b z = record {
     sized = sized;
     marked = subst (λ (n : ℕ). Marked on (pathOf img n)) (sym (s .numbers .path)) (g .marked);
-    lent = record { est = sized .est; trains = b .pooled; first = b .first; last = b .last };
-    newTrains = b .newTrains;
-    newNodes = b .newNodes;
+    lent = record { est = sized .est; trains = b .pooled; first = omega (arith, b .first, s .numbers .est); last = omega (arith, b .last, s .numbers .est) };
+    newTrains = omega (arith, b .newTrains, s .numbers .room);
+    newNodes = omega (arith, b .newNodes, s .numbers .room);
+    ests = omega (arith, g .size, s .numbers .est);
+    nodes =
+        let a = round-accepted occ img on dt dn h g r (s .numbers) in
+        omega (arith, g .size, a .path .few, est-long occ img on dt dn h g r (s .numbers), path-long occ img on dt dn h g r (s .numbers), s .numbers .path);
     buffer = omega (arith, b .buffer, b .enough, z, s .numbers .est);
     none = s .none;
     pooled = s .pooled;

@@ -1,6 +1,6 @@
 -- The search of a round as it begins, in cleared columns, and the round up to it. Assumes nothing.
-use Prim.Native.Nat.{ℕ, _^_, _≤_, _<_}
-use mathlib.Core.Path.{_≡_, refl, sym, ap, subst, _∙_}
+use Prim.Native.Nat.{ℕ, zero, suc, _^_, _≤_, _<_}
+use mathlib.Core.Path.{_≡_, refl, sym, ap, ap₂, subst, _∙_}
 use mathlib.Core.Bool.{Bool, true, false}
 use mathlib.Core.List.{List, [], _∷_}
 use native.Mathlib.Omega.{arith}
@@ -13,7 +13,7 @@ use Rattle.link_rules.specs.LinkIdx.{noTrain}
 use Rattle.link_rules.specs.declared.link_idx.LinkIdx.{LinkIdx}
 use Rattle.link_rules.specs.declared.link_idx.TrainIdx.{TrainIdx}
 use Rattle.disp_structs.specs.Listed.{listed}
-use Rattle.disp_structs.proofs.ListedLaws.{listed-length, listed-at}
+use Rattle.disp_structs.proofs.ListedLaws.{listed-length, listed-same, listed-at}
 use Rattle.disp_structs.specs.Train.{Train}
 use Rattle.disp_structs.specs.Values.{view}
 use Rattle.disp_structs.specs.declared.DivergeNode.{DivergeNode}
@@ -21,7 +21,7 @@ use Rattle.disp_structs.specs.declared.TrainIdxsView.{TrainIdxsView}
 use Rattle.image.specs.Image.{estAt, nodeAt, distDispPathSearch}
 use Rattle.image.specs.declared.codec.PathHeader.{PathHeader}
 use Rattle.free_path.specs.Base.{Res, ok, no, _>>=_, need, at, before}
-use Rattle.free_path.specs.Columns.{answer, trains}
+use Rattle.free_path.specs.Columns.{answer, tr, trains, divAt}
 use Rattle.free_path.proofs.CountLaws.{answer-no}
 use Rattle.free_path.specs.LinkOptType.{Sentinels}
 use Rattle.free_path.specs.SearchLimit.{offsetCancel}
@@ -34,14 +34,15 @@ use Rattle.update_laws.specs.FitsGood.{TrainFits, DivFits}
 use Rattle.update_laws.proofs.Answers.{ok-same, no-ok, bind-ok}
 use Rattle.update_laws.proofs.Lists.{each-one}
 use Rattle.update_laws.proofs.Rounds.{start-good, save-low}
-use Rattle.search.specs.Read.{viewAt, viewsOf, divsOf, pathOf, roundOf}
+use Rattle.search.specs.Read.{viewAt, viewsOf, divsOf, pathOf, roundOf, searchOf}
 use Rattle.search.specs.declared.Round.{Round}
+use Rattle.search.specs.declared.Place.{Place}
 use Rattle.search_loop.specs.Runs.{Begins}
 use Rattle.splice.specs.Read.{trainOf}
 use Rattle.round_start.specs.Start.{partedAt, dividedAt, withLimit}
 use Rattle.round_start.proofs.LimitLaws.{same-limit}
 use Rattle.round_start.proofs.DivideLaws.{round-is}
-use Rattle.round.specs.Rounds.{Held, Numbers, Searching, givenOf, startAt, zeros, zeroed}
+use Rattle.round.specs.Rounds.{Held, Numbers, Searching, givenOf, startAt, zeros, zeroed, zeroedIn}
 use Rattle.round.specs.declared.Given.{Given}
 use Rattle.round.proofs.FitLaws.{train-is, round-accepted, path-long, divs-long}
 
@@ -53,9 +54,31 @@ views-clear n b e p q = ext-getD (view 0 0) (viewsOf n b e) (replicate n (view 0
     let m : i < n = omega (arith, listed-length n (viewAt b e)) in
     listed-at n (viewAt b e) i (view 0 0) m ∙ ap (λ (x : ℕ). view x (getD e i 0)) (p i m) ∙ ap (λ (x : ℕ). view 0 x) (q i m) ∙ sym (getD-replicate n i (view 0 0) (view 0 0) m))
 
--- a column of zeros
-zero-at : (n j : ℕ) → j < n → getD {A = ℕ} (replicate n 0) j 0 ≡ 0
-zero-at n j h = getD-replicate n j 0 0 h
+-- a column of zeros, of any length
+zero-at : (n j : ℕ) → getD {A = ℕ} (replicate n 0) j 0 ≡ 0
+zero-at zero j = refl
+zero-at (suc n) zero = refl
+zero-at (suc n) (suc j) = zero-at n j
+
+-- the length of the columns is of no account
+module _ (e q : ℕ) where
+  same-views : (n : ℕ) → viewsOf n (replicate e 0) (replicate e 0) ≡ viewsOf n (replicate 512 0) (replicate 512 0)
+  same-views n = listed-same n (viewAt (replicate 512 0) (replicate 512 0)) (viewAt (replicate e 0) (replicate e 0)) (λ i h. ap₂ view (same i) (same i))
+    where
+      same : (i : ℕ) → getD {A = ℕ} (replicate e 0) i 0 ≡ getD (replicate 512 0) i 0
+      same i = zero-at e i ∙ sym (zero-at 512 i)
+
+  same-divs : (n : ℕ) → divsOf n (replicate q 0) (replicate q 0) ≡ divsOf n (replicate 1024 0) (replicate 1024 0)
+  same-divs n = listed-same n (divAt (replicate 1024 0) (replicate 1024 0)) (divAt (replicate q 0) (replicate q 0)) (λ i h. ap₂ div (same i) (same i))
+    where
+      div : ℕ → ℕ → DivergeNode
+      div t m = record { «train_idx» = tr t; «disp_node_idx» = m }
+
+      same : (i : ℕ) → getD {A = ℕ} (replicate q 0) i 0 ≡ getD (replicate 1024 0) i 0
+      same i = zero-at q i ∙ sym (zero-at 1024 i)
+
+  pub zeroed-same : (n : ℕ) (p : Place) → zeroedIn e q n p ≡ zeroed n p
+  zeroed-same n p = ap₂ (λ (ds : List DivergeNode) (vs : List TrainIdxsView). searchOf p [] ds (take (p .«pool_count») (trains (replicate 2048 0))) vs) (same-divs (p .«div_count»)) (same-views n)
 
 -- ---- the first entries
 
@@ -119,7 +142,7 @@ module _ (occ img on dt dn : List ℕ) (h : PathHeader) (g : Held occ img on dt 
     ests-few = omega (arith, round-accepted occ img on dt dn h g r m .ests .few, listed-length (r .«est_count») (estAt img))
 
     no-views : viewsOf (r .«est_count») (zeros .begins) (zeros .ends) ≡ replicate (r .«est_count») (view 0 0)
-    no-views = views-clear (r .«est_count») (zeros .begins) (zeros .ends) (λ j l. zero-at 512 j (omega (arith, ests-few))) (λ j l. zero-at 512 j (omega (arith, ests-few)))
+    no-views = views-clear (r .«est_count») (zeros .begins) (zeros .ends) (λ j l. zero-at 512 j) (λ j l. zero-at 512 j)
 
     pub first-is : first ≡ searchAt (round .train) split d save
     unfolding trainOf

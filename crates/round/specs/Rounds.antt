@@ -41,17 +41,17 @@ pub record Held (occ img on dt dn : List ℕ) (h : PathHeader) : Type 0 where
   pub size : nodePlace (estCount img) (estCount img) ≤ length img
   pub marked : Marked on (pathOf img (h .«path_count»))
 
--- the room that is lent, for a train with n est records; size is the buffer's
-pub record Room (n size : ℕ) (fresh dt dn pool begins ends nt nn : List ℕ) : Type 0 where
+-- the room that is lent, for a train with n est records and room for q diverge nodes; size is the buffer's
+pub record Room (n q size : ℕ) (fresh dt dn pool begins ends nt nn : List ℕ) : Type 0 where
   pub buffer : length fresh ≡ size
   pub enough : nodePlace 0 n ≤ size
-  pub trains : length dt ≡ 1024
-  pub nodes : length dn ≡ 1024
+  pub trains : q ≤ length dt
+  pub nodes : q ≤ length dn
   pub pooled : length pool ≡ 2048
-  pub first : length begins ≡ 512
-  pub last : length ends ≡ 512
-  pub newTrains : length nt ≡ 1024
-  pub newNodes : length nn ≡ 1024
+  pub first : n ≤ length begins
+  pub last : n ≤ length ends
+  pub newTrains : q ≤ length nt
+  pub newNodes : q ≤ length nn
 
 -- the numbers of a round's search are those of the image and the header
 pub record Numbers (img : List ℕ) (h : PathHeader) (r : Round) : Type 0 where
@@ -152,9 +152,16 @@ SearchEnded occ img dt dn h r s x img₁ dt₁ dn₁ =
     × (isRefused (x .end) ≡ false → Kept img₁ img)
     × (isAtEnd (x .end) ≡ false)
 
--- a search whose pool, views and new diverge nodes are zeros
+-- a search whose pool, views and new diverge nodes are zeros, in arrays for e est records and q diverge nodes
+abbrev pub zerosIn : ℕ → Arrays
+zerosIn e = arrays (replicate 2048 0) (replicate e 0) (replicate e 0)
+
+abbrev pub zeroedIn : ℕ → ℕ → ℕ → Place → State.Search
+zeroedIn e q n p = searchIn n p [] (divsOf (p .«div_count») (replicate q 0) (replicate q 0)) (zerosIn e)
+
+-- the same in the largest arrays
 abbrev pub zeros : Arrays
-zeros = arrays (replicate 2048 0) (replicate 512 0) (replicate 512 0)
+zeros = zerosIn 512
 
 abbrev pub zeroed : ℕ → Place → State.Search
-zeroed n p = searchIn n p [] (divsOf (p .«div_count») (replicate 1024 0) (replicate 1024 0)) zeros
+zeroed n p = zeroedIn 512 1024 n p

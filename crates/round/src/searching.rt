@@ -3,7 +3,7 @@ ghost use mathlib.Core.List.{[]};
 ghost use Prim.Native.Nat.{_≤_};
 ghost use mathlib.Core.Path.{_≡_};
 ghost use lib.ListN.{length, replicate};
-ghost use Rattle.image.specs.Image.{estCount};
+ghost use Rattle.image.specs.Image.{estCount, divergeRoom};
 ghost use Rattle.search.specs.Read.{divsOf, searchIn, arrays};
 ghost use Rattle.round.specs.Rounds.{Held, Room, Searching, SearchEnded, zeros, zeroed};
 use crate::RoundEnd;
@@ -31,7 +31,7 @@ fn search_round(
     nt: &mut [u16],
     nn: &mut [u16],
 ) -> RoundEnd
-    requires { ⌜ Held (now occ) (now img) (now on) (now dt) (now dn) h × Room (estCount (now img)) (length (now fresh)) (now fresh) (now dt) (now dn) (now pool) (now begins) (now ends) (now nt) (now nn) × Searching (now occ) (now img) (now dt) (now dn) h r start (now pool) (now begins) (now ends) (now nt) (now nn) ⌝ }
+    requires { ⌜ Held (now occ) (now img) (now on) (now dt) (now dn) h × Room (estCount (now img)) (divergeRoom (now img)) (length (now fresh)) (now fresh) (now dt) (now dn) (now pool) (now begins) (now ends) (now nt) (now nn) × Searching (now occ) (now img) (now dt) (now dn) h r start (now pool) (now begins) (now ends) (now nt) (now nn) ⌝ }
     ensures { λ x. ⌜ SearchEnded (now (occ .entry)) (now (img .entry)) (now (dt .entry)) (now (dn .entry)) h r (searchIn (r .«est_count») start [] (divsOf (start .«div_count») (now (nt .entry)) (now (nn .entry))) (arrays (now (pool .entry)) (now (begins .entry)) (now (ends .entry)))) x (now (img .exit)) (now (dt .exit)) (now (dn .exit)) ⌝ }
 {
     octets::put_u32(fresh, 4, 0);
@@ -78,7 +78,7 @@ fn search_round(
     )
 }
 
-// The search in room of its own, the buffer that of the largest train.
+// The search in room of its own, that of the largest train.
 fn search_large(
     img: &mut [u8],
     occ: &[u16],
@@ -89,7 +89,7 @@ fn search_large(
     dt: &mut [u16],
     dn: &mut [u16],
 ) -> RoundEnd
-    requires { ⌜ Held (now occ) (now img) (now on) (now dt) (now dn) h × (length (now dt) ≡ 1024) × (length (now dn) ≡ 1024) × Searching (now occ) (now img) (now dt) (now dn) h r start (zeros .pool) (zeros .begins) (zeros .ends) (replicate 1024 0) (replicate 1024 0) ⌝ }
+    requires { ⌜ Held (now occ) (now img) (now on) (now dt) (now dn) h × (divergeRoom (now img) ≤ length (now dt)) × (divergeRoom (now img) ≤ length (now dn)) × Searching (now occ) (now img) (now dt) (now dn) h r start (zeros .pool) (zeros .begins) (zeros .ends) (replicate 1024 0) (replicate 1024 0) ⌝ }
     ensures { λ x. ⌜ SearchEnded (now (occ .entry)) (now (img .entry)) (now (dt .entry)) (now (dn .entry)) h r (zeroed (r .«est_count») start) x (now (img .exit)) (now (dt .exit)) (now (dn .exit)) ⌝ }
 {
     let mut fresh = [0u8; 16448];
@@ -116,7 +116,7 @@ fn search_large(
     )
 }
 
-// The same for a train of at most 64 est records, whose buffer takes less time to clear.
+// The same for a train of at most 64 est records and with room for 64 diverge nodes, which takes less time to clear.
 fn search_small(
     img: &mut [u8],
     occ: &[u16],
@@ -127,15 +127,15 @@ fn search_small(
     dt: &mut [u16],
     dn: &mut [u16],
 ) -> RoundEnd
-    requires { ⌜ Held (now occ) (now img) (now on) (now dt) (now dn) h × (length (now dt) ≡ 1024) × (length (now dn) ≡ 1024) × Searching (now occ) (now img) (now dt) (now dn) h r start (zeros .pool) (zeros .begins) (zeros .ends) (replicate 1024 0) (replicate 1024 0) × (estCount (now img) ≤ 64) ⌝ }
+    requires { ⌜ Held (now occ) (now img) (now on) (now dt) (now dn) h × (divergeRoom (now img) ≤ length (now dt)) × (divergeRoom (now img) ≤ length (now dn)) × Searching (now occ) (now img) (now dt) (now dn) h r start (zeros .pool) (zeros .begins) (zeros .ends) (replicate 1024 0) (replicate 1024 0) × (estCount (now img) ≤ 64) × (divergeRoom (now img) ≤ 64) ⌝ }
     ensures { λ x. ⌜ SearchEnded (now (occ .entry)) (now (img .entry)) (now (dt .entry)) (now (dn .entry)) h r (zeroed (r .«est_count») start) x (now (img .exit)) (now (dt .exit)) (now (dn .exit)) ⌝ }
 {
     let mut fresh = [0u8; 2112];
     let mut pool = [0u16; 2048];
-    let mut begins = [0u32; 512];
-    let mut ends = [0u32; 512];
-    let mut nt = [0u16; 1024];
-    let mut nn = [0u16; 1024];
+    let mut begins = [0u32; 64];
+    let mut ends = [0u32; 64];
+    let mut nt = [0u16; 64];
+    let mut nn = [0u16; 64];
     search_round(
         img,
         &mut fresh,
@@ -154,7 +154,7 @@ fn search_small(
     )
 }
 
-// The search from start, by the number of est records.
+// The search from start, by the size of the train.
 pub(crate) fn search(
     img: &mut [u8],
     occ: &[u16],
@@ -165,11 +165,14 @@ pub(crate) fn search(
     dt: &mut [u16],
     dn: &mut [u16],
 ) -> RoundEnd
-    requires { ⌜ Held (now occ) (now img) (now on) (now dt) (now dn) h × (length (now dt) ≡ 1024) × (length (now dn) ≡ 1024) × Searching (now occ) (now img) (now dt) (now dn) h r start (zeros .pool) (zeros .begins) (zeros .ends) (replicate 1024 0) (replicate 1024 0) ⌝ }
+    requires { ⌜ Held (now occ) (now img) (now on) (now dt) (now dn) h × (divergeRoom (now img) ≤ length (now dt)) × (divergeRoom (now img) ≤ length (now dn)) × Searching (now occ) (now img) (now dt) (now dn) h r start (zeros .pool) (zeros .begins) (zeros .ends) (replicate 1024 0) (replicate 1024 0) ⌝ }
     ensures { λ x. ⌜ SearchEnded (now (occ .entry)) (now (img .entry)) (now (dt .entry)) (now (dn .entry)) h r (zeroed (r .«est_count») start) x (now (img .exit)) (now (dt .exit)) (now (dn .exit)) ⌝ }
 {
-    if r.est_count <= 64 {
-        return search_small(img, occ, on, h, r, start, dt, dn);
+    if 64 < r.est_count {
+        return search_large(img, occ, on, h, r, start, dt, dn);
     }
-    search_large(img, occ, on, h, r, start, dt, dn)
+    if 64 < r.diverge_room {
+        return search_large(img, occ, on, h, r, start, dt, dn);
+    }
+    search_small(img, occ, on, h, r, start, dt, dn)
 }

@@ -7,7 +7,7 @@ ghost use lib.Ieee.{Float, lt};
 ghost use lib.ListN.{length};
 ghost use Rattle.link_rules.specs.declared.link_idx.LinkIdx.{LinkIdx};
 ghost use Rattle.disp_structs.specs.Listed.{listed};
-ghost use Rattle.image.specs.Image.{nodeAt, distDispPathSearch};
+ghost use Rattle.image.specs.Image.{divergeRoom, nodeAt, distDispPathSearch};
 ghost use Rattle.free_path.specs.Columns.{linkAt};
 ghost use Rattle.free_path.specs.SearchLimit.{offsetCancel};
 ghost use Rattle.free_path.specs.LinkOptType.{linkIdxPath};
@@ -102,7 +102,7 @@ fn search_at(
     dt: &mut [u16],
     dn: &mut [u16],
 ) -> RoundEnd
-    requires { ⌜ Held (now occ) (now img) (now on) (now dt) (now dn) h × (length (now dt) ≡ 1024) × (length (now dn) ≡ 1024) × (1 ≤ split) × (split < h .«path_count») ⌝ }
+    requires { ⌜ Held (now occ) (now img) (now on) (now dt) (now dn) h × (divergeRoom (now img) ≤ length (now dt)) × (divergeRoom (now img) ≤ length (now dn)) × (1 ≤ split) × (split < h .«path_count») ⌝ }
     ensures { λ x. ⌜ ((blocking start : List LinkIdx) → endedOf x (trainOf (now (img .exit)) (now (dt .exit)) (now (dn .exit)) (x .header)) ≡ searchRound (givenOf g (now (occ .entry)) blocking start) (trainOf (now (img .entry)) (now (dt .entry)) (now (dn .entry)) h) split «div_split» (record { node = z .node; divs = z .divs })) × (isRefused (x .end) ≡ false → Kept (now (img .exit)) (now (img .entry))) × (isAtEnd (x .end) ≡ false) ⌝ }
 {
     let m = h.diverge_count as usize;
@@ -132,7 +132,7 @@ pub fn round(
     dt: &mut [u16],
     dn: &mut [u16],
 ) -> RoundEnd
-    requires { ⌜ Held (now occ) (now img) (now on) (now dt) (now dn) h × (length (now dt) ≡ 1024) × (length (now dn) ≡ 1024) × (listed (h .«path_count») (linkAt (now col)) ≡ linkIdxPath (pathOf (now img) (h .«path_count»))) × (1 ≤ split) × (1 ≤ «div_split») ⌝ }
+    requires { ⌜ Held (now occ) (now img) (now on) (now dt) (now dn) h × (divergeRoom (now img) ≤ length (now dt)) × (divergeRoom (now img) ≤ length (now dn)) × (listed (h .«path_count») (linkAt (now col)) ≡ linkIdxPath (pathOf (now img) (h .«path_count»))) × (1 ≤ split) × (1 ≤ «div_split») ⌝ }
     ensures { λ x. ⌜ ((blocking start : List LinkIdx) → endedOf x (trainOf (now (img .exit)) (now (dt .exit)) (now (dn .exit)) (x .header)) ≡ roundOf (givenOf g (now (occ .entry)) blocking start) (trainOf (now (img .entry)) (now (dt .entry)) (now (dn .entry)) h) split «div_split») × (isRefused (x .end) ≡ false → Kept (now (img .exit)) (now (img .entry))) × (isAtEnd (x .end) ≡ true → trainOf (now (img .exit)) (now (dt .exit)) (now (dn .exit)) (x .header) ≡ trainOf (now (img .entry)) (now (dt .entry)) (now (dn .entry)) h) ⌝ }
 {
     let n = h.path_count;

@@ -26,6 +26,6 @@ dividedAt divs split divSplit z = divPoint divs split divSplit z >>= λ d. parte
 abbrev pub withLimit : Round → Metres → Round
 withLimit r m = record { train = r .train; «links_blocked» = r .«links_blocked»; «train_idx_moved» = r .«train_idx_moved»; «offset_cancel» = m; «idx_split_save» = r .«idx_split_save» }
 
--- the link of an Arrive node is from 1 to 3,999
-abbrev pub Linked : List DispNode → Type 0
-Linked path = Each (λ (n : DispNode). isArrive (n .«link_event» .«est_type») ≡ true → (0 < n .«link_event» .«link_idx» .0) × (n .«link_event» .«link_idx» .0 < 4000)) path
+-- the link of an Arrive node is not 0 and below top
+abbrev pub Linked : ℕ → List DispNode → Type 0
+Linked top path = Each (λ (n : DispNode). isArrive (n .«link_event» .«est_type») ≡ true → (0 < n .«link_event» .«link_idx» .0) × (n .«link_event» .«link_idx» .0 < top)) path

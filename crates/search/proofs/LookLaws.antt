@@ -6,7 +6,7 @@ use Prim.Native.Nat.{ℕ, suc, _+_, _-_, _≤_, _<_}
 use mathlib.Core.Logic.{_⊎_, inl, inr}
 use native.Mathlib.Omega.{arith}
 use lib.Dec.{ltb}
-use lib.ListN.{getD}
+use lib.ListN.{length, getD}
 use borrow.Author.Tests.{eq-eqb, ne-eqb}
 use Rattle.disp_structs.specs.declared.DispNode.{DispNode}
 use Rattle.disp_structs.specs.declared.DivergeNode.{DivergeNode}
@@ -14,7 +14,8 @@ use Rattle.disp_structs.specs.declared.EstTime.{EstTime}
 use Rattle.free_path.specs.Base.{Res, ok, no, _>>=_, _>>_, need, at, before}
 use Rattle.free_path.specs.Columns.{answer, divAt}
 use Rattle.free_path.proofs.ColumnLaws.{listed-read, listed-out}
-use Rattle.image.specs.Image.{estAt}
+use Rattle.image.specs.Image.{estPlace, estAt, wholeEst}
+use Rattle.image.proofs.RecordLaws.{whole-est}
 use Rattle.train_update.specs.State.{blocked}
 use Rattle.train_update.specs.Look as Def
 use Rattle.train_update.specs.Look.{lookFrom}
@@ -49,6 +50,10 @@ module _ (m : ℕ) (t n : List ℕ) (i : ℕ) where
     rising-in h x p y q = rw (lower, listed-read m (divAt t n) (i - 1) (omega arith), listed-read m (divAt t n) i h, p, q)
 
 -- ---- lookFrom
+
+-- an est record of the n that lie within the image
+pub est-inside : (img : List ℕ) (n i : ℕ) → estPlace n ≤ length img → i < n → (e : EstTime) → e ≡ wholeEst img i → e ≡ estAt img i
+est-inside img n i h o e q = q ∙ whole-est img i (omega arith)
 
 pub refused : {A : Res Def.Here} (h : Here) → h .code ≡ 13 → no 13 ≡ A → answer (h .code) (hereOf h) ≡ A
 refused h e q = rw e q

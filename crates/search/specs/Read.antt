@@ -133,8 +133,8 @@ arrays pool begins ends = record { pool = pool; begins = begins; ends = ends }
 pub record Lent (n : ℕ) (a : Arrays) : Type 0 where
   pub est : n ≤ 512
   pub trains : length (a .pool) ≡ 2048
-  pub first : length (a .begins) ≡ 512
-  pub last : length (a .ends) ≡ 512
+  pub first : n ≤ length (a .begins)
+  pub last : n ≤ length (a .ends)
 
 -- the search at a place, with n est records
 abbrev pub searchIn : ℕ → Place → List DispNode → List DivergeNode → Arrays → State.Search

@@ -25,6 +25,7 @@ ghost use Rattle.disp_structs.specs.Train.{Train};
 ghost use Rattle.disp_structs.specs.declared.DispNode.{DispNode};
 ghost use Rattle.disp_structs.specs.declared.DivergeNode.{DivergeNode};
 ghost use Rattle.disp_structs.specs.declared.TrainIdxsView.{TrainIdxsView};
+ghost use Rattle.image.specs.Image.{estPlace, zeroEst};
 ghost use Rattle.free_path.specs.Base.{need};
 ghost use Rattle.free_path.specs.Columns.{answer, tr, trains};
 ghost use Rattle.train_update.specs.Look.{blockBy, storedFrom, blockStored, takeStored, storedTrains, meetsTrain, occupiedNext, blockedMove, moveOf};
@@ -65,45 +66,48 @@ fn between_divs(dn: &[u16], m: usize, i: usize) -> bool
     columns::u16_of(dn, i - 1) < columns::u16_of(dn, i)
 }
 
-fn nowhere(img: &[u8], curr: DispNode) -> Here
-    ensures { λ h. ⌜ (h .code ≡ 13) × (h .«idx_join_new» ≡ 0) ⌝ }
+// The turn is refused by 13; where it stood does not count.
+pub fn nowhere(curr: DispNode) -> Here
+    ensures { λ h. ⌜ h ≡ record { code = 13; «idx_join_new» = 0; «disp_node_curr» = curr; «est_curr» = zeroEst; «est_next» = zeroEst } ⌝ }
 {
+    let e = codec::zero_est();
     Here {
         code: 13,
         idx_join_new: 0,
         disp_node_curr: curr,
-        est_curr: codec::est_at(img, 0),
-        est_next: codec::est_at(img, 0),
+        est_curr: e,
+        est_next: e,
     }
 }
 
+// The est records lie within the image.
 pub fn look_here(img: &[u8], r: Round, p: Place, curr: DispNode, ends: &[u32], dn: &[u16]) -> Here
-    requires { ⌜ Small p ⌝ }
+    requires { ⌜ Small p × (estPlace (r .«est_count») ≤ length (now img)) ⌝ }
     ensures { λ h. ⌜ Looks h (now (img .entry)) r p curr (now (ends .entry)) (now (dn .entry)) ⌝ }
 {
     let n = r.est_count;
     if n <= curr.est_idx.0 as usize {
-        return nowhere(img, curr);
+        return nowhere(curr);
     }
     if views::is_blocked(ends, n, curr.est_idx) {
-        return nowhere(img, curr);
+        return nowhere(curr);
     }
-    let est = codec::est_at(img, curr.est_idx.0);
+    let est = codec::whole_est(img, curr.est_idx.0);
     if est.idx_next.0 == 0 {
-        return nowhere(img, curr);
+        return nowhere(curr);
     }
     if n <= est.idx_next.0 as usize {
-        return nowhere(img, curr);
+        return nowhere(curr);
     }
     if !between_divs(dn, r.diverge_count, p.div_idx_split) {
-        return nowhere(img, curr);
+        return nowhere(curr);
     }
     Here {
         code: 0,
         idx_join_new: p.idx_split + p.new_count,
         disp_node_curr: curr,
         est_curr: est,
-        est_next: codec::est_at(img, est.idx_next.0),
+        est_next: codec::whole_est(img, est.idx_next.0),
     }
 }
 

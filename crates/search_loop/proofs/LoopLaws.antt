@@ -5,19 +5,19 @@ use mathlib.Core.Bool.{Bool, true, false, cond}
 use mathlib.Core.List.{List, [], _∷_, _++_}
 use mathlib.Core.Logic.{⊎-elim}
 use native.Mathlib.Omega.{arith}
-use lib.Dec.{T, eqb}
+use lib.Dec.{T, eqb, ltb}
 use lib.Ieee.{Float, nan, inf, fin, isNan, eq, le}
 use mathlib.Core.Bool.{not}
 use lib.ListN.{length, getD, take, set, length-append}
 use lib.Seq.{take-append-le, take-all, getD-at, getD-set-same, getD-set-other}
-use borrow.Author.Tests.{ne-eqb, eq-eqb, eqb-true, eqb-false}
+use borrow.Author.Tests.{ne-eqb, eq-eqb, eqb-true, eqb-false, lt-ltb, le-ltb, ltb-false}
 use Rattle.disp_structs.specs.Listed.{listed}
 use Rattle.disp_structs.proofs.ListedLaws.{listed-length, listed-same, listed-at}
 use Rattle.disp_structs.specs.Train.{Train}
 use Rattle.disp_structs.specs.Floats.{inReach}
 use Rattle.disp_structs.specs.declared.DispNode.{DispNode}
 use Rattle.disp_structs.specs.declared.EstType.the-variants.{Arrive}
-use Rattle.image.specs.Image.{estCount, nodePlace, estAt, nodeAt, putNode}
+use Rattle.image.specs.Image.{estCount, nodePlace, estAt, nodeAt, wholeNode, putNode}
 use Rattle.free_path.specs.Base.{Res, ok, no, at}
 use Rattle.free_path.proofs.CountLaws.{top}
 use Rattle.free_path.proofs.WalkLaws.{at-in}
@@ -45,7 +45,7 @@ use Rattle.search_moves.proofs.TurnLaws.{turn-done, Answers}
 use Rattle.splice.proofs.NodeLaws.{reach-number, put-kept, put-other, put-same, kept-eq}
 use Rattle.splice.specs.Parts.{Sound}
 use Rattle.splice.specs.Read.{Kept}
-use Rattle.search_loop.specs.Runs.{endOf, counted, Follows, FollowsTurn, Begins, Going, Ran}
+use Rattle.search_loop.specs.Runs.{endOf, counted, slotOf, Follows, FollowsTurn, Begins, Going, Ran}
 
 -- what the rule of an array read gives past the end
 abbrev pub blank : DispNode
@@ -80,6 +80,23 @@ current-is n split k f g a b =
     last : (m : ℕ) → cond (eqb m 0) (f (split - 1)) (getD (listed m g) (m - 1) (g 0)) ≡ cond (eqb m 0) (f (split - 1)) (g (m - 1))
     last zero = refl
     last (suc m) = let e : suc m - 1 ≡ m = omega arith in rw e (ap (cond (eqb (suc m) 0) (f (split - 1))) (listed-at (suc m) g m (g 0) (omega arith)))
+
+-- ---- the first nodes in the array
+
+pub slot-in : (k : ℕ) → k < 63 → slotOf k ≡ k
+slot-in k h = rw (lt-ltb k 63 h)
+
+pub slot-behind : (k : ℕ) → 63 ≤ k → slotOf k ≡ 63
+slot-behind k h = rw (le-ltb k 63 h)
+
+pub slot-low : (k : ℕ) → slotOf k ≤ 63
+slot-low k = ⊎-elim (λ (h : k < 63). omega (arith, slot-in k h)) (λ (h : 63 ≤ k). omega (arith, slot-behind k h)) (below-or-not k 63)
+
+-- another node of the first 63 has another place
+slot-other : (k i : ℕ) → i < 63 → (i ≡ k → ⊥) → i ≡ slotOf k → ⊥
+slot-other k i f q e = ⊎-elim (λ (h : k < 63). q (e ∙ slot-in k h)) (λ (h : 63 ≤ k). omega (arith, slot-behind k h)) (below-or-not k 63)
+
+-- ---- a node is written
 
 -- a node goes behind k nodes
 module _ (fresh : List ℕ) (k : ℕ) (n : DispNode) (l : nodePlace (estCount fresh) (k + 1) ≤ length fresh) (s : Sound n) where
@@ -121,14 +138,19 @@ module _ (fresh fresh1 : List ℕ) (k : ℕ) (n : DispNode) (c : ℕ) (e : fresh
             below-next : (c ≡ k + 1 → ⊥) → c ≤ k
             below-next w = ⊎-elim (λ (u : c < k + 1). omega arith) (λ (u : k + 1 ≤ c). absurd (w (omega arith))) (below-or-not c (k + 1))
 
-    -- and the array has the same nodes
-    pub array-next : (new : List DispNode) (d : DispNode) → k < length new → ((i : ℕ) → i < k → getD new i d ≡ nodeAt fresh i) → (i : ℕ) → i < c → c ≤ k + 1 → getD (set new k n) i d ≡ nodeAt fresh1 i
-    array-next new d m h i j w = ⊎-elim
-        (λ (q : i ≡ k).
-        let v : c ≡ k + 1 = omega arith in
+    -- it stands in the buffer where it counts
+    pub written-last : c ≡ k + 1 → nodeAt fresh1 k ≡ n
+    written-last v =
         let u : fresh1 ≡ putNode n (nodePlace (estCount fresh) k) fresh = e ∙ ap (λ (b : Bool). cond b (putNode n (nodePlace (estCount fresh) k) fresh) fresh) (eq-eqb c (k + 1) v) in
-        rw (q, u) (getD-set-same new k n d m ∙ sym (put-last fresh k n l (s v))))
-        (λ (q : i ≡ k → ⊥). getD-set-other new k i n d q ∙ h i (less q) ∙ sym (ap (λ (bs : List ℕ). nodeAt bs i) e ∙ same (eqb c (k + 1)) q))
+        rw u (put-last fresh k n l (s v))
+
+    -- and the array has the same first nodes
+    pub array-next : (new : List DispNode) (d : DispNode) → length new ≡ 64 → ((i : ℕ) → i < k → i < 63 → getD new i d ≡ nodeAt fresh i) → (i : ℕ) → i < c → i < 63 → c ≤ k + 1 → getD (set new (slotOf k) n) i d ≡ nodeAt fresh1 i
+    array-next new d m h i j f w = ⊎-elim
+        (λ (q : i ≡ k).
+        let o : slotOf k ≡ k = slot-in k (omega arith) in
+        rw (o, q) (getD-set-same new k n d (omega arith) ∙ sym (written-last (omega arith))))
+        (λ (q : i ≡ k → ⊥). getD-set-other new (slotOf k) i n d (slot-other k i f q) ∙ h i (less q) f ∙ sym (ap (λ (bs : List ℕ). nodeAt bs i) e ∙ same (eqb c (k + 1)) q))
         (same-or-not i k)
       where
         less : (i ≡ k → ⊥) → i < k
@@ -138,10 +160,27 @@ module _ (fresh fresh1 : List ℕ) (k : ℕ) (n : DispNode) (c : ℕ) (e : fresh
         same true q = put-other n fresh k i q
         same false q = refl
 
--- the current node as the array has it
-pub current-in : (img fresh : List ℕ) (split c : ℕ) (new : List DispNode) (d : DispNode) → ((i : ℕ) → i < c → getD new i d ≡ nodeAt fresh i) → cond (eqb c 0) (nodeAt img (split - 1)) (getD new (c - 1) d) ≡ currentIn img fresh split c
-current-in img fresh split zero new d h = refl
-current-in img fresh split (suc c) new d h = ap (cond (eqb (suc c) 0) (nodeAt img (split - 1))) (let e : suc c - 1 ≡ c = omega arith in rw e (h c (omega arith)))
+-- the current node as it is read: the one that was pushed behind k others, top, or a record that lies within its image
+pub current-in : (img fresh : List ℕ) (split k c : ℕ) (n top : DispNode) → (c ≡ k + 1 → nodeAt fresh k ≡ n) → wholeNode img (split - 1) ≡ nodeAt img (split - 1)
+    → (0 < c → wholeNode fresh (c - 1) ≡ nodeAt fresh (c - 1)) → (0 < c → c ≤ 63 → top ≡ nodeAt fresh (c - 1))
+    → cond (eqb c (k + 1)) n (cond (eqb c 0) (wholeNode img (split - 1)) (cond (ltb 63 c) (wholeNode fresh (c - 1)) top)) ≡ currentIn img fresh split c
+current-in img fresh split k c n top p w f t = go (eqb c (k + 1)) refl
+  where
+    other : (m : ℕ) → (0 < m → wholeNode fresh (m - 1) ≡ nodeAt fresh (m - 1)) → (0 < m → m ≤ 63 → top ≡ nodeAt fresh (m - 1))
+        → cond (eqb m 0) (wholeNode img (split - 1)) (cond (ltb 63 m) (wholeNode fresh (m - 1)) top) ≡ currentIn img fresh split m
+    other zero f₀ t₀ = w
+    other (suc m) f₀ t₀ = ap₂ (cond (eqb (suc m) 0)) w (behind (ltb 63 (suc m)) refl)
+      where
+        behind : (b : Bool) → ltb 63 (suc m) ≡ b → cond b (wholeNode fresh (suc m - 1)) top ≡ nodeAt fresh (suc m - 1)
+        behind true q = f₀ (omega arith)
+        behind false q = t₀ (omega arith) (ltb-false 63 (suc m) q)
+
+    go : (b : Bool) → eqb c (k + 1) ≡ b → cond b n (cond (eqb c 0) (wholeNode img (split - 1)) (cond (ltb 63 c) (wholeNode fresh (c - 1)) top)) ≡ currentIn img fresh split c
+    go true q =
+        let e = eqb-true c (k + 1) q in
+        let o : c - 1 ≡ k = omega arith in
+        rw (ne-eqb c 0 (λ z. omega arith), o) (sym (p e))
+    go false q = other c f t
 
 -- ---- after a turn
 

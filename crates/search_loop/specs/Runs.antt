@@ -1,11 +1,12 @@
 -- What the loop over the turns of a search begins with, keeps and answers. Assumes nothing.
 use Prim.Native.Nat.{ℕ, _+_, _^_, _≤_}
 use mathlib.Core.Path.{_≡_}
-use mathlib.Core.Bool.{true, false}
+use mathlib.Core.Bool.{true, false, cond}
+use lib.Dec.{ltb}
 use mathlib.Core.List.{List, [], _∷_, _++_}
 use lib.ListN.{length, take}
 use Rattle.disp_structs.specs.Train.{Train}
-use Rattle.image.specs.Image.{estCount, nodePlace}
+use Rattle.image.specs.Image.{estCount, estPlace, nodePlace}
 use Rattle.free_path.specs.Base.{Res, ok, _>>=_}
 use Rattle.train_update.specs.State as State
 use Rattle.train_update.specs.Look as Look
@@ -38,6 +39,10 @@ counted p k =
       «pool_count» = p .«pool_count»;
     }
 
+-- where node k of the new path stands in the array: the first 63 have places of their own, the last place serves all others
+abbrev pub slotOf : ℕ → ℕ
+slotOf k = cond (ltb k 63) k 63
+
 -- x is how the search goes on after an effect with k nodes on the new path: a node is written behind them, and so many count
 pub record Follows (effect : Effect) (k : ℕ) (x : Next) : Type 0 where
   pub goes : x .goes ≡ onward effect
@@ -58,13 +63,15 @@ pub record Begins (links : ℕ) (r : State.Round) (s : State.Search) : Type 0 wh
   pub good : Good links r s
   pub fits : SearchFits (2 ^ 16) s
 
--- what the loop is lent: the flags of the path, arrays of their sizes, room for as many new nodes as there are est records; and some train of which it begins
+-- what the loop is lent: the flags of the path, arrays with room, an image that has its records, room for as many new nodes as there are est records; and some train of which it begins
 pub record Ready (img occ on dt dn : List ℕ) (r : Round) (start : Place) (fresh : List ℕ) (a : Arrays) (nt nn : List ℕ) : Type 0 where
   pub sized : Sized r
   pub marked : Marked on (pathOf img (r .«path_count»))
   pub lent : Lent (r .«est_count») a
-  pub newTrains : length nt ≡ 1024
-  pub newNodes : length nn ≡ 1024
+  pub newTrains : r .«diverge_room» ≤ length nt
+  pub newNodes : r .«diverge_room» ≤ length nn
+  pub ests : estPlace (r .«est_count») ≤ length img
+  pub nodes : nodePlace (estCount img) (r .«path_count») ≤ length img
   pub buffer : nodePlace (estCount fresh) (r .«est_count») ≤ length fresh
   pub none : start .«new_count» ≡ 0
   pub pooled : start .«pool_count» ≤ 2048

@@ -1,16 +1,11 @@
 // The search of a round of update_free_path (free_path.rs 345-633): turn after turn, up to the one that ends it, proved equal to
-// searchFrom of train_update. The new path is an array of 512 path nodes; each node that it gains goes to a buffer of an image's layout too,
-// where a join finds it. The crate assumes nothing of its own.
+// searchFrom of train_update. The first nodes of the new path stand in an array of path nodes; each node that it gains goes to a buffer of an
+// image's layout too, where a join finds it. The crate assumes nothing of its own.
 use disp_structs::DispNode;
-use disp_structs::EstIdx;
-use disp_structs::EstType;
-use disp_structs::LinkEvent;
-use disp_structs::Metres;
-use disp_structs::Seconds;
 use image::codec;
-use link_rules::link_idx::LinkIdx;
 use search::Place;
 use search::Round;
+use search::look;
 use search::look::Here;
 use search_moves::Effect;
 use search_moves::turn;
@@ -19,18 +14,18 @@ ghost use mathlib.Core.Path.{_≡_};
 ghost use mathlib.Core.Bool.{true, false, cond};
 ghost use mathlib.Core.List.{[], _∷_, _++_};
 ghost use Prim.Native.Nat.{ℕ, _+_, _-_, _≤_, _<_};
-ghost use lib.Dec.{eqb};
+ghost use lib.Dec.{eqb, ltb};
 ghost use lib.ListN.{length, take};
 ghost use Rattle.disp_structs.specs.Listed.{listed};
 ghost use Rattle.disp_structs.specs.Train.{Train};
-ghost use Rattle.image.specs.Image.{estCount, nodePlace, nodeAt, putNode};
+ghost use Rattle.image.specs.Image.{estCount, nodePlace, nodeAt, wholeNode, putNode};
 ghost use Rattle.free_path.specs.Base.{ok};
 ghost use Rattle.train_update.specs.State as State;
 ghost use Rattle.train_update.specs.Look as Look;
 ghost use Rattle.search.specs.Read.{divsOf, roundOf, hereOf, searchIn, arrays};
 ghost use Rattle.search_moves.specs.Effects.{leaves, turnOf, onward};
 ghost use Rattle.splice.specs.Read.{Kept};
-ghost use Rattle.search_loop.specs.Runs.{Follows, FollowsTurn, Ready, Begins, Ran, counted};
+ghost use Rattle.search_loop.specs.Runs.{slotOf, Follows, FollowsTurn, Ready, Begins, Ran, counted};
 
 // How the search ended: the move that is left to do or its effect, where it stood and stands, and how many nodes the new path has.
 pub struct Searched {
@@ -58,13 +53,29 @@ fn one_less(k: usize) -> usize
     k - 1
 }
 
-// disp_path_new.last(), else disp_path[idx_split - 1].
-fn current(img: &[u8], split: usize, k: usize, top: DispNode) -> DispNode
-    requires { ⌜ split ≤ 512 ⌝ }
-    ensures { λ r. ⌜ r ≡ cond (eqb k 0) (nodeAt (now (img .entry)) (split - 1)) top ⌝ }
+// Where node k of the new path stands in the array. The array has the first 63; its last place serves all others, and is not read for them.
+fn slot_of(k: usize) -> usize
+    ensures { λ r. ⌜ r ≡ slotOf k ⌝ }
 {
-    if k == 0 {
-        return codec::node_at(img, one_less(split) as u32);
+    if k < 63 {
+        return k;
+    }
+    63
+}
+
+// The node that was pushed behind k others; else disp_path_new.last(), which is top or stands behind the array; else disp_path[idx_split - 1].
+fn current(img: &[u8], fresh: &[u8], split: usize, k: usize, a: Next, top: DispNode) -> DispNode
+    requires { ⌜ (split ≤ 512) × (k < 512) × (a .count ≤ k + 1) ⌝ }
+    ensures { λ r. ⌜ r ≡ cond (eqb (a .count) (k + 1)) (a .node) (cond (eqb (a .count) 0) (wholeNode (now (img .entry)) (split - 1)) (cond (ltb 63 (a .count)) (wholeNode (now (fresh .entry)) (a .count - 1)) top)) ⌝ }
+{
+    if a.count == k + 1 {
+        return a.node;
+    }
+    if a.count == 0 {
+        return codec::whole_node(img, one_less(split) as u32);
+    }
+    if 63 < a.count {
+        return codec::whole_node(fresh, one_less(a.count) as u32);
     }
     top
 }
@@ -133,37 +144,16 @@ fn at_count(p: Place, k: usize) -> Place
 }
 
 // The turns are at an end, which no search of an accepted train meets. Where it stood does not count.
-fn out_of_turns(img: &[u8], curr: DispNode, p: Place) -> Searched
+fn out_of_turns(curr: DispNode, p: Place) -> Searched
     ensures { λ x. ⌜ (x .go ≡ Move.Advance) × (x .effect ≡ Effect.Refused 13) × (x .place ≡ p) × (x .«new_count» ≡ 0) ⌝ }
 {
-    let est = codec::est_at(img, 0);
+    let here = look::nowhere(curr);
     Searched {
         go: Move::Advance,
         effect: Effect::Refused(13),
-        here: Here {
-            code: 13,
-            idx_join_new: 0,
-            disp_node_curr: curr,
-            est_curr: est,
-            est_next: est,
-        },
+        here: here,
         place: p,
         new_count: 0,
-    }
-}
-
-// An entry of the array that no node was put into: all its bits are 0, and the array is cleared at once.
-fn no_node() -> DispNode {
-    let e = LinkEvent {
-        link_idx: LinkIdx(0),
-        est_type: EstType::Arrive,
-    };
-    DispNode {
-        offset: Metres(0.0),
-        time_pass: Seconds(0.0),
-        link_event: e,
-        est_idx: EstIdx(0),
-        disp_auth_idx_entry: 0,
     }
 }
 
@@ -187,8 +177,8 @@ pub fn run(
     ensures { λ x. ⌜ ((t : Train) → Begins (length (now (occ .entry))) (roundOf t (now (occ .entry)) (now (img .entry)) (now (dt .entry)) (now (dn .entry)) r) (searchIn (r .«est_count») start [] (divsOf (start .«div_count») (now (nt .entry)) (now (nn .entry))) (arrays (now (pool .entry)) (now (begins .entry)) (now (ends .entry)))) → Ran (length (now (occ .entry))) (roundOf t (now (occ .entry)) (now (img .entry)) (now (dt .entry)) (now (dn .entry)) r) (searchIn (r .«est_count») start [] (divsOf (start .«div_count») (now (nt .entry)) (now (nn .entry))) (arrays (now (pool .entry)) (now (begins .entry)) (now (ends .entry)))) (x .go) (x .effect) (hereOf (x .here)) (searchIn (r .«est_count») (x .place) (listed (x .«new_count») (nodeAt (now (fresh .exit)))) (divsOf (x .place .«div_count») (now (nt .exit)) (now (nn .exit))) (arrays (now (pool .exit)) (now (begins .exit)) (now (ends .exit))))) × Kept (now (fresh .exit)) (now (fresh .entry)) × (x .place .«pool_count» ≤ 2048) ⌝ }
 {
     let mut p = start;
-    let mut curr = codec::node_at(img, one_less(p.idx_split) as u32);
-    let mut new = [no_node(); 512];
+    let mut curr = codec::whole_node(img, one_less(p.idx_split) as u32);
+    let mut new = [codec::zero_node(); 64];
     let mut left = 3 * r.est_count + 1;
     while 0 < left {
         let k = p.new_count;
@@ -208,11 +198,13 @@ pub fn run(
             };
         }
         let n = a.node;
-        new[k] = n;
+        let at = slot_of(k);
+        new[at] = n;
         put_new(fresh, k, a);
         p = at_count(place, a.count);
-        curr = current(img, p.idx_split, a.count, new[one_less(a.count)]);
+        let top = slot_of(one_less(a.count));
+        curr = current(img, fresh, p.idx_split, k, a, new[top]);
         left -= 1;
     }
-    out_of_turns(img, curr, p)
+    out_of_turns(curr, p)
 }

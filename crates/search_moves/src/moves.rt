@@ -244,7 +244,7 @@ fn store_divs(
     nn: &mut [u16],
     count: usize,
 )
-    requires { ⌜ (b + k ≤ length (now pool)) × (count + k ≤ length (now nt)) × (count + k ≤ length (now nn)) × (node < 65536) × (length (now pool) ≡ 2048) × (length (now nt) < 65536) ⌝ }
+    requires { ⌜ (b + k ≤ length (now pool)) × (count + k ≤ length (now nt)) × (count + k ≤ length (now nn)) × (node < 65536) × (length (now pool) ≡ 2048) × (count + k < 65536) ⌝ }
     ensures { λ _. ⌜ divsOf (count + k) (now (nt .exit)) (now (nn .exit)) ≡ divsOf count (now (nt .entry)) (now (nn .entry)) ++ diverging node (trainsFrom (now (pool .entry)) b k) ⌝ }
 {
     let mut j = 0;
@@ -266,7 +266,7 @@ fn push_divs(
     nn: &mut [u16],
     count: usize,
 ) -> Grown
-    requires { ⌜ (length (now pool) ≡ 2048) × (len ≤ 2048) × (node < 65536) × (room ≤ 1024) × (count ≤ 1024) × (length (now nt) ≡ 1024) × (length (now nn) ≡ 1024) ⌝ }
+    requires { ⌜ (length (now pool) ≡ 2048) × (len ≤ 2048) × (node < 65536) × (room ≤ 1024) × (count ≤ 1024) × (room ≤ length (now nt)) × (room ≤ length (now nn)) ⌝ }
     ensures { λ x. ⌜ (answer (x .code) (divsOf (x .len) (now (nt .exit)) (now (nn .exit))) ≡ deposit (take len (trains (now (pool .entry)))) v room (divsOf count (now (nt .entry)) (now (nn .entry))) node) × (x .len ≤ 1024) ⌝ }
 {
     let b = v.idx_begin as usize;
@@ -298,7 +298,7 @@ pub(crate) fn alternate(
     nt: &mut [u16],
     nn: &mut [u16],
 ) -> Moved
-    requires { ⌜ Small p × Sized r × (h .«idx_join_new» ≤ p .«idx_split» + p .«new_count») × (length (now pool) ≡ 2048) × (length (now nt) ≡ 1024) × (length (now nn) ≡ 1024) ⌝ }
+    requires { ⌜ Small p × Sized r × (h .«idx_join_new» ≤ p .«idx_split» + p .«new_count») × (length (now pool) ≡ 2048) × (r .«diverge_room» ≤ length (now nt)) × (r .«diverge_room» ≤ length (now nn)) ⌝ }
     ensures { λ x. ⌜ ((t : Train) (occ img dt dn : List ℕ) (new : List DispNode) → effectOf (roundOf t occ img dt dn r) (searchIn (r .«est_count») (x .place) new (divsOf (x .place .«div_count») (now (nt .exit)) (now (nn .exit))) (arrays (now (pool .entry)) (now (begins .entry)) (now (ends .entry)))) (x .effect) ≡ Moves.alternate (roundOf t occ img dt dn r) (hereOf h) (searchIn (r .«est_count») p new (divsOf (p .«div_count») (now (nt .entry)) (now (nn .entry))) (arrays (now (pool .entry)) (now (begins .entry)) (now (ends .entry))))) × Goes r p (x .place) ⌝ }
 {
     let est = h.est_curr;

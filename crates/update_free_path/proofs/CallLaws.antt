@@ -4,7 +4,6 @@ use mathlib.Core.List.{List}
 use Prim.Native.Nat.{ℕ, zero, suc, _≤_, _<_}
 use native.Mathlib.Omega.{arith}
 use lib.ListN.{length}
-use Rattle.link_rules.proofs.OctetLaws.{Bytes}
 use Rattle.disp_structs.specs.Listed.{listed}
 use Rattle.disp_structs.specs.declared.DispNode.{DispNode}
 use Rattle.image.specs.Image.{estCount, divergeRoom, nodeAt, pathHeader}
@@ -18,7 +17,6 @@ use Rattle.free_path.proofs.ColumnLaws.{listed-out}
 use Rattle.train_update.specs.Update as Update
 use Rattle.update_image.specs.UpdateImage.{UpdatedImage, callFault, linkIdxs, updateFault, updatedImage, storedAnswer, refusedAnswer, answerBy}
 use Rattle.update_call.proofs.CallLaws.{call-links}
-use Rattle.update_call.proofs.StartLaws.{accepted-size}
 use Rattle.splice.specs.Read.{Kept}
 use Rattle.splice.proofs.NodeLaws.{kept-count, kept-le}
 use Rattle.update_free_path.specs.Updates.{Begins, updateOf}
@@ -63,6 +61,3 @@ module _ (img occ blocking : List ℕ) (o : Order) (f : Fault) (e : f ≡ update
 
       pub begins : h .free < h .«path_count» → Begins img occ h
       begins l = record { fault = clean .1; few = call-links occ blocking (o .moved .0) (o .limit) (clean .0) .1; header = r; free = l }
-
-      pub image-size : Bytes img → length img ≤ 36928
-      image-size b = accepted-size img (length occ) (clean .1) b .1

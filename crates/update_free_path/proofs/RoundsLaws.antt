@@ -12,7 +12,7 @@ use Rattle.disp_structs.specs.Listed.{listed}
 use Rattle.disp_structs.specs.Train.{Train}
 use Rattle.disp_structs.proofs.ListedLaws.{listed-length}
 use Rattle.image_fault.proofs.ScanLaws.{both}
-use Rattle.image.specs.Image.{nodeAt}
+use Rattle.image.specs.Image.{nodeAt, estCount, estAt}
 use Rattle.image.specs.declared.codec.PathHeader.{PathHeader}
 use Rattle.free_path.specs.Base.{Res, ok, count}
 use Rattle.free_path.specs.Columns.{linkAt, flagged}
@@ -109,9 +109,13 @@ module _ (occ img dt dn : List ℕ) (h : PathHeader) (a : Accepted (length occ) 
   unfolding trainOf
   path-few = omega (arith, a .path .few, a .ests .few, listed-length (h .«path_count») (nodeAt img))
 
-  pub path-ests : (i : ℕ) → i < h .«path_count» → nodeAt img i .«est_idx» .0 < 512
+  pub path-within : h .«path_count» ≤ estCount img
   unfolding trainOf
-  path-ests i l = omega (arith, a .ests .few, a .path .each i (nodeAt img i) (listed-read (h .«path_count») (nodeAt img) i l) .est)
+  path-within = omega (arith, a .path .few, listed-length (h .«path_count») (nodeAt img), listed-length (estCount img) (estAt img))
+
+  pub path-ests : (i : ℕ) → i < h .«path_count» → nodeAt img i .«est_idx» .0 < estCount img
+  unfolding trainOf
+  path-ests i l = omega (arith, listed-length (estCount img) (estAt img), a .path .each i (nodeAt img i) (listed-read (h .«path_count») (nodeAt img) i l) .est)
 
   pub strays-low : (col flags : List ℕ) (s : ℕ) → s ≡ count (strayLink occ (flagged flags)) (drop (h .free) (listed (h .«path_count») (linkAt col))) → s ≤ 512
   strays-low col flags s e = omega (arith, path-few, strays-few (strayLink occ (flagged flags)) (h .«path_count») (linkAt col) (h .free))
@@ -121,7 +125,7 @@ module _ (occ img dt dn : List ℕ) (h : PathHeader) (a : Accepted (length occ) 
       → count (strayLink occ (flagged flags)) (drop (h .free) (listed (h .«path_count») (linkAt col))) ≡ Update.straysOf (givenOf g occ blocking start) (trainOf img dt dn h)
   unfolding trainOf
   strays-are l col flags q g blocking start k =
-      count-strays occ flags blocking start k (pathOf img (h .«path_count»)) (linked-accepted (length occ) _ (pathOf img (h .«path_count»)) l (a .path .each)) (listed (h .«path_count») (linkAt col)) q (h .free)
+      count-strays 4000 occ flags blocking start k (pathOf img (h .«path_count»)) (linked-accepted 4000 (length occ) _ (pathOf img (h .«path_count»)) l (a .path .each)) (listed (h .«path_count») (linkAt col)) q (h .free)
 
 pub due-turn : (w : Between) (limit : ℕ) → (ltb (w .rounds) limit && dueAt w) ≡ true → (w .rounds < limit) × (dueAt w ≡ true)
 due-turn w limit e = let b = both (ltb (w .rounds) limit) (dueAt w) e in (ltb-true (w .rounds) limit (b .0), b .1)

@@ -9,7 +9,8 @@ use Rattle.link_rules.proofs.OctetLaws.{Bytes}
 use Rattle.disp_structs.specs.Listed.{listed}
 use Rattle.disp_structs.specs.Train.{Train}
 use Rattle.disp_structs.specs.declared.DispNode.{DispNode}
-use Rattle.image.specs.Image.{divergeCount, divergeAt, nodeAt, pathHeader}
+use Rattle.image.specs.Image.{divergeCount, divergeAt, nodeAt, pathHeader, divergeRoom, estCount, imageSize}
+use Rattle.image_fault.proofs.AcceptLaws as Clean
 use Rattle.image.specs.Codec.{decoded}
 use Rattle.image.specs.declared.codec.PathHeader.{PathHeader}
 use Rattle.free_path.specs.Base.{Res, ok, no, at, count}
@@ -55,12 +56,19 @@ module _ (img occ : List ℕ) (h : PathHeader) (b : Begins img occ h) (bytes : B
   fitting : Fits 65536 (decoded img)
   fitting = bytes-accepted img (length occ) bytes (b .fault) .1
 
-  pub begin-size : (1 ≤ h .«diverge_count») × (h .«diverge_count» ≤ 1024)
+  pub begin-size : (1 ≤ h .«diverge_count») × (h .«diverge_count» ≤ divergeRoom img)
   unfolding pathHeader
   begin-size =
       let z = accepted-size img (length occ) (b .fault) bytes in
       let e : h .«diverge_count» ≡ divergeCount img = ap (λ (x : PathHeader). x .«diverge_count») (b .header) in
-      (omega (arith, z .4), omega (arith, z .3, z .5))
+      (omega (arith, z .4), omega (arith, z .5))
+
+  -- its length and the numbers by which it has room
+  pub begin-long : (length img ≡ imageSize (estCount img) (divergeRoom img)) × (estCount img ≤ 512) × (divergeRoom img ≤ 1024)
+  begin-long =
+      let a = Clean.accepted img (length occ) (b .fault) in
+      let c = Clean.fits-counts img (a .fits) in
+      (Clean.good-image img (a .fits) (length occ) (a .values) bytes .long, c .few-est, c .few-room)
 
   path-is : pathOf img (h .«path_count») ≡ decoded img .«disp_path»
   unfolding decoded pathHeader
@@ -84,8 +92,8 @@ module _ (img occ : List ℕ) (h : PathHeader) (b : Begins img occ h) (bytes : B
     pub begin-accepted : Accepted (length occ) (trainOf img dt dn h)
     begin-accepted = subst (λ (y : Train). Accepted (length occ) y) (sym begin-train) (top-start (length occ) (o .moved) (decoded img) good .stays .accepted)
 
-    linked : Linked (pathOf img (h .«path_count»))
-    linked = subst Linked (sym path-is) (linked-accepted (length occ) _ (decoded img .«disp_path») (b .few) (good .path .each))
+    linked : (top : ℕ) → length occ ≤ top → Linked top (pathOf img (h .«path_count»))
+    linked top l = subst (Linked top) (sym path-is) (linked-accepted top (length occ) _ (decoded img .«disp_path») l (good .path .each))
 
     module _ (col : List ℕ) (c : listed (h .«path_count») (linkAt col) ≡ linkIdxPath (pathOf img (h .«path_count»))) where
       pub begin-top : (on : List ℕ) → Marked on (pathOf img (h .«path_count»)) → (s : ℕ) → s ≤ 512 → Top occ img col on dt dn (startAt h s)
@@ -105,7 +113,7 @@ module _ (img occ : List ℕ) (h : PathHeader) (b : Begins img occ h) (bytes : B
             few = omega arith;
           }
 
-      module _ (blocking flags knowing : List ℕ) (f : flags ≡ flagLinks (listed (h .«path_count») (linkAt col)) (replicate 4000 0)) (k : knowing ≡ flagLinks (kept (flagged flags) (links blocking)) (replicate 4000 0)) where
+      module _ (top : ℕ) (l : length occ ≤ top) (blocking flags knowing : List ℕ) (f : flags ≡ flagLinks (listed (h .«path_count») (linkAt col)) (replicate top 0)) (k : knowing ≡ flagLinks (kept (flagged flags) (links blocking)) (replicate top 0)) where
         abbrev begun : Given
         begun = givenAt img blocking flags o (h .free)
 
@@ -116,12 +124,12 @@ module _ (img occ : List ℕ) (h : PathHeader) (b : Begins img occ h) (bytes : B
         given = Update.givenOf occ (linkIdxs blocking) (o .moved) (o .local) (decoded img) (nodeAt img (h .free))
 
         knows : Known knowing (linkIdxs blocking) first
-        knows l _ _ = known-links (pathOf img (h .«path_count»)) linked (listed (h .«path_count») (linkAt col)) c flags f (links blocking) knowing k (link l)
+        knows i _ _ = known-links top (pathOf img (h .«path_count»)) (linked top l) (listed (h .«path_count») (linkAt col)) c flags f (links blocking) knowing k (link i)
 
         given-is : givenOf begun occ (linkIdxs blocking) first ≡ given
         unfolding decoded
         given-is =
-            ap (λ (y : LinkOptType). make y first) (class-flags (pathOf img (h .«path_count»)) linked (listed (h .«path_count») (linkAt col)) c flags f (links blocking))
+            ap (λ (y : LinkOptType). make y first) (class-flags top (pathOf img (h .«path_count»)) (linked top l) (listed (h .«path_count») (linkAt col)) c flags f (links blocking))
             ∙ ap (λ (xs : List DispNode). make (linkOptType (links blocking) (contains (linksOnPath xs))) (linksOnPath xs)) path-is
           where
             make : LinkOptType → List LinkIdx → Update.Given

@@ -4,12 +4,12 @@ use mathlib.Core.Path.{_≡_}
 use mathlib.Core.Bool.{Bool, true, false, cond}
 use mathlib.Core.List.{List}
 use lib.Dec.{ltb}
-use lib.ListN.{length}
+use lib.ListN.{length, replicate}
 use Rattle.link_rules.specs.declared.link_idx.LinkIdx.{LinkIdx}
 use Rattle.disp_structs.specs.Listed.{listed}
 use Rattle.disp_structs.specs.Train.{Train}
 use Rattle.disp_structs.specs.Values.{minus}
-use Rattle.image.specs.Image.{nodeAt, distFixedMax, pathHeader}
+use Rattle.image.specs.Image.{estCount, divergeRoom, nodeAt, distFixedMax, pathHeader}
 use Rattle.image.specs.Codec.{decoded}
 use Rattle.image_fault.specs.ImageFault.{imageFault}
 use Rattle.image.specs.declared.codec.PathHeader.{PathHeader}
@@ -122,12 +122,19 @@ closedAt w = cond (dueAt w) (ranOf (Stops.Refused 12) (w .header) (w .rounds) (w
 abbrev pub Known : List ℕ → List LinkIdx → List LinkIdx → Type 0
 Known flags blocking start = (l : ℕ) → 0 < l → l < 4000 → flagged flags (link l) ≡ known blocking (contains start) (link l)
 
--- the arrays that the loop is lent
-pub record Sizes (col on dt dn : List ℕ) : Type 0 where
-  pub column : length col ≡ 512
-  pub flags : length on ≡ 512
-  pub trains : length dt ≡ 1024
-  pub nodes : length dn ≡ 1024
+-- the arrays that the loop is lent have room for n est records and q diverge nodes
+pub record Sizes (n q : ℕ) (col on dt dn : List ℕ) : Type 0 where
+  pub column : n ≤ length col
+  pub flags : n ≤ length on
+  pub trains : q ≤ length dt
+  pub nodes : q ≤ length dn
+
+-- they keep their lengths
+pub record SameSizes (col₀ on₀ dt₀ dn₀ col on dt dn : List ℕ) : Type 0 where
+  pub column : length col ≡ length col₀
+  pub flags : length on ≡ length on₀
+  pub trains : length dt ≡ length dt₀
+  pub nodes : length dn ≡ length dn₀
 
 -- at the top of a round: the train, its column of links and its flags
 pub record Top (occ img col on dt dn : List ℕ) (w : Between) : Type 0 where
@@ -173,6 +180,13 @@ pub record Begins (img occ : List ℕ) (h : PathHeader) : Type 0 where
   pub few : length occ ≤ 4000
   pub header : h ≡ pathHeader img
   pub free : h .free < h .«path_count»
+
+-- the room of an update: arrays for the train of the image, and flags for the links, all 0
+pub record Space (img occ col on flags known dt dn : List ℕ) : Type 0 where
+  pub sizes : Sizes (estCount img) (divergeRoom img) col on dt dn
+  pub links : length occ ≤ length flags
+  pub noFlag : flags ≡ replicate (length flags) 0
+  pub noneKnown : known ≡ replicate (length flags) 0
 
 -- the update of the train of an image
 abbrev pub updateOf : List ℕ → List ℕ → List ℕ → Order → Update.Updated

@@ -13,8 +13,9 @@ use update_call;
 ghost use mathlib.Core.Path.{_≡_};
 ghost use Prim.Native.Nat.{_≤_};
 ghost use lib.ListN.{length};
+ghost use Rattle.image.specs.Image.{estCount, divergeRoom};
 ghost use Rattle.update_image.specs.UpdateImage.{storedAnswer, updatedImage};
-ghost use Rattle.update_free_path.specs.Updates.{updatedOf, updateOf, Begins};
+ghost use Rattle.update_free_path.specs.Updates.{updatedOf, updateOf, Begins, Space};
 
 // The update runs on a copy of the image; only one that is not refused changes the image.
 fn update_in(
@@ -24,47 +25,94 @@ fn update_in(
     blocking: &[u32],
     o: Order,
     h: PathHeader,
+    col: &mut [u32],
+    on: &mut [u8],
+    flags: &mut [u8],
+    known: &mut [u8],
+    dt: &mut [u16],
+    dn: &mut [u16],
 ) -> Updated
-    requires { ⌜ Begins (now image) (now occ) h × (length (now scratch) ≡ length (now image)) ⌝ }
+    requires { ⌜ Begins (now image) (now occ) h × (length (now scratch) ≡ length (now image)) × Space (now image) (now occ) (now col) (now on) (now flags) (now known) (now dt) (now dn) ⌝ }
     ensures { λ x. ⌜ updatedOf x (now (image .exit)) ≡ storedAnswer (updateOf (now (image .entry)) (now (occ .entry)) (now (blocking .entry)) o) (now (image .entry)) ⌝ }
 {
     update_call::copy_image(image, scratch);
+    let r = start::run(scratch, occ, blocking, o, h, col, on, flags, known, dt, dn);
+    answer::answered(image, scratch, occ, r, dt, dn)
+}
+
+// Room for an update of at most 64 est records and 64 diverge nodes over at most 512 links, which takes less time to clear.
+fn update_small(image: &mut [u8], occ: &[u16], blocking: &[u32], o: Order, h: PathHeader) -> Updated
+    requires { ⌜ Begins (now image) (now occ) h × (estCount (now image) ≤ 64) × (divergeRoom (now image) ≤ 64) × (length (now occ) ≤ 512) ⌝ }
+    ensures { λ x. ⌜ updatedOf x (now (image .exit)) ≡ storedAnswer (updateOf (now (image .entry)) (now (occ .entry)) (now (blocking .entry)) o) (now (image .entry)) ⌝ }
+{
+    let mut scratch = [0u8; 4416];
+    let mut col = [0u32; 64];
+    let mut on = [0u8; 64];
+    let mut flags = [0u8; 512];
+    let mut known = [0u8; 512];
+    let mut dt = [0u16; 64];
+    let mut dn = [0u16; 64];
+    let n = image.len();
+    update_in(
+        image,
+        &mut scratch[..n],
+        occ,
+        blocking,
+        o,
+        h,
+        &mut col,
+        &mut on,
+        &mut flags,
+        &mut known,
+        &mut dt,
+        &mut dn,
+    )
+}
+
+// The same for the largest update.
+fn update_large(image: &mut [u8], occ: &[u16], blocking: &[u32], o: Order, h: PathHeader) -> Updated
+    requires { ⌜ Begins (now image) (now occ) h ⌝ }
+    ensures { λ x. ⌜ updatedOf x (now (image .exit)) ≡ storedAnswer (updateOf (now (image .entry)) (now (occ .entry)) (now (blocking .entry)) o) (now (image .entry)) ⌝ }
+{
+    let mut scratch = [0u8; 36928];
+    let mut col = [0u32; 512];
+    let mut on = [0u8; 512];
+    let mut flags = [0u8; 4000];
+    let mut known = [0u8; 4000];
     let mut dt = [0u16; 1024];
     let mut dn = [0u16; 1024];
-    let r = start::run(scratch, occ, blocking, o, h, &mut dt, &mut dn);
-    answer::answered(image, scratch, occ, r, &dt, &dn)
+    let n = image.len();
+    update_in(
+        image,
+        &mut scratch[..n],
+        occ,
+        blocking,
+        o,
+        h,
+        &mut col,
+        &mut on,
+        &mut flags,
+        &mut known,
+        &mut dt,
+        &mut dn,
+    )
 }
 
-fn small_scratch() -> [u8; 4096]
-    ensures { λ r. ⌜ 4096 ≡ length r ⌝ }
-{
-    [0u8; 4096]
-}
-
-// Room for the largest image.
-fn scratch() -> [u8; 36928]
-    ensures { λ r. ⌜ 36928 ≡ length r ⌝ }
-{
-    [0u8; 36928]
-}
-
-// A small image has a small scratch, which takes less time to clear.
-fn update_small(image: &mut [u8], occ: &[u16], blocking: &[u32], o: Order, h: PathHeader) -> Updated
-    requires { ⌜ Begins (now image) (now occ) h × (length (now image) ≤ 4096) ⌝ }
+// The update in room by its size.
+fn update_begun(image: &mut [u8], occ: &[u16], blocking: &[u32], o: Order, h: PathHeader) -> Updated
+    requires { ⌜ Begins (now image) (now occ) h ⌝ }
     ensures { λ x. ⌜ updatedOf x (now (image .exit)) ≡ storedAnswer (updateOf (now (image .entry)) (now (occ .entry)) (now (blocking .entry)) o) (now (image .entry)) ⌝ }
 {
-    let mut room = small_scratch();
-    let n = image.len();
-    update_in(image, &mut room[..n], occ, blocking, o, h)
-}
-
-fn update_large(image: &mut [u8], occ: &[u16], blocking: &[u32], o: Order, h: PathHeader) -> Updated
-    requires { ⌜ Begins (now image) (now occ) h × (length (now image) ≤ 36928) ⌝ }
-    ensures { λ x. ⌜ updatedOf x (now (image .exit)) ≡ storedAnswer (updateOf (now (image .entry)) (now (occ .entry)) (now (blocking .entry)) o) (now (image .entry)) ⌝ }
-{
-    let mut room = scratch();
-    let n = image.len();
-    update_in(image, &mut room[..n], occ, blocking, o, h)
+    if 64 < codec::est_count(image) {
+        return update_large(image, occ, blocking, o, h);
+    }
+    if 64 < codec::diverge_room(image) {
+        return update_large(image, occ, blocking, o, h);
+    }
+    if 512 < occ.len() {
+        return update_large(image, occ, blocking, o, h);
+    }
+    update_small(image, occ, blocking, o, h)
 }
 
 // Updates the train of an image. Refused by 2 and 4 to 13: then nothing is changed.
@@ -91,8 +139,5 @@ pub fn update_free_path(
         local: local,
         limit: limit,
     };
-    if image.len() <= 4096 {
-        return update_small(image, occ, blocking, o, h);
-    }
-    update_large(image, occ, blocking, o, h)
+    update_begun(image, occ, blocking, o, h)
 }

@@ -14,7 +14,7 @@ ghost use Prim.Native.Nat.{ℕ, _+_, _^_, _≤_, _<_};
 ghost use lib.Dec.{ltb};
 ghost use lib.ListN.{length, drop};
 ghost use Rattle.disp_structs.specs.Listed.{listed};
-ghost use Rattle.image.specs.Image.{nodeAt};
+ghost use Rattle.image.specs.Image.{estCount, divergeRoom, nodeAt};
 ghost use Rattle.free_path.specs.Base.{count};
 ghost use Rattle.free_path.specs.Columns.{linkAt, flagged};
 ghost use Rattle.free_path.specs.LinkOptType.{linkIdxPath};
@@ -167,7 +167,7 @@ pub(crate) fn rounds(
     dt: &mut [u16],
     dn: &mut [u16],
 ) -> Ran
-    requires { ⌜ Sizes (now col) (now on) (now dt) (now dn) × Top (now occ) (now img) (now col) (now on) (now dt) (now dn) start ⌝ }
+    requires { ⌜ Sizes (estCount (now img)) (divergeRoom (now img)) (now col) (now on) (now dt) (now dn) × Top (now occ) (now img) (now col) (now on) (now dt) (now dn) start ⌝ }
     ensures { λ x. ⌜ Ended (now (occ .entry)) (now (known .entry)) g limit (now (img .entry)) (now (dt .entry)) (now (dn .entry)) start (now (img .exit)) (now (dt .exit)) (now (dn .exit)) x ⌝ }
 {
     let mut w = start;

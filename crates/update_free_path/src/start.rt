@@ -15,7 +15,7 @@ ghost use Rattle.disp_structs.specs.Listed.{listed};
 ghost use Rattle.image.specs.Image.{divergeAt};
 ghost use Rattle.free_path.specs.Columns.{divAt};
 ghost use Rattle.train_update.specs.Update.{adjustSentinel};
-ghost use Rattle.update_free_path.specs.Updates.{startAt, givenAt, Begins, Finished};
+ghost use Rattle.update_free_path.specs.Updates.{startAt, givenAt, Begins, Space, Finished};
 
 // What an update is told besides the image and the lists.
 pub struct Order {
@@ -58,29 +58,29 @@ fn start_of(h: PathHeader, strays: usize) -> Between
     }
 }
 
-// The rounds of an update of the train of an image, which is a copy.
+// The rounds of an update of the train of an image, which is a copy. col and on are for the path, flags and known for links.
 pub(crate) fn run(
     img: &mut [u8],
     occ: &[u16],
     blocking: &[u32],
     o: Order,
     h: PathHeader,
+    col: &mut [u32],
+    on: &mut [u8],
+    flags: &mut [u8],
+    known: &mut [u8],
     dt: &mut [u16],
     dn: &mut [u16],
 ) -> Ran
-    requires { ⌜ Begins (now img) (now occ) h × (length (now dt) ≡ 1024) × (length (now dn) ≡ 1024) ⌝ }
+    requires { ⌜ Begins (now img) (now occ) h × Space (now img) (now occ) (now col) (now on) (now flags) (now known) (now dt) (now dn) ⌝ }
     ensures { λ x. ⌜ Finished (now (img .entry)) (now (occ .entry)) (now (blocking .entry)) o (now (img .exit)) (now (dt .exit)) (now (dn .exit)) x ⌝ }
 {
     let moved = o.moved;
     start_diverges(img, h.diverge_count, moved, dt, dn);
-    let mut col = [0u32; 512];
-    let mut on = [0u8; 512];
-    rounds::derive(img, h.path_count, &mut col, &mut on);
-    let mut flags = [0u8; 4000];
-    columns::flag_links(&mut flags, &col, h.path_count as usize);
-    let mut known = [0u8; 4000];
-    columns::flag_known(&mut known, blocking, &flags);
-    let g = given_of(img, blocking, &flags, o, h.free);
-    let w = start_of(h, rounds::strays_of(&col, h, occ, &known));
-    rounds::rounds(img, occ, &known, g, w, o.limit, &mut col, &mut on, dt, dn)
+    rounds::derive(img, h.path_count, col, on);
+    columns::flag_links(flags, col, h.path_count as usize);
+    columns::flag_known(known, blocking, flags);
+    let g = given_of(img, blocking, flags, o, h.free);
+    let w = start_of(h, rounds::strays_of(col, h, occ, known));
+    rounds::rounds(img, occ, known, g, w, o.limit, col, on, dt, dn)
 }

@@ -18,28 +18,30 @@ use Rattle.search.specs.Read.{divsOf, pathOf, roundOf, hereOf, searchIn, arrays
 use Rattle.splice.specs.Parts.{Sound}
 use Rattle.splice.specs.Read.{Kept}
 use Rattle.splice.proofs.NodeLaws.{kept-count, kept-then}
-use Rattle.search_loop.specs.Runs.{counted, Begins, Going}
-use Rattle.search_loop.proofs.LoopLaws.{currentIn, place-split, going-first, top-split, top-small, top-current, written, written-kept, array-next, current-in, blank, turn-sound, turn-on, turn-ends, turns-out}
+use Rattle.search_loop.specs.Runs.{counted, slotOf, Begins, Going}
+use Rattle.image.proofs.RecordLaws.{whole-node}
+use Rattle.search_loop.proofs.LoopLaws.{currentIn, place-split, going-first, top-split, top-small, top-current, slot-in, slot-low, written, written-kept, written-last, array-next, current-in, blank, turn-sound, turn-on, turn-ends, turns-out}
 use Rattle.search_loop.proofs.run.Statement.{statement}
 use Rattle.search_loop.proofs.run.Tie as tie
 use Rattle.search_loop.proofs.run.Reads as reads
 use Rattle.search_loop.proofs.run.Lts as lts
-use Rattle.image.proofs.codec.node_at.Reads as node-at-reads
+use Rattle.image.proofs.codec.whole_node.Reads as whole-node-reads
+use Rattle.image.proofs.codec.zero_node.Reads as zero-node-reads
 use Rattle.search_loop.proofs.after.Reads as after-reads
 use Rattle.search_loop.proofs.at_count.Reads as at-count-reads
 use Rattle.search_loop.proofs.current.Reads as current-reads
-use Rattle.search_loop.proofs.no_node.Reads as no-node-reads
 use Rattle.search_loop.proofs.one_less.Reads as one-less-reads
 use Rattle.search_loop.proofs.out_of_turns.Reads as out-of-turns-reads
 use Rattle.search_loop.proofs.put_new.Reads as put-new-reads
+use Rattle.search_loop.proofs.slot_of.Reads as slot-of-reads
 use Rattle.search_moves.proofs.turn.turn.Reads as turn-reads
 
 abbrev Inv-loop : tie.InvT-loop
 Inv-loop img occ on dt dn r fresh₀ pool₀ begins₀ ends₀ nt₀ nn₀ p₀ curr₀ new₀ left₀ fresh pool begins ends nt nn p curr new left =
-    Kept fresh fresh₀ × Lent (r .«est_count») (arrays pool begins ends) × (length nt ≡ 1024) × (length nn ≡ 1024) × (p .«pool_count» ≤ 2048) × (curr ≡ currentIn img fresh (p .«idx_split») (p .«new_count»))
+    Kept fresh fresh₀ × Lent (r .«est_count») (arrays pool begins ends) × (length nt ≡ length nt₀) × (length nn ≡ length nn₀) × (p .«pool_count» ≤ 2048) × (curr ≡ currentIn img fresh (p .«idx_split») (p .«new_count»))
     × ((t : Train) → Begins (length occ) (roundOf t occ img dt dn r) (searchIn (r .«est_count») p₀ [] (divsOf (p₀ .«div_count») nt₀ nn₀) (arrays pool₀ begins₀ ends₀))
     → Going (length occ) (roundOf t occ img dt dn r) left₀ (searchIn (r .«est_count») p₀ [] (divsOf (p₀ .«div_count») nt₀ nn₀) (arrays pool₀ begins₀ ends₀)) left (searchIn (r .«est_count») p (listed (p .«new_count») (nodeAt fresh)) (divsOf (p .«div_count») nt nn) (arrays pool begins ends)))
-    × (length new ≡ 512) × ((i : ℕ) → i < p .«new_count» → getD new i blank ≡ nodeAt fresh i)
+    × (length new ≡ 64) × ((i : ℕ) → i < p .«new_count» → i < 63 → getD new i blank ≡ nodeAt fresh i) × (length begins ≡ length begins₀) × (length ends ≡ length ends₀)
 
 abbrev μ-loop : tie.MeasureT-loop
 μ-loop img occ on dt dn r fresh₀ pool₀ begins₀ ends₀ nt₀ nn₀ p₀ curr₀ new₀ left₀ fresh pool begins ends nt nn p curr new left = left
@@ -47,7 +49,7 @@ abbrev μ-loop : tie.MeasureT-loop
 -- ---- at the top of the loop
 
 abbrev Top : Type 0
-Top = lts.At-loop (one-less-reads.Asked, one-less-reads.Learnt, node-at-reads.Asked, node-at-reads.Learnt, no-node-reads.Asked, no-node-reads.Learnt, turn-reads.Asked, turn-reads.Learnt, after-reads.Asked, after-reads.Learnt, put-new-reads.Asked, put-new-reads.Learnt, at-count-reads.Asked, at-count-reads.Learnt, current-reads.Asked, current-reads.Learnt, out-of-turns-reads.Asked, out-of-turns-reads.Learnt) reads.Pre reads.Post Inv-loop μ-loop
+Top = lts.At-loop (one-less-reads.Asked, one-less-reads.Learnt, whole-node-reads.Asked, whole-node-reads.Learnt, zero-node-reads.Asked, zero-node-reads.Learnt, turn-reads.Asked, turn-reads.Learnt, after-reads.Asked, after-reads.Learnt, slot-of-reads.Asked, slot-of-reads.Learnt, put-new-reads.Asked, put-new-reads.Learnt, at-count-reads.Asked, at-count-reads.Learnt, current-reads.Asked, current-reads.Learnt, out-of-turns-reads.Asked, out-of-turns-reads.Learnt) reads.Pre reads.Post Inv-loop μ-loop
 
 -- the laws of the loop's values, for the train with which it was lent
 module _ (o : Top) where
@@ -68,7 +70,7 @@ module _ (o : Top) where
 -- ---- after a turn
 
 abbrev Done : Type 0
-Done = lts.After-after (one-less-reads.Asked, one-less-reads.Learnt, node-at-reads.Asked, node-at-reads.Learnt, no-node-reads.Asked, no-node-reads.Learnt, turn-reads.Asked, turn-reads.Learnt, after-reads.Asked, after-reads.Learnt, put-new-reads.Asked, put-new-reads.Learnt, at-count-reads.Asked, at-count-reads.Learnt, current-reads.Asked, current-reads.Learnt, out-of-turns-reads.Asked, out-of-turns-reads.Learnt) reads.Pre reads.Post Inv-loop μ-loop
+Done = lts.After-after (one-less-reads.Asked, one-less-reads.Learnt, whole-node-reads.Asked, whole-node-reads.Learnt, zero-node-reads.Asked, zero-node-reads.Learnt, turn-reads.Asked, turn-reads.Learnt, after-reads.Asked, after-reads.Learnt, slot-of-reads.Asked, slot-of-reads.Learnt, put-new-reads.Asked, put-new-reads.Learnt, at-count-reads.Asked, at-count-reads.Learnt, current-reads.Asked, current-reads.Learnt, out-of-turns-reads.Asked, out-of-turns-reads.Learnt) reads.Pre reads.Post Inv-loop μ-loop
 
 module _ (d : Done) where
   current-node : Look.current (pathOf (now (d .before .before .before .before .before .before .before .before .before .before .before .before .before .before .before .before .before .before .before .before .before .before .before .before .before .before .before .before .before .before .before .before .before .before .before .before .args .img)) (d .before .before .before .before .before .before .before .before .before .before .before .before .before .before .before .before .before .before .before .before .before .before .before .before .before .before .before .before .before .before .before .before .before .before .before .before .args .r .«path_count»)) (listed (d .before .before .before .before .before .before .before .before .before .before .before .before .before .before .before .before .before .before .before .before .loop .p .«new_count») (nodeAt (d .before .before .before .before .before .before .before .before .before .before .before .before .before .before .before .before .before .before .before .before .loop .fresh))) (d .before .before .before .before .before .before .before .before .before .before .before .before .before .before .before .before .before .before .before .before .loop .p .«idx_split») ≡ ok (d .before .before .before .before .before .before .before .before .before .before .before .before .before .before .before .before .before .before .before .before .loop .curr)
@@ -77,7 +79,7 @@ module _ (d : Done) where
       top-current (now (a .occ)) (now (a .img)) (now (a .dt)) (now (a .dn)) (a .r) (g .train) _ (g .begins) _ (v .left) (v .p) (v .fresh) (v .nt) (v .nn) (arrays (v .pool) (v .begins) (v .ends)) (v .inv .6 (g .train) (g .begins)) ∙ ap ok (sym (v .inv .5))
 
   lent : Lent (d .before .before .before .before .before .before .before .before .before .before .before .before .before .before .before .before .before .before .before .before .before .before .before .before .before .before .before .before .before .before .before .before .before .before .before .before .args .r .«est_count») (arrays (d .before .before .before .before .before .before .before .before .before .before .before .before .before .turn .last .1 .1 .1 .1 .1 .1 .1 .1 .0) (d .before .before .before .before .before .before .before .before .before .before .before .before .before .turn .last .1 .1 .1 .1 .1 .1 .1 .1 .1 .0) (d .before .before .before .before .before .before .before .before .before .before .before .before .before .turn .last .1 .1 .1 .1 .1 .1 .1 .1 .1 .1 .0))
-  lent = let v = d .before .before .before .before .before .before .before .before .before .before .before .before .before .before .before .before .before .before .before .before .loop in record { est = v .inv .1 .est; trains = d .before .before .before .before .before .before .before .before .before .before .before .before .pool .given ∙ v .inv .1 .trains; first = d .before .before .before .before .before .before .before .before .before .before .begins .given ∙ v .inv .1 .first; last = d .before .before .before .before .before .before .before .before .ends .given ∙ v .inv .1 .last }
+  lent = let v = d .before .before .before .before .before .before .before .before .before .before .before .before .before .before .before .before .before .before .before .before .loop in record { est = v .inv .1 .est; trains = d .before .before .before .before .before .before .before .before .before .before .before .before .pool .given ∙ v .inv .1 .trains; first = omega (arith, d .before .before .before .before .before .before .before .before .before .before .begins .given, v .inv .1 .first); last = omega (arith, d .before .before .before .before .before .before .before .before .ends .given, v .inv .1 .last) }
 
   left-suc : d .before .before .before .before .before .before .before .before .before .before .before .before .before .before .before .before .before .before .before .before .loop .left ≡ suc (d .before .before .before .before .before .before .before .before .before .before .before .before .before .before .before .before .before .before .before .before .loop .left - 1)
   left-suc = omega (arith, d .before .before .before .before .before .before .before .before .before .before .before .before .before .before .before .before .before .before .before .loop-test .taken)
@@ -105,17 +107,17 @@ module _ (d : Done) where
 one-less-requires : tie.Need-one-less-requires Inv-loop μ-loop
 one-less-requires c κs = search needs
 
-cast-node-at : tie.Need-cast-node-at Inv-loop μ-loop
-cast-node-at c =
+cast-whole-node : tie.Need-cast-whole-node Inv-loop μ-loop
+cast-whole-node c =
     let g = c .before .before .before .before .before .before .before .before .before .before .before .before .pre in let a = c .before .before .before .before .before .before .before .before .before .before .before .before .args in
     let w = place-split (length (now (a .occ))) _ (g .begins .accepted) (a .r .«est_count») (a .start) [] (now (a .nt)) (now (a .nn)) (arrays (now (a .pool)) (now (a .begins)) (now (a .ends))) (g .begins .good) (sym (g .none)) in
     omega (arith, w .2, c .one-less .ensures)
 
-node-at-requires : tie.Need-node-at-requires Inv-loop μ-loop
-node-at-requires c κs = search needs
+whole-node-requires : tie.Need-whole-node-requires Inv-loop μ-loop
+whole-node-requires c κs = search needs
 
-no-node-requires : tie.Need-no-node-requires Inv-loop μ-loop
-no-node-requires c κs = search needs
+zero-node-requires : tie.Need-zero-node-requires Inv-loop μ-loop
+zero-node-requires c κs = search needs
 
 mul-left : tie.Need-mul-left Inv-loop μ-loop
 mul-left c = let h = c .before .before .before .before .before .before .before .before .before .before .before .before .before .before .before .pre .sized .est in omega (arith, h)
@@ -126,14 +128,16 @@ add-left c = let h = c .before .before .before .before .before .before .before .
 loop-holds : tie.Need-loop-holds Inv-loop μ-loop
 unfolding listed
 loop-holds c =
-    let g = c .before .before .before .before .before .before .before .before .before .before .before .before .before .before .before .pre in
-    (record { size = refl; below = λ i h. refl }, g .lent, g .newTrains, g .newNodes, g .pooled, rw (g .none) (c .before .before .node-at .ensures ∙ ap (nodeAt _) (c .before .before .before .one-less .ensures)), (λ t b. rw (g .none) (going-first _ _ _ b _)), refl, (λ i h. absurd (omega (arith, g .none, h))))
+    let g = c .before .before .before .before .before .before .before .before .before .before .before .before .before .before .before .pre in let a = c .before .before .before .before .before .before .before .before .before .before .before .before .before .before .before .args in
+    let w = place-split (length (now (a .occ))) _ (g .begins .accepted) (a .r .«est_count») (a .start) [] (now (a .nt)) (now (a .nn)) (arrays (now (a .pool)) (now (a .begins)) (now (a .ends))) (g .begins .good) (sym (g .none)) in
+    let n = whole-node (now (a .img)) (c .before .before .before .one-less .result) (omega (arith, c .before .before .before .one-less .ensures, w .0, w .1, listed-length (a .r .«path_count») (nodeAt (now (a .img))), g .nodes)) in
+    (record { size = refl; below = λ i h. refl }, g .lent, refl, refl, g .pooled, rw (g .none) (c .before .before .whole-node .ensures ∙ n ∙ ap (nodeAt _) (c .before .before .before .one-less .ensures)), (λ t b. rw (g .none) (going-first _ _ _ b _)), refl, (λ i h. absurd (omega (arith, g .none, h))), refl, refl)
 
 turn-requires : tie.Need-turn-requires Inv-loop μ-loop
 turn-requires c κs =
     let v = c .before .before .before .before .before .before .loop .inv in
     let g = c .before .before .before .before .before .before .before .before .before .before .before .before .before .before .before .before .before .before .before .before .before .before .pre in
-    (small (c .before .before .before .before .before .before), g .sized, v .1, v .2, v .3, g .marked)
+    (small (c .before .before .before .before .before .before), g .sized, v .1, omega (arith, v .2, g .newTrains), omega (arith, v .3, g .newNodes), g .marked, g .ests)
 
 after-requires : tie.Need-after-requires Inv-loop μ-loop
 after-requires c κs = let h = split (c .before .before .before .before .before .before .before .before .before .before .before .before .before .before .before .before .before .before .before) in omega (arith, h .0, h .2)
@@ -145,16 +149,16 @@ same-length-2 : tie.Need-same-length-2 Inv-loop μ-loop
 same-length-2 c = let d = c .before .before in let v = d .before .before .before .before .before .before .before .before .before .before .before .before .before .before .before .before .before .before .before .before .loop in let g = d .before .before .before .before .before .before .before .before .before .before .before .before .before .before .before .before .before .before .before .before .before .before .before .before .before .before .before .before .before .before .before .before .before .before .before .before .pre in lent d .trains ∙ sym (g .lent .trains)
 
 same-length-3 : tie.Need-same-length-3 Inv-loop μ-loop
-same-length-3 c = let d = c .before .before in let v = d .before .before .before .before .before .before .before .before .before .before .before .before .before .before .before .before .before .before .before .before .loop in let g = d .before .before .before .before .before .before .before .before .before .before .before .before .before .before .before .before .before .before .before .before .before .before .before .before .before .before .before .before .before .before .before .before .before .before .before .before .pre in lent d .first ∙ sym (g .lent .first)
+same-length-3 c = let d = c .before .before in let v = d .before .before .before .before .before .before .before .before .before .before .before .before .before .before .before .before .before .before .before .before .loop in let g = d .before .before .before .before .before .before .before .before .before .before .before .before .before .before .before .before .before .before .before .before .before .before .before .before .before .before .before .before .before .before .before .before .before .before .before .before .pre in d .before .before .before .before .before .before .before .before .before .before .begins .given ∙ v .inv .9
 
 same-length-4 : tie.Need-same-length-4 Inv-loop μ-loop
-same-length-4 c = let d = c .before .before in let v = d .before .before .before .before .before .before .before .before .before .before .before .before .before .before .before .before .before .before .before .before .loop in let g = d .before .before .before .before .before .before .before .before .before .before .before .before .before .before .before .before .before .before .before .before .before .before .before .before .before .before .before .before .before .before .before .before .before .before .before .before .pre in lent d .last ∙ sym (g .lent .last)
+same-length-4 c = let d = c .before .before in let v = d .before .before .before .before .before .before .before .before .before .before .before .before .before .before .before .before .before .before .before .before .loop in let g = d .before .before .before .before .before .before .before .before .before .before .before .before .before .before .before .before .before .before .before .before .before .before .before .before .before .before .before .before .before .before .before .before .before .before .before .before .pre in d .before .before .before .before .before .before .before .before .ends .given ∙ v .inv .10
 
 same-length-5 : tie.Need-same-length-5 Inv-loop μ-loop
-same-length-5 c = let d = c .before .before in let v = d .before .before .before .before .before .before .before .before .before .before .before .before .before .before .before .before .before .before .before .before .loop in let g = d .before .before .before .before .before .before .before .before .before .before .before .before .before .before .before .before .before .before .before .before .before .before .before .before .before .before .before .before .before .before .before .before .before .before .before .before .pre in d .before .before .before .before .before .before .nt .given ∙ v .inv .2 ∙ sym (g .newTrains)
+same-length-5 c = let d = c .before .before in let v = d .before .before .before .before .before .before .before .before .before .before .before .before .before .before .before .before .before .before .before .before .loop in let g = d .before .before .before .before .before .before .before .before .before .before .before .before .before .before .before .before .before .before .before .before .before .before .before .before .before .before .before .before .before .before .before .before .before .before .before .before .pre in d .before .before .before .before .before .before .nt .given ∙ v .inv .2
 
 same-length-6 : tie.Need-same-length-6 Inv-loop μ-loop
-same-length-6 c = let d = c .before .before in let v = d .before .before .before .before .before .before .before .before .before .before .before .before .before .before .before .before .before .before .before .before .loop in let g = d .before .before .before .before .before .before .before .before .before .before .before .before .before .before .before .before .before .before .before .before .before .before .before .before .before .before .before .before .before .before .before .before .before .before .before .before .pre in d .before .before .before .before .nn .given ∙ v .inv .3 ∙ sym (g .newNodes)
+same-length-6 c = let d = c .before .before in let v = d .before .before .before .before .before .before .before .before .before .before .before .before .before .before .before .before .before .before .before .before .loop in let g = d .before .before .before .before .before .before .before .before .before .before .before .before .before .before .before .before .before .before .before .before .before .before .before .before .before .before .before .before .before .before .before .before .before .before .before .before .pre in d .before .before .before .before .nn .given ∙ v .inv .3
 
 returns : tie.Need-returns Inv-loop μ-loop
 returns c =
@@ -164,14 +168,17 @@ returns c =
       u .ensures .1 .pool,
     )
 
+slot-of-requires : tie.Need-slot-of-requires Inv-loop μ-loop
+slot-of-requires c κs = search needs
+
 mul-new : tie.Need-mul-new Inv-loop μ-loop
-mul-new c = let h = split (c .before .before .before .before .before .before .before .before .before .before .before .before .before .before .before .before .before .before .before .before .before .before .before) in omega (arith, h .0, h .2)
+mul-new c = omega (arith, c .slot-of .ensures, slot-low (c .before .before .before .before .before .before .before .before .before .before .before .before .before .before .before .before .before .before .before .before .before .before .before .before .loop .p .«new_count»))
 
 array-set-from-new : tie.Need-array-set-from-new Inv-loop μ-loop
-array-set-from-new c = let h = split (c .before .before .before .before .before .before .before .before .before .before .before .before .before .before .before .before .before .before .before .before .before .before .before) in omega (arith, h .0, h .2)
+array-set-from-new c = omega (arith, c .slot-of .ensures, slot-low (c .before .before .before .before .before .before .before .before .before .before .before .before .before .before .before .before .before .before .before .before .before .before .before .before .loop .p .«new_count»), c .before .before .before .before .before .before .before .before .before .before .before .before .before .before .before .before .before .before .before .before .before .before .before .before .loop .inv .7)
 
 put-new-requires : tie.Need-put-new-requires Inv-loop μ-loop
-put-new-requires c κs = let h = split (c .before .before .before .before .before .before .before .before .before .before .before .before .before .before .before .before .before .before .before .before .before .before .before .before) in omega (arith, h .0, h .2)
+put-new-requires c κs = let h = split (c .before .before .before .before .before .before .before .before .before .before .before .before .before .before .before .before .before .before .before .before .before .before .before .before .before) in omega (arith, h .0, h .2)
 
 at-count-requires : tie.Need-at-count-requires Inv-loop μ-loop
 at-count-requires c κs = search needs
@@ -179,38 +186,55 @@ at-count-requires c κs = search needs
 one-less-requires-2 : tie.Need-one-less-requires-2 Inv-loop μ-loop
 one-less-requires-2 c κs = search needs
 
+slot-of-requires-2 : tie.Need-slot-of-requires-2 Inv-loop μ-loop
+slot-of-requires-2 c κs = search needs
+
 mul-current : tie.Need-mul-current Inv-loop μ-loop
-mul-current c = let w = next-split (c .before .before .before .before .before .before .before .before .before) (not-false _ (c .before .before .before .before .before .before .before .if1 .left)) _ (c .before .before .before .before .put-new .ensures) in omega (arith, w .0, w .2, c .one-less2 .ensures)
+mul-current c = omega (arith, c .before .slot-of2 .ensures, slot-low (c .before .before .one-less2 .result))
 
 array-copy-out-current : tie.Need-array-copy-out-current Inv-loop μ-loop
-array-copy-out-current c = let w = next-split (c .before .before .before .before .before .before .before .before .before) (not-false _ (c .before .before .before .before .before .before .before .if1 .left)) _ (c .before .before .before .before .put-new .ensures) in omega (arith, w .0, w .2, c .one-less2 .ensures)
+array-copy-out-current c = let v = c .before .before .before .before .before .before .before .before .before .before .before .before .before .before .before .before .before .before .before .before .before .before .before .before .before .before .before .before .before .before .before .before .loop in omega (arith, c .before .slot-of2 .ensures, slot-low (c .before .before .one-less2 .result), length-set (v .new) (c .before .before .before .before .before .before .before .before .slot-of .result) (c .before .before .before .before .before .before .before .before .before .before .before .before .after .result .node), v .inv .7)
 
 current-requires : tie.Need-current-requires Inv-loop μ-loop
 current-requires c κs =
-    let w = next-split (c .before .before .before .before .before .before .before .before .before .before) (not-false _ (c .before .before .before .before .before .before .before .before .if1 .left)) _ (c .before .before .before .before .before .put-new .ensures) in
-    rw (c .before .before .at-count .ensures) (omega (arith, w .2))
+    let d = c .before .before .before .before .before .before .before .before .before .before .before .before .before in
+    let w = next-split d (not-false _ (c .before .before .before .before .before .before .before .before .before .before .before .if1 .left)) _ (c .before .before .before .before .before .before .before .put-new .ensures) in
+    let h = split (d .before .before .before .before .before .before .before .before .before .before .before .before .before .before .before .before .before .before .before .before) in
+    rw (c .before .before .before .before .at-count .ensures) (omega (arith, w .2), omega (arith, h .0, h .2), d .after .ensures .few)
 
 sub-left : tie.Need-sub-left Inv-loop μ-loop
-sub-left c = c .before .before .before .before .before .before .before .before .before .before .before .before .before .before .before .before .before .before .before .before .before .before .before .before .before .before .before .before .before .before .loop-test .taken
+sub-left c = c .before .before .before .before .before .before .before .before .before .before .before .before .before .before .before .before .before .before .before .before .before .before .before .before .before .before .before .before .before .before .before .before .before .loop-test .taken
 
 loop-less : tie.Need-loop-less Inv-loop μ-loop
-loop-less c = let h = c .before .before .before .before .before .before .before .before .before .before .before .before .before .before .before .before .before .before .before .before .before .before .before .before .before .before .before .before .before .before .loop-test .taken in omega (arith, h)
+loop-less c = let h = c .before .before .before .before .before .before .before .before .before .before .before .before .before .before .before .before .before .before .before .before .before .before .before .before .before .before .before .before .before .before .before .before .before .loop-test .taken in omega (arith, h)
 
 loop-again : tie.Need-loop-again Inv-loop μ-loop
 loop-again c =
-    let d = c .before .before .before .before .before .before .before .before .before .before .before in let v = d .before .before .before .before .before .before .before .before .before .before .before .before .before .before .before .before .before .before .before .before .loop in let a = d .before .before .before .before .before .before .before .before .before .before .before .before .before .before .before .before .before .before .before .before .before .before .before .before .before .before .before .before .before .before .before .before .before .before .before .before .args in let u = d .before .before .before .before .before .before .before .before .before .before .before .before .before .turn in let e = c .before .before .before .at-count .ensures in let y = not-false _ (c .before .before .before .before .before .before .before .before .before .if1 .left) in let w = c .before .before .before .before .before .before .put-new .ensures in
+    let d = c .before .before .before .before .before .before .before .before .before .before .before .before .before .before in let v = d .before .before .before .before .before .before .before .before .before .before .before .before .before .before .before .before .before .before .before .before .loop in let a = d .before .before .before .before .before .before .before .before .before .before .before .before .before .before .before .before .before .before .before .before .before .before .before .before .before .before .before .before .before .before .before .before .before .before .before .before .args in let g = d .before .before .before .before .before .before .before .before .before .before .before .before .before .before .before .before .before .before .before .before .before .before .before .before .before .before .before .before .before .before .before .before .before .before .before .before .pre in let u = d .before .before .before .before .before .before .before .before .before .before .before .before .before .turn in let e = c .before .before .before .before .before .at-count .ensures in let y = not-false _ (c .before .before .before .before .before .before .before .before .before .before .before .before .if1 .left) in let w = c .before .before .before .before .before .before .before .before .put-new .ensures in
+    let f = c .before .before .before .before .before .before .before .before .put-new .last .0 in
+    let few = d .after .ensures .few in
     let h = split (d .before .before .before .before .before .before .before .before .before .before .before .before .before .before .before .before .before .before .before .before) in
-    let same : (i : ℕ) → i < d .after .result .count → getD (set (v .new) (v .p .«new_count») (d .after .result .node)) i blank ≡ nodeAt (c .before .before .before .before .before .before .put-new .last .0) i =
-    λ i j. array-next (v .fresh) _ (v .p .«new_count») (d .after .result .node) (d .after .result .count) w (room (d .before .before .before .before .before .before .before .before .before .before .before .before .before .before .before .before .before .before .before .before)) (sound d y _ w) (v .new) blank (omega (arith, h .0, h .2, v .inv .7)) (v .inv .8) i j (d .after .ensures .few) in (
-      kept-then _ (v .fresh) (now (a .fresh)) (written-kept (v .fresh) _ (v .p .«new_count») (d .after .result .node) (d .after .result .count) w) (v .inv .0),
+    let at = c .before .before .before .before .before .before .before .before .before .before .slot-of .ensures in
+    let kept = written-kept (v .fresh) f (v .p .«new_count») (d .after .result .node) (d .after .result .count) w in
+    let next = next-split d y f w in
+    let same : (i : ℕ) → i < d .after .result .count → i < 63 → getD (set (v .new) (c .before .before .before .before .before .before .before .before .before .before .slot-of .result) (d .after .result .node)) i blank ≡ nodeAt f i =
+    λ i j k. rw at (array-next (v .fresh) f (v .p .«new_count») (d .after .result .node) (d .after .result .count) w (room (d .before .before .before .before .before .before .before .before .before .before .before .before .before .before .before .before .before .before .before .before)) (sound d y f w) (v .new) blank (v .inv .7) (v .inv .8) i j k few) in
+    let top : c .before .before .before .slot-of2 .result ≡ slotOf (d .after .result .count - 1) = c .before .before .before .slot-of2 .ensures ∙ ap slotOf (c .before .before .before .before .one-less2 .ensures) in (
+      kept-then _ (v .fresh) (now (a .fresh)) kept (v .inv .0),
       lent d,
       d .before .before .before .before .before .before .nt .given ∙ v .inv .2,
       d .before .before .before .before .nn .given ∙ v .inv .3,
       rw e (u .ensures .1 .pool),
-      c .current .ensures ∙ rw (e, c .before .before .one-less2 .ensures) (current-in (now (a .img)) _ (u .result .place .«idx_split») (d .after .result .count) (set (v .new) (v .p .«new_count») (d .after .result .node)) blank same),
+      c .current .ensures ∙ rw (e, top) (current-in (now (a .img)) f (u .result .place .«idx_split») (v .p .«new_count») (d .after .result .count) (d .after .result .node) (getD (set (v .new) (c .before .before .before .before .before .before .before .before .before .before .slot-of .result) (d .after .result .node)) (slotOf (d .after .result .count - 1)) blank)
+          (written-last (v .fresh) f (v .p .«new_count») (d .after .result .node) (d .after .result .count) w (room (d .before .before .before .before .before .before .before .before .before .before .before .before .before .before .before .before .before .before .before .before)) (sound d y f w))
+          (whole-node (now (a .img)) _ (omega (arith, next .0, next .1, g .nodes)))
+          (λ o. whole-node f _ (omega (arith, o, few, room (d .before .before .before .before .before .before .before .before .before .before .before .before .before .before .before .before .before .before .before .before), kept .size, kept-count f (v .fresh) kept)))
+          (λ o k. rw (slot-in (d .after .result .count - 1) (omega (arith, o, k))) (same _ (omega (arith, o)) (omega (arith, o, k))))),
       (λ t b. rw e (going d y _ w t b)),
-      length-set (v .new) (v .p .«new_count») (d .after .result .node) ∙ v .inv .7,
+      length-set (v .new) (c .before .before .before .before .before .before .before .before .before .before .slot-of .result) (d .after .result .node) ∙ v .inv .7,
       rw e same,
+      d .before .before .before .before .before .before .before .before .before .before .begins .given ∙ v .inv .9,
+      d .before .before .before .before .before .before .before .before .ends .given ∙ v .inv .10,
     )
 
 out-of-turns-requires : tie.Need-out-of-turns-requires Inv-loop μ-loop
@@ -223,16 +247,16 @@ same-length-8 : tie.Need-same-length-8 Inv-loop μ-loop
 same-length-8 c = let v = c .before .before .loop in let g = c .before .before .before .before .before .before .before .before .before .before .before .before .before .before .before .before .before .before .pre in v .inv .1 .trains ∙ sym (g .lent .trains)
 
 same-length-9 : tie.Need-same-length-9 Inv-loop μ-loop
-same-length-9 c = let v = c .before .before .loop in let g = c .before .before .before .before .before .before .before .before .before .before .before .before .before .before .before .before .before .before .pre in v .inv .1 .first ∙ sym (g .lent .first)
+same-length-9 c = let v = c .before .before .loop in let g = c .before .before .before .before .before .before .before .before .before .before .before .before .before .before .before .before .before .before .pre in v .inv .9
 
 same-length-10 : tie.Need-same-length-10 Inv-loop μ-loop
-same-length-10 c = let v = c .before .before .loop in let g = c .before .before .before .before .before .before .before .before .before .before .before .before .before .before .before .before .before .before .pre in v .inv .1 .last ∙ sym (g .lent .last)
+same-length-10 c = let v = c .before .before .loop in let g = c .before .before .before .before .before .before .before .before .before .before .before .before .before .before .before .before .before .before .pre in v .inv .10
 
 same-length-11 : tie.Need-same-length-11 Inv-loop μ-loop
-same-length-11 c = let v = c .before .before .loop in let g = c .before .before .before .before .before .before .before .before .before .before .before .before .before .before .before .before .before .before .pre in v .inv .2 ∙ sym (g .newTrains)
+same-length-11 c = let v = c .before .before .loop in let g = c .before .before .before .before .before .before .before .before .before .before .before .before .before .before .before .before .before .before .pre in v .inv .2
 
 same-length-12 : tie.Need-same-length-12 Inv-loop μ-loop
-same-length-12 c = let v = c .before .before .loop in let g = c .before .before .before .before .before .before .before .before .before .before .before .before .before .before .before .before .before .before .pre in v .inv .3 ∙ sym (g .newNodes)
+same-length-12 c = let v = c .before .before .loop in let g = c .before .before .before .before .before .before .before .before .before .before .before .before .before .before .before .before .before .before .pre in v .inv .3
 
 returns-2 : tie.Need-returns-2 Inv-loop μ-loop
 returns-2 c =
@@ -249,9 +273,9 @@ run-spec =
     Inv-loop
     μ-loop
     one-less-requires
-    cast-node-at
-    node-at-requires
-    no-node-requires
+    cast-whole-node
+    whole-node-requires
+    zero-node-requires
     mul-left
     add-left
     loop-holds
@@ -264,11 +288,13 @@ run-spec =
     same-length-5
     same-length-6
     returns
+    slot-of-requires
     mul-new
     array-set-from-new
     put-new-requires
     at-count-requires
     one-less-requires-2
+    slot-of-requires-2
     mul-current
     array-copy-out-current
     current-requires

@@ -1,8 +1,7 @@
 use mathlib.Core.Path.{_∙_}
-use native.Mathlib.Omega.{arith}
 use denote.Ref.{now}
 use Rattle.update_free_path.specs.declared.start.Order.{Order}
-use Rattle.update_free_path.proofs.CallLaws.{refused-before, not-refused, refused-ten, begins, image-size}
+use Rattle.update_free_path.proofs.CallLaws.{refused-before, not-refused, refused-ten, begins}
 use borrow.Author.Needs.{needs}
 use Rattle.update_free_path.proofs.update_free_path.Statement.{statement}
 use Rattle.update_free_path.proofs.update_free_path.Tie as tie
@@ -43,41 +42,23 @@ returns-2 c =
     let h = c .before .before .before .before .path-header in
     c .refused2 .ensures (now (a .image)) ∙ refused-ten (now (a .image)) (now (a .occ)) (now (a .blocking)) o (f .result) (f .ensures) (c .before .before .before .before .before .before .if1 .left) (h .result) (h .ensures) (c .before .if2 .taken)
 
-update-small-requires : tie.Need-update-small-requires
-update-small-requires c κs =
-    let a = c .before .before .before .before .before .before .before .before .before .before .before .before .before .before .args in
+update-begun-requires : tie.Need-update-begun-requires
+update-begun-requires c κs =
+    let a = c .before .before .before .before .before .before .before .before .before .before .before .before .before .args in
     let o : Order = record { moved = a .moved; local = a .local; limit = a .limit } in
-    let f = c .before .before .before .before .before .before .before .before .before .update-fault in
-    let h = c .before .before .before .before .before .path-header in
-    (begins (now (a .image)) (now (a .occ)) (now (a .blocking)) o (f .result) (f .ensures) (c .before .before .before .before .before .before .before .if1 .left) (h .result) (h .ensures) (c .before .before .if2 .left), c .before .if3 .taken)
+    let f = c .before .before .before .before .before .before .before .before .update-fault in
+    let h = c .before .before .before .before .path-header in
+    begins (now (a .image)) (now (a .occ)) (now (a .blocking)) o (f .result) (f .ensures) (c .before .before .before .before .before .before .if1 .left) (h .result) (h .ensures) (c .before .if2 .left)
 
 same-length-3 : tie.Need-same-length-3
 same-length-3 c = search needs
 
 returns-3 : tie.Need-returns-3
 returns-3 c =
-    let a = c .before .before .before .before .before .before .before .before .before .before .before .before .before .before .before .before .before .args in
+    let a = c .before .before .before .before .before .before .before .before .before .before .before .before .before .before .before .before .args in
     let o : Order = record { moved = a .moved; local = a .local; limit = a .limit } in
-    let f = c .before .before .before .before .before .before .before .before .before .before .before .before .update-fault in
-    c .before .before .update-small .ensures ∙ not-refused (now (a .image)) (now (a .occ)) (now (a .blocking)) o (f .result) (f .ensures) (c .before .before .before .before .before .before .before .before .before .before .if1 .left)
-
-update-large-requires : tie.Need-update-large-requires
-update-large-requires c κs =
-    let a = c .before .before .before .before .before .before .before .before .before .before .before .before .before .before .args in
-    let o : Order = record { moved = a .moved; local = a .local; limit = a .limit } in
-    let f = c .before .before .before .before .before .before .before .before .before .update-fault in
-    let h = c .before .before .before .before .before .path-header in
-    (begins (now (a .image)) (now (a .occ)) (now (a .blocking)) o (f .result) (f .ensures) (c .before .before .before .before .before .before .before .if1 .left) (h .result) (h .ensures) (c .before .before .if2 .left), image-size (now (a .image)) (now (a .occ)) (now (a .blocking)) o (f .result) (f .ensures) (c .before .before .before .before .before .before .before .if1 .left) (h .result) (h .ensures) (λ i. omega (arith, c .before .before .before .before .before .before .before .before .before .before .before .before .before .slice-known .given i)))
-
-same-length-4 : tie.Need-same-length-4
-same-length-4 c = search needs
-
-returns-4 : tie.Need-returns-4
-returns-4 c =
-    let a = c .before .before .before .before .before .before .before .before .before .before .before .before .before .before .before .before .before .args in
-    let o : Order = record { moved = a .moved; local = a .local; limit = a .limit } in
-    let f = c .before .before .before .before .before .before .before .before .before .before .before .before .update-fault in
-    c .before .before .update-large .ensures ∙ not-refused (now (a .image)) (now (a .occ)) (now (a .blocking)) o (f .result) (f .ensures) (c .before .before .before .before .before .before .before .before .before .before .if1 .left)
+    let f = c .before .before .before .before .before .before .before .before .before .before .before .update-fault in
+    c .before .before .update-begun .ensures ∙ not-refused (now (a .image)) (now (a .occ)) (now (a .blocking)) o (f .result) (f .ensures) (c .before .before .before .before .before .before .before .before .before .if1 .left)
 
 pub update-free-path-spec : {M : Type 1} → statement M
 update-free-path-spec =
@@ -92,9 +73,6 @@ update-free-path-spec =
     refused-requires-2
     same-length-2
     returns-2
-    update-small-requires
+    update-begun-requires
     same-length-3
-    returns-3
-    update-large-requires
-    same-length-4
-    returns-4)
+    returns-3)

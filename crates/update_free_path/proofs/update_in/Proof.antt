@@ -2,11 +2,10 @@ use mathlib.Core.Path.{sym, ap, subst, _∙_}
 use mathlib.Core.List.{List}
 use Prim.Native.Nat.{ℕ}
 use denote.Ref.{now}
-use lib.ListN.{length-replicate}
 use Rattle.image.specs.Codec.{decoded}
 use Rattle.train_update.specs.Update.{Updated}
 use Rattle.update_image.specs.UpdateImage.{storedAnswer}
-use Rattle.update_free_path.specs.Updates.{Begins, updateOf}
+use Rattle.update_free_path.specs.Updates.{Begins, Space, updateOf}
 use Rattle.update_free_path.proofs.CallLaws.{kept-sizes}
 use borrow.Author.Needs.{needs}
 use Rattle.update_free_path.proofs.update_in.Statement.{statement}
@@ -15,43 +14,49 @@ use Rattle.update_free_path.proofs.update_in.Tie as tie
 copy-image-requires : tie.Need-copy-image-requires
 copy-image-requires c κs = search needs
 
-slice-aggregate-run : tie.Need-slice-aggregate-run
-slice-aggregate-run c = search needs
-
-slice-aggregate-run-2 : tie.Need-slice-aggregate-run-2
-slice-aggregate-run-2 c = search needs
-
 run-requires : tie.Need-run-requires
 run-requires c κs =
-    let a = c .before .before .before .before .before .before .before .before .before .before .before .before .args in
-    let p = c .before .before .before .before .before .before .before .before .before .before .before .before .pre in
-    let k = c .before .before .before .before .before .copy-image in
-    (subst (λ (img : List ℕ). Begins img (now (a .occ)) (a .h)) (sym (k .ensures)) (p .0), length-replicate {A = ℕ} 1024 0, length-replicate {A = ℕ} 1024 0)
-
-slice-aggregate-answered : tie.Need-slice-aggregate-answered
-slice-aggregate-answered c = search needs
-
-slice-aggregate-answered-2 : tie.Need-slice-aggregate-answered-2
-slice-aggregate-answered-2 c = search needs
+    let a = c .before .before .before .before .before .before .before .before .before .before .before .before .before .before .before .before .before .before .before .before .before .before .args in
+    let p = c .before .before .before .before .before .before .before .before .before .before .before .before .before .before .before .before .before .before .before .before .before .before .pre in
+    let k = c .before .before .before .before .before .before .before .before .before .copy-image in
+    (subst (λ (img : List ℕ). Begins img (now (a .occ)) (a .h)) (sym (k .ensures)) (p .0), subst (λ (img : List ℕ). Space img (now (a .occ)) (now (a .col)) (now (a .on)) (now (a .flags)) (now (a .known)) (now (a .dt)) (now (a .dn))) (sym (k .ensures)) (p .2))
 
 answered-requires : tie.Need-answered-requires
 answered-requires c κs =
-    let a = c .before .before .before .before .before .before .before .before .before .before .before .before .before .before .before .before .before .before .before .before .before .args in
-    let k = c .before .before .before .before .before .before .before .before .before .before .before .before .before .before .copy-image in
-    let r = c .before .before .before .before .before .before .before .before .run in
+    let a = c .before .before .before .before .before .before .before .before .before .before .before .before .before .before .before .before .before .before .before .before .before .before .before .before .before .before .before .before .before .before .before .before .before .before .before .before .before .before .before .before .before .args in
+    let k = c .before .before .before .before .before .before .before .before .before .before .before .before .before .before .before .before .before .before .before .before .before .before .before .before .before .before .before .before .copy-image in
+    let r = c .before .before .before .before .before .before .before .before .before .before .before .before .before .before .before .before .before .before .run in
     (r .ensures .named, λ q. kept-sizes (r .last .0) (k .last .1 .0) (now (a .image)) (k .ensures) (r .ensures .kept q))
 
 same-length : tie.Need-same-length
 same-length c = search needs
 
 same-length-2 : tie.Need-same-length-2
-same-length-2 c = search needs
+same-length-2 c = c .before .before .before .before .before .before .before .before .before .before .before .before .before .before .before .before .before .before .before .before .scratch2 .given ∙ c .before .before .before .before .before .before .before .before .before .before .before .before .before .before .before .before .before .before .before .before .before .before .before .before .before .before .before .before .before .before .scratch .given
+
+same-length-3 : tie.Need-same-length-3
+same-length-3 c = search needs
+
+same-length-4 : tie.Need-same-length-4
+same-length-4 c = search needs
+
+same-length-5 : tie.Need-same-length-5
+same-length-5 c = search needs
+
+same-length-6 : tie.Need-same-length-6
+same-length-6 c = search needs
+
+same-length-7 : tie.Need-same-length-7
+same-length-7 c = search needs
+
+same-length-8 : tie.Need-same-length-8
+same-length-8 c = search needs
 
 returns : tie.Need-returns
 returns c =
-    let a = c .before .before .before .before .before .before .before .before .before .before .before .before .before .before .before .before .before .before .before .before .before .before .before .before .args in
-    let k = c .before .before .before .before .before .before .before .before .before .before .before .before .before .before .before .before .before .copy-image in
-    let r = c .before .before .before .before .before .before .before .before .before .before .before .run in
+    let a = c .before .before .before .before .before .before .before .before .before .before .before .before .before .before .before .before .before .before .before .before .before .before .before .before .before .before .before .before .before .before .before .before .before .before .before .before .before .before .before .before .before .before .before .before .args in
+    let k = c .before .before .before .before .before .before .before .before .before .before .before .before .before .before .before .before .before .before .before .before .before .before .before .before .before .before .before .before .before .before .before .copy-image in
+    let r = c .before .before .before .before .before .before .before .before .before .before .before .before .before .before .before .before .before .before .before .before .before .run in
     c .before .before .answered .ensures (decoded (k .last .1 .0))
     ∙ ap (λ (u : Updated). storedAnswer u (now (a .image))) (r .ensures .is)
     ∙ ap (λ (img : List ℕ). storedAnswer (updateOf img (now (a .occ)) (now (a .blocking)) (a .o)) (now (a .image))) (k .ensures)
@@ -61,12 +66,14 @@ update-in-spec =
     tie.close
     (tie.spec
     copy-image-requires
-    slice-aggregate-run
-    slice-aggregate-run-2
     run-requires
-    slice-aggregate-answered
-    slice-aggregate-answered-2
     answered-requires
     same-length
     same-length-2
+    same-length-3
+    same-length-4
+    same-length-5
+    same-length-6
+    same-length-7
+    same-length-8
     returns)

@@ -1,56 +1,74 @@
-use mathlib.Core.Path.{refl}
+use denote.Ref.{now}
+use mathlib.Core.Path.{refl, sym, subst}
 use Prim.Native.Nat.{ℕ}
 use native.Mathlib.Omega.{arith}
-use lib.ListN.{length-replicate}
+use lib.ListN.{length, length-replicate}
+use Rattle.train_update.specs.State as State
+use Rattle.search.specs.Read.{roundOf}
+use Rattle.search_loop.specs.Runs.{Begins}
+use Rattle.splice.specs.Read.{trainOf}
+use Rattle.round.proofs.StartLaws.{zeroed-same}
 use borrow.Author.Needs.{needs}
 use Rattle.round.proofs.searching.search_small.Statement.{statement}
 use Rattle.round.proofs.searching.search_small.Tie as tie
 
--- src/searching.rt:141:9
 slice-aggregate-search-round : tie.Need-slice-aggregate-search-round
 slice-aggregate-search-round c = search needs
 
--- src/searching.rt:149:9
 slice-aggregate-search-round-2 : tie.Need-slice-aggregate-search-round-2
 slice-aggregate-search-round-2 c = search needs
 
--- src/searching.rt:150:9
 slice-aggregate-search-round-3 : tie.Need-slice-aggregate-search-round-3
 slice-aggregate-search-round-3 c = search needs
 
--- src/searching.rt:151:9
 slice-aggregate-search-round-4 : tie.Need-slice-aggregate-search-round-4
 slice-aggregate-search-round-4 c = search needs
 
--- src/searching.rt:152:9
 slice-aggregate-search-round-5 : tie.Need-slice-aggregate-search-round-5
 slice-aggregate-search-round-5 c = search needs
 
--- src/searching.rt:153:9
 slice-aggregate-search-round-6 : tie.Need-slice-aggregate-search-round-6
 slice-aggregate-search-round-6 c = search needs
 
--- src/searching.rt:139:5
 search-round-requires : tie.Need-search-round-requires
 search-round-requires c κs =
-    let g = c .before .before .before .before .before .before .before .before .before .before .before .before .before .before .pre in
-    (g .0, record { buffer = refl; enough = omega (arith, g .4, length-replicate {A = ℕ} 2112 0); trains = g .1; nodes = g .2; pooled = length-replicate {A = ℕ} 2048 0; first = length-replicate {A = ℕ} 512 0; last = length-replicate {A = ℕ} 512 0; newTrains = length-replicate {A = ℕ} 1024 0; newNodes = length-replicate {A = ℕ} 1024 0 }, g .3)
+    let a = c .before .before .before .before .before .before .before .before .before .before .before .before .before .before .args in
+    let g = c .before .before .before .before .before .before .before .before .before .before .before .before .before .before .pre in (
+      g .0,
+      record {
+        buffer = refl;
+        enough = omega (arith, g .4, length-replicate {A = ℕ} 2112 0);
+        trains = g .1;
+        nodes = g .2;
+        pooled = length-replicate {A = ℕ} 2048 0;
+        first = omega (arith, g .4, length-replicate {A = ℕ} 64 0);
+        last = omega (arith, g .4, length-replicate {A = ℕ} 64 0);
+        newTrains = omega (arith, g .5, length-replicate {A = ℕ} 64 0);
+        newNodes = omega (arith, g .5, length-replicate {A = ℕ} 64 0);
+      },
+      record {
+        numbers = g .3 .numbers;
+        save = g .3 .save;
+        none = g .3 .none;
+        pooled = g .3 .pooled;
+        begun = subst (λ (s : State.Search). Begins (length (now (a .occ))) (roundOf (trainOf (now (a .img)) (now (a .dt)) (now (a .dn)) (a .h)) (now (a .occ)) (now (a .img)) (now (a .dt)) (now (a .dn)) (a .r)) s) (sym (zeroed-same 64 64 (a .r .«est_count») (a .start))) (g .3 .begun);
+      },
+    )
 
--- src/searching.rt:120:1
 same-length : tie.Need-same-length
 same-length c = search needs
 
--- src/searching.rt:120:1
 same-length-2 : tie.Need-same-length-2
 same-length-2 c = search needs
 
--- src/searching.rt:120:1
 same-length-3 : tie.Need-same-length-3
 same-length-3 c = search needs
 
--- src/searching.rt:120:1
 returns : tie.Need-returns
-returns c = c .before .before .before .before .before .before .before .before .before .before .before .before .search-round .ensures
+returns c =
+    let a = c .before .before .before .before .before .before .before .before .before .before .before .before .before .before .before .before .before .before .before .before .before .before .before .before .before .before .before .args in
+    let x = c .before .before .before .before .before .before .before .before .before .before .before .before .search-round in
+    rw (← zeroed-same 64 64 (a .r .«est_count») (a .start)) (x .ensures)
 
 pub search-small-spec : {M : Type 1} → statement M
 search-small-spec =

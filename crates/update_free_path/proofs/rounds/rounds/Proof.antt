@@ -1,18 +1,20 @@
 use borrow.Author.Needs.{needs}
-use mathlib.Core.Path.{sym, ap, subst, _∙_}
+use mathlib.Core.Path.{_≡_, refl, sym, ap, subst, _∙_}
 use denote.Ref.{now}
 use Rattle.update_free_path.specs.Updates.{Ended}
 use Rattle.update_free_path.specs.declared.rounds.Between.{Between}
 use Rattle.update_free_path.specs.declared.rounds.Ran.{Ran}
-use Rattle.update_free_path.proofs.RoundsLaws.{path-few, path-ests, strays-low, due-turn, kept-goes, next-accepted, next-top, going-start, going-next, ended-stopped, ended-closed}
+use Rattle.update_free_path.proofs.RoundsLaws.{path-within, path-ests, strays-low, due-turn, kept-goes, next-accepted, next-top, going-start, going-next, ended-stopped, ended-closed}
 use Prim.Native.Nat.{_-_}
-use Rattle.update_free_path.specs.Updates.{Sizes, Top, Going}
+use Rattle.update_free_path.specs.Updates.{SameSizes, Top, Going}
+use Rattle.image.specs.Image.{estCount, divergeRoom}
+use Rattle.splice.proofs.NodeLaws.{kept-count, kept-le}
 use native.Mathlib.Omega.{arith}
 use Rattle.update_free_path.proofs.rounds.rounds.Statement.{statement}
 use Rattle.update_free_path.proofs.rounds.rounds.Tie as tie
 
 abbrev Inv-loop : tie.InvT-loop
-Inv-loop img₀ occ known g limit col₀ on₀ dt₀ dn₀ w₀ img col on dt dn w = Sizes col on dt dn × Top occ img col on dt dn w × Going occ known g limit img₀ dt₀ dn₀ w₀ img dt dn w
+Inv-loop img₀ occ known g limit col₀ on₀ dt₀ dn₀ w₀ img col on dt dn w = SameSizes col₀ on₀ dt₀ dn₀ col on dt dn × Top occ img col on dt dn w × Going occ known g limit img₀ dt₀ dn₀ w₀ img dt dn w
 
 abbrev μ-loop : tie.MeasureT-loop
 μ-loop img₀ occ known g limit col₀ on₀ dt₀ dn₀ w₀ img col on dt dn w = limit - w .rounds
@@ -22,7 +24,7 @@ loop-holds : tie.Need-loop-holds Inv-loop μ-loop
 loop-holds c =
     let a = c .before .before .before .before .before .before .before .args in
     let p = c .before .before .before .before .before .before .before .pre in (
-      p .0,
+      record { column = refl; flags = refl; trains = refl; nodes = refl },
       p .1,
       going-start (now (a .occ)) (now (a .known)) (a .g) (a .limit) (now (a .img)) (now (a .dt)) (now (a .dn)) (a .start),
     )
@@ -33,7 +35,13 @@ goes-on-requires c κs = search needs
 
 -- src/rounds.rt:175:13
 round-requires : tie.Need-round-requires Inv-loop μ-loop
-round-requires c κs = search needs
+round-requires c κs =
+    let a = c .before .before .before .before .before .before .before .before .before .before .before .before .before .before .before .args in
+    let p = c .before .before .before .before .before .before .before .before .before .before .before .before .before .before .before .pre in
+    let l = c .before .before .before .before .before .before .before .loop in
+    let q : divergeRoom (l .img) ≡ divergeRoom (now (a .img)) = kept-le (l .img) (now (a .img)) (l .inv .2 .kept) 4 16 (omega arith) in
+    let t = l .inv .1 in
+    (t .held, omega (arith, q, l .inv .0 .trains, p .0 .trains), omega (arith, q, l .inv .0 .nodes, p .0 .nodes), t .column, t .split-low, t .div-low)
 
 -- src/rounds.rt:178:12
 is-last-requires : tie.Need-is-last-requires Inv-loop μ-loop
@@ -72,7 +80,7 @@ same-length-2 c =
     let l = c .before .before .before .before .before .before .before .before .before .before .before .before .before .before .before .before .before .before .before .before .loop in
     let x = c .before .before .before .before .before .before .before .before .before .before .before .before .round in
     let d = due-turn (l .w) (a .limit) (sym (c .before .before .before .before .before .before .before .before .before .before .before .before .before .before .before .before .before .before .before .goes-on .ensures) ∙ c .before .before .before .before .before .before .before .before .before .before .before .before .before .before .before .before .before .before .if1 .taken) in
-    l .inv .0 .column ∙ sym (p .0 .column)
+    l .inv .0 .column
 
 -- src/rounds.rt:179:13
 same-length-3 : tie.Need-same-length-3 Inv-loop μ-loop
@@ -82,7 +90,7 @@ same-length-3 c =
     let l = c .before .before .before .before .before .before .before .before .before .before .before .before .before .before .before .before .before .before .before .before .loop in
     let x = c .before .before .before .before .before .before .before .before .before .before .before .before .round in
     let d = due-turn (l .w) (a .limit) (sym (c .before .before .before .before .before .before .before .before .before .before .before .before .before .before .before .before .before .before .before .goes-on .ensures) ∙ c .before .before .before .before .before .before .before .before .before .before .before .before .before .before .before .before .before .before .if1 .taken) in
-    l .inv .0 .flags ∙ sym (p .0 .flags)
+    l .inv .0 .flags
 
 -- src/rounds.rt:179:13
 same-length-4 : tie.Need-same-length-4 Inv-loop μ-loop
@@ -92,7 +100,7 @@ same-length-4 c =
     let l = c .before .before .before .before .before .before .before .before .before .before .before .before .before .before .before .before .before .before .before .before .loop in
     let x = c .before .before .before .before .before .before .before .before .before .before .before .before .round in
     let d = due-turn (l .w) (a .limit) (sym (c .before .before .before .before .before .before .before .before .before .before .before .before .before .before .before .before .before .before .before .goes-on .ensures) ∙ c .before .before .before .before .before .before .before .before .before .before .before .before .before .before .before .before .before .before .if1 .taken) in
-    c .before .before .before .before .before .before .before .before .before .dt .given ∙ l .inv .0 .trains ∙ sym (p .0 .trains)
+    c .before .before .before .before .before .before .before .before .before .dt .given ∙ l .inv .0 .trains
 
 -- src/rounds.rt:179:13
 same-length-5 : tie.Need-same-length-5 Inv-loop μ-loop
@@ -102,7 +110,7 @@ same-length-5 c =
     let l = c .before .before .before .before .before .before .before .before .before .before .before .before .before .before .before .before .before .before .before .before .loop in
     let x = c .before .before .before .before .before .before .before .before .before .before .before .before .round in
     let d = due-turn (l .w) (a .limit) (sym (c .before .before .before .before .before .before .before .before .before .before .before .before .before .before .before .before .before .before .before .goes-on .ensures) ∙ c .before .before .before .before .before .before .before .before .before .before .before .before .before .before .before .before .before .before .if1 .taken) in
-    c .before .before .before .before .before .before .before .dn .given ∙ l .inv .0 .nodes ∙ sym (p .0 .nodes)
+    c .before .before .before .before .before .before .before .dn .given ∙ l .inv .0 .nodes
 
 -- src/rounds.rt:179:13
 returns : tie.Need-returns Inv-loop μ-loop
@@ -125,9 +133,10 @@ derive-requires c κs =
     let l = c .before .before .before .before .before .before .before .before .before .before .before .before .before .before .before .before .before .before .before .before .loop in
     let x = c .before .before .before .before .before .before .before .before .before .before .before .before .round in
     let d = due-turn (l .w) (a .limit) (sym (c .before .before .before .before .before .before .before .before .before .before .before .before .before .before .before .before .before .before .before .goes-on .ensures) ∙ c .before .before .before .before .before .before .before .before .before .before .before .before .before .before .before .before .before .before .if1 .taken) in
-    let t = next-accepted (now (a .occ)) (l .img) (l .col) (l .on) (l .dt) (l .dn) (now (a .known)) (a .g) (l .w) (l .inv .1) (x .last .0) (x .last .1 .1 .1 .1 .1 .1 .1 .1 .0) (x .last .1 .1 .1 .1 .1 .1 .1 .1 .1 .0) (x .result) (x .ensures .0) (sym (c .before .before .before .before .is-last .ensures) ∙ c .before .before .before .if2 .left) in (
-      omega (arith, path-few (now (a .occ)) (x .last .0) (x .last .1 .1 .1 .1 .1 .1 .1 .1 .0) (x .last .1 .1 .1 .1 .1 .1 .1 .1 .1 .0) (x .result .header) t, l .inv .0 .column),
-      λ i k. omega (arith, path-ests (now (a .occ)) (x .last .0) (x .last .1 .1 .1 .1 .1 .1 .1 .1 .0) (x .last .1 .1 .1 .1 .1 .1 .1 .1 .1 .0) (x .result .header) t i k, l .inv .0 .flags),
+    let t = next-accepted (now (a .occ)) (l .img) (l .col) (l .on) (l .dt) (l .dn) (now (a .known)) (a .g) (l .w) (l .inv .1) (x .last .0) (x .last .1 .1 .1 .1 .1 .1 .1 .1 .0) (x .last .1 .1 .1 .1 .1 .1 .1 .1 .1 .0) (x .result) (x .ensures .0) (sym (c .before .before .before .before .is-last .ensures) ∙ c .before .before .before .if2 .left) in
+    let e : estCount (x .last .0) ≡ estCount (now (a .img)) = kept-count (x .last .0) (l .img) (x .ensures .1 (kept-goes (x .result .end) (sym (c .before .before .before .before .is-last .ensures) ∙ c .before .before .before .if2 .left))) ∙ kept-count (l .img) (now (a .img)) (l .inv .2 .kept) in (
+      omega (arith, path-within (now (a .occ)) (x .last .0) (x .last .1 .1 .1 .1 .1 .1 .1 .1 .0) (x .last .1 .1 .1 .1 .1 .1 .1 .1 .1 .0) (x .result .header) t, e, l .inv .0 .column, p .0 .column),
+      λ i k. omega (arith, path-ests (now (a .occ)) (x .last .0) (x .last .1 .1 .1 .1 .1 .1 .1 .1 .0) (x .last .1 .1 .1 .1 .1 .1 .1 .1 .1 .0) (x .result .header) t i k, e, l .inv .0 .flags, p .0 .flags),
     )
 
 -- src/rounds.rt:182:24
