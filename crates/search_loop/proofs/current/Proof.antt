@@ -1,6 +1,7 @@
 use denote.Ref.{now}
 use mathlib.Core.Path.{ap, _∙_}
 use Prim.Native.Nat.{_+_}
+use native.Mathlib.Omega.{arith}
 use borrow.Author.Tests.{eq-eqb, ne-eqb, lt-ltb, le-ltb}
 use Rattle.image.specs.Image.{wholeNode}
 use borrow.Author.Needs.{needs}
@@ -35,10 +36,10 @@ whole-node-requires-2 : tie.Need-whole-node-requires-2
 whole-node-requires-2 c κs = search needs
 
 returns-3 : tie.Need-returns-3
-returns-3 c = let a = c .before .before .before .before .before .before .before .before .before .before .args in rw (ne-eqb (a .a .count) (a .k + 1) (c .before .before .before .before .before .before .if1 .left), ne-eqb (a .a .count) 0 (c .before .before .before .before .if2 .left), lt-ltb 63 (a .a .count) (c .before .before .if3 .taken)) (c .whole-node2 .ensures ∙ ap (wholeNode (now (a .fresh))) (c .before .one-less2 .ensures))
+returns-3 c = let a = c .before .before .before .before .before .before .before .before .before .before .args in rw (ne-eqb (a .a .count) (a .k + 1) (c .before .before .before .before .before .before .if1 .left), ne-eqb (a .a .count) 0 (c .before .before .before .before .if2 .left), lt-ltb 63 (a .a .count) (omega (arith, c .before .before .if3 .taken))) (c .whole-node2 .ensures ∙ ap (wholeNode (now (a .fresh))) (c .before .one-less2 .ensures))
 
 returns-4 : tie.Need-returns-4
-returns-4 c = let a = c .before .before .before .before .before .before .before .before .args in rw (ne-eqb (a .a .count) (a .k + 1) (c .before .before .before .before .if1 .left), ne-eqb (a .a .count) 0 (c .before .before .if2 .left), le-ltb 63 (a .a .count) (c .if3 .left))
+returns-4 c = let a = c .before .before .before .before .before .before .before .before .args in rw (ne-eqb (a .a .count) (a .k + 1) (c .before .before .before .before .if1 .left), ne-eqb (a .a .count) 0 (c .before .before .if2 .left), le-ltb 63 (a .a .count) (omega (arith, c .if3 .left)))
 
 pub current-spec : {M : Type 1} → statement M
 current-spec =
