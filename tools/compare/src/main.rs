@@ -15,6 +15,7 @@ use oracle::rng::Rng;
 use oracle::{calls, gen, model};
 use std::process::exit;
 use tally::Tally;
+use update_time::JOINS;
 use updates::{Source, Updates};
 
 struct Run {
@@ -76,9 +77,10 @@ fn some_train(rng: &mut Rng) -> gen::UpdateCase {
 }
 
 fn usage() -> ! {
-    eprintln!("usage: compare KIND SEED COUNT, or compare TIME SEED");
+    eprintln!("usage: compare KIND SEED COUNT, compare TIME SEED, or compare join PATH COUNT");
     eprintln!("KIND: {}", KINDS.map(|(name, _)| name).join(", "));
     eprintln!("TIME: {}", TIMES.map(|(name, _)| name).join(", "));
+    eprintln!("PATH: {}", JOINS.map(|(name, _)| name).join(", "));
     eprintln!("The first case that differs is written to the file `different.case`.");
     exit(2)
 }
@@ -94,6 +96,7 @@ fn main() {
     let number = |s: &String| s.parse::<u64>().unwrap_or_else(|_| usage());
     match &args[..] {
         [name, seed] => named(&TIMES, name)(number(seed)),
+        [join, path, count] if join == "join" => update_time::joins(named(&JOINS, path), number(count)),
         [kind, seed, count] => {
             let (step, mut run) = (named(&KINDS, kind), Run::new(number(seed)));
             (0..number(count)).for_each(|_| step(&mut run));

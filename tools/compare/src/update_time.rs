@@ -135,6 +135,41 @@ fn comb(rng: &mut Rng, depth: usize) -> Family {
     family(format!("comb, depth {depth}"), 50, || gen::comb(rng, depth, 1_024, 0), |_, n| n > 0)
 }
 
+/// Nodes behind the join.
+const TAIL: usize = 400;
+
+/// Joins by what they do to the length of the path: how many nodes are replaced, and by how many.
+pub const JOINS: [(&str, (usize, usize)); 3] =
+    [("grows", (2, 40)), ("shrinks", (40, 2)), ("stays", (20, 20))];
+
+/// An update that joins a siding near the start of a long path, and the image that it leaves: by the oracle a success
+/// that changes the length of the path by just the nodes of the join.
+fn join_update((main, siding): (usize, usize)) -> (UpdateCase, Vec<u8>) {
+    let c = gen::siding_update(main, siding, TAIL);
+    let case = calls::of_update(&c).answered();
+    let nodes = |image: &[u8]| u32_at(image, 8) as usize;
+    assert!(case.answer[0] == 0, "an update that is no success");
+    assert!(nodes(&c.image) == 2 + main + TAIL && nodes(&case.outs[0]) == 2 + siding + TAIL, "no join");
+    (c, case.outs[0].clone())
+}
+
+/// A join near the start of a path that grows, shrinks or stays as long.
+fn join(name: &str, nodes: (usize, usize)) -> Family {
+    family(format!("join, path {name}"), 50, || join_update(nodes).0, |_, n| n > 0)
+}
+
+/// The library alone, one join so many times, for a count of its instructions.
+pub fn joins(nodes: (usize, usize), count: u64) {
+    let (c, left) = join_update(nodes);
+    let mut image = c.image.clone();
+    for _ in 0..count {
+        image.copy_from_slice(&c.image);
+        black_box(lavtoeu::update(black_box(&mut image), told(&c)));
+    }
+    assert!(count == 0 || image == left, "the images differ");
+    println!("{count} joins, {} nodes before and {} after", u32_at(&c.image, 8), u32_at(&left, 8));
+}
+
 pub fn run(seed: u64) {
     let mut rng = Rng::new(seed);
     let rng = &mut rng;
@@ -162,5 +197,8 @@ pub fn run(seed: u64) {
     }
     for depth in [10, 20, 40, 60] {
         print(&comb(rng, depth), 50);
+    }
+    for (name, nodes) in JOINS {
+        print(&join(name, nodes), 50);
     }
 }

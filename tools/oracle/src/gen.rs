@@ -740,6 +740,39 @@ pub fn chain_update(rng: &mut Rng, k: usize, twin: bool) -> UpdateCase {
     }
 }
 
+/// A line of a start, a split, `main` nodes whose first is held, and `tail` nodes; from the split an alternate leads over
+/// `siding` nodes, the Fake one included, to the tail. Both ways are as long in metres, so that a join shifts no offset.
+pub fn siding_update(main: usize, siding: usize, tail: usize) -> UpdateCase {
+    let (line, fake) = (2 + main, 2 + main + tail);
+    let mut est: Vec<Est> = (0..fake + siding)
+        .map(|i| {
+            let (dist, kind, link) = match i {
+                0 | 1 => (0, FAKE, 0),
+                _ if i < line => (siding, if i == 2 { ARRIVE } else { CLEAR }, 1),
+                _ if i < fake => (1, if i % 2 == 0 { ARRIVE } else { CLEAR }, 2 + i / 2),
+                _ if i == fake => (main, FAKE, 0),
+                _ => (main, if i == fake + 1 { ARRIVE } else { CLEAR }, 2),
+            };
+            let (next, prev) = (i as u32 + 1, i.saturating_sub(1) as u32);
+            Est { dist_to_next: dist as f64, next, prev, link: link as u32, kind, ..no_est() }
+        })
+        .collect();
+    let last = est.len() - 1;
+    est[1].alt = fake as u32;
+    est[fake].prev = 1;
+    est[fake - 1].next = 0;
+    est[last].next = line as u32;
+    est[line].prev_alt = last as u32;
+    let walk: Vec<u32> = (0..fake as u32).collect();
+    let mut train = leaving(est, &walk, 0.0, vec![], 8);
+    for i in 1..train.path.len() {
+        train.path[i].offset = train.path[i - 1].offset + train.est[i - 1].dist_to_next;
+    }
+    let mut occ = vec![0; 3 + fake / 2];
+    occ[1] = 3;
+    UpdateCase { image: image_of(&train), occ, blocking: vec![1], moved: 3, local: false, limit: 4 }
+}
+
 // ---- damaged images
 
 /// Floats about the bounds of document 01.
