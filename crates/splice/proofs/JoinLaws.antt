@@ -24,7 +24,7 @@ use Rattle.train_update.specs.State.{Round, Search, Turn, ends, again, withPath
 use Rattle.train_update.specs.Look.{Here}
 use Rattle.train_update.specs.Join.{Ends, Divs, removeLinks, insertLinks, shiftOffsets, newEnds, moveFrontBack, updateFreePathHelpers, updateDivNodes, freeIsCorrect, spliceAt, join}
 use Rattle.splice.specs.Read.{trainOf, Kept, Stands, Joins, finishAt}
-use Rattle.splice.specs.Parts.{fromOn}
+use Rattle.splice.specs.Parts.{fromOn, movesOf}
 use Rattle.splice.specs.Flags.{exchangeLinks}
 use Rattle.splice.specs.declared.Reached.{Reached}
 use Rattle.splice.proofs.ListLaws.{listed-same, read-in}
@@ -41,6 +41,11 @@ handed c a g m e = go c ∙ ap (λ r. r >>= λ x. ok (g x)) e
 
 pub told : {A : Type 0} {m : Res A} (c d : ℕ) (x : A) → c ≡ d → answer d x ≡ m → answer c x ≡ m
 told c d x e r = ap (λ (n : ℕ). answer n x) e ∙ r
+
+-- a refused answer counts no moves
+pub moves-none : (c j n : ℕ) (b : Res ℕ) → (c ≡ 0 → ⊥) → 0 ≡ movesOf c j n b
+moves-none zero j n b q = absurd (q refl)
+moves-none (suc c) j n b q = refl
 
 module _ {A B : Type 0} (c : ℕ) (a : A) {m : Res A} (k : Res B) (e : answer c a ≡ m) where
   then-stop : (c ≡ 0 → ⊥) → (b : B) → answer c b ≡ (m >> k)

@@ -1,4 +1,5 @@
 pub mod ListLaws
+pub mod MoveLaws
 pub mod NodeLaws
 pub mod FlagLaws
 pub mod DivLaws

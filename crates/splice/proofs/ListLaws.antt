@@ -1,6 +1,7 @@
 -- Lists by number: their parts, a splice of them, walks over them, and blocks that begin with tests. Assumes nothing.
 use mathlib.Core.Path.{_≡_, refl, sym, ap, ap₂, _∙_}
 use mathlib.Core.Bool.{Bool, true, false, cond, _&&_}
+use mathlib.Core.Logic.{_⊎_, ⊎-elim}
 use mathlib.Core.List.{List, [], _∷_, _++_, append-assoc, append-nil}
 use Prim.Native.Nat.{ℕ, zero, suc, _+_, _-_, _≤_, _<_}
 use native.Mathlib.Omega.{arith}
@@ -8,7 +9,7 @@ use native.Mathlib.Nat.{add-zero, add-suc}
 use native.Mathlib.Numerals.{add-one}
 use lib.Dec.{ltb}
 use lib.ListN.{length, getD, take, drop, set, length-set, length-append, length-drop, take-append-drop, drop-of-length-le, List·getD-append}
-use lib.Seq.{take-at, drop-at, ext-getD, getD-set-same, getD-set-other, getD-take, getD-drop, getD-append-add, length-take-le, paste, paste-suc, length-paste, take-all, drop-cons, drop-set-lt, take-suc-set, append-snoc}
+use lib.Seq.{take-at, drop-at, ext-getD, getD-set-same, getD-set-other, getD-take, getD-drop, getD-append-add, length-take-le, length-paste-head, paste, paste-suc, length-paste, take-all, drop-cons, drop-set-lt, take-suc-set, append-snoc}
 use borrow.Author.Tests.{ltb-true, ltb-false, eqb-true, eqb-false}
 use lib.Dec.{eqb}
 use Rattle.free_path.specs.Base.{Res, ok, no, _>>=_, _>>_, need, at, before, stepsTo, walkFrom}
@@ -79,6 +80,19 @@ module _ (d : List ℕ) (b : ℕ) (s : List ℕ) (n : ℕ) (hd : b + n ≤ lengt
       ∙ ap (λ (j : ℕ). getD (take b d ++ take n s) j 0) e
       ∙ getD-append-add (take b d) (take n s) i 0
       ∙ getD-take n s i 0 h
+
+  pub paste-behind : (i : ℕ) → b + n ≤ i → getD (paste d b s n) i 0 ≡ getD d i 0
+  paste-behind i h =
+      let l = length-paste-head d b s n (omega arith) hs in
+      let e : i ≡ length (take b d ++ take n s) + (i - (b + n)) = omega arith in
+      let f : b + n + (i - (b + n)) ≡ i = omega arith in
+      ap (λ (j : ℕ). getD (paste d b s n) j 0) e
+      ∙ getD-append-add (take b d ++ take n s) (drop (b + n) d) (i - (b + n)) 0
+      ∙ getD-drop (b + n) d (i - (b + n)) 0
+      ∙ ap (λ (j : ℕ). getD d j 0) f
+
+  pub paste-out : (i : ℕ) → (i < b) ⊎ (b + n ≤ i) → getD (paste d b s n) i 0 ≡ getD d i 0
+  paste-out i h = ⊎-elim (paste-before i) (paste-behind i) h
 
 -- ---- walks
 

@@ -28,7 +28,8 @@ use Rattle.disp_structs.proofs.ListedLaws.{listed-length, listed-at}
 use Rattle.train_update.specs.Join.{shiftOffsets, withOffset, freeIsCorrect}
 use Rattle.splice.specs.Read.{Kept}
 use Rattle.splice.specs.Parts.{fromOn, Splices, Sound, putOffset}
-use Rattle.splice.proofs.ListLaws.{listed-set, listed-splice, from-turn, from-no, from-end, column-splice, at-need, read-before}
+use Rattle.splice.proofs.ListLaws.{listed-set, listed-splice, from-turn, from-no, from-end, at-need, read-before}
+use Rattle.splice.proofs.MoveLaws.{moved-size, moved-splice}
 
 -- a number is its bytes, wherever they stand
 le-moved : (v : ℕ) (bs cs : List ℕ) (j k : ℕ) → ((i : ℕ) → i < v → getD bs (j + i) 0 ≡ getD cs (k + i) 0) → leAt v bs j ≡ leAt v cs k
@@ -328,24 +329,38 @@ module _ (img fresh img1 : List ℕ) (n split base k : ℕ) (a : split ≤ base)
 pub kept-eq : (a b c : List ℕ) → a ≡ b → Kept b c → Kept a c
 kept-eq a b c e k = rw e k
 
--- the bytes of two copies: the old path's rest behind the new path, and both behind the split
-module _ (img fresh img1 fresh1 : List ℕ) (n split base k : ℕ) (a : split ≤ base) (b : base ≤ n) (l : nodePlace (estCount img) n ≤ length img)
-    (m : nodePlace (estCount img) (split + k + (n - base)) ≤ length img) (o : nodePlace (estCount fresh) (k + (n - base)) ≤ length fresh) where
-  pub path-bytes : (p q r s u v : ℕ) → p ≡ nodePlace (estCount img) base → q ≡ nodePlace (estCount fresh) k → u ≡ 32 * (n - base) → fresh1 ≡ paste fresh q (drop p img) u
-      → r ≡ nodePlace (estCount fresh) 0 → s ≡ nodePlace (estCount img) split → v ≡ 32 * (k + (n - base)) → img1 ≡ paste img s (drop r fresh1) v
-      → Splices (λ i. getD img1 i 0) (λ i. getD img i 0) (λ i. getD fresh (nodePlace (estCount fresh) 0 + i) 0) (nodePlace (estCount img) split) (32 * k) (nodePlace (estCount img) base) (nodePlace (estCount img) n)
-  path-bytes p q r s u v ep eq eu e er es ev f =
-      let B = nodePlace (estCount fresh) 0 in
-      let C = 32 * k in
-      let K = nodePlace (estCount img) base in
-      let M = nodePlace (estCount img) n in
-      let A = nodePlace (estCount img) split in
-      let x : q ≡ B + C = omega arith in
-      let y : u ≡ M - K = omega arith in
-      let z : v ≡ C + (M - K) = omega arith in
-      column-splice img fresh img1 fresh1 A B C K M (omega arith) l (omega arith) (omega arith)
-      (e ∙ ap₂ (λ (g h : ℕ). paste fresh g (drop p img) h) x y ∙ ap (λ (g : ℕ). paste fresh (B + C) (drop g img) (M - K)) ep)
-      (f ∙ ap₂ (λ (g h : ℕ). paste img g (drop r fresh1) h) es z ∙ ap (λ (g : ℕ). paste img A (drop g fresh1) (C + (M - K))) er)
+-- the bytes of a move and a copy: the old path's rest goes to its new place, and the new path behind the split
+module _ (img fresh img1 img2 : List ℕ) (n split base k p r s : ℕ) (a : split ≤ base) (b : base ≤ n) (l : nodePlace (estCount img) n ≤ length img)
+    (m : nodePlace (estCount img) (split + k + (n - base)) ≤ length img) (o : nodePlace (estCount fresh) k ≤ length fresh)
+    (ep : p ≡ nodePlace (estCount img) 0) (er : r ≡ nodePlace (estCount fresh) 0) (es : s ≡ nodePlace (estCount img) split)
+    (e : img1 ≡ paste img (p + 32 * (split + k)) (drop (p + 32 * base) img) (32 * (n - base))) (f : img2 ≡ paste img1 s (drop r fresh) (32 * k)) where
+  abbrev A : ℕ
+  A = nodePlace (estCount img) split
+
+  abbrev B : ℕ
+  B = nodePlace (estCount fresh) 0
+
+  abbrev K : ℕ
+  K = nodePlace (estCount img) base
+
+  abbrev M : ℕ
+  M = nodePlace (estCount img) n
+
+  tail : img1 ≡ paste img (A + 32 * k) (drop K img) (M - K)
+  tail =
+      let x : p + 32 * (split + k) ≡ A + 32 * k = omega arith in
+      let y : p + 32 * base ≡ K = omega arith in
+      let z : 32 * (n - base) ≡ M - K = omega arith in
+      e ∙ ap₂ (λ (g h : ℕ). paste img g (drop h img) (32 * (n - base))) x y ∙ ap (λ (g : ℕ). paste img (A + 32 * k) (drop K img) g) z
+
+  front : img2 ≡ paste img1 A (drop B fresh) (32 * k)
+  front = f ∙ ap₂ (λ (g h : ℕ). paste img1 g (drop h fresh) (32 * k)) es er
+
+  pub path-size : length img2 ≡ length img
+  path-size = moved-size img fresh img1 img2 A B (32 * k) K M (omega arith) l (omega arith) (omega arith) tail front
+
+  pub path-bytes : Splices (λ i. getD img2 i 0) (λ i. getD img i 0) (λ i. getD fresh (nodePlace (estCount fresh) 0 + i) 0) (nodePlace (estCount img) split) (32 * k) (nodePlace (estCount img) base) (nodePlace (estCount img) n)
+  path-bytes = moved-splice img fresh img1 img2 A B (32 * k) K M (omega arith) l (omega arith) (omega arith) tail front
 
 -- ---- the begin of the free path
 

@@ -59,7 +59,7 @@ fn base_end(img: &[u8], n: u32, r: Reached, alt: EstIdx, dn: &[u16], m: usize) -
 
 // A header with total diverge nodes, and the next idx_split and div_idx_split.
 fn changed(h: PathHeader, total: u32, split: u32, div_split: usize) -> Again
-    ensures { λ a. ⌜ a ≡ record { code = 0; header = record { «path_count» = h .«path_count»; «diverge_count» = total; fixed = h .fixed; free = h .fixed; front = h .front; back = h .back }; split = split; «div_split» = «div_split» } ⌝ }
+    ensures { λ a. ⌜ a ≡ record { code = 0; header = record { «path_count» = h .«path_count»; «diverge_count» = total; fixed = h .fixed; free = h .fixed; front = h .front; back = h .back }; split = split; «div_split» = «div_split»; moves = 0 } ⌝ }
 {
     let out = PathHeader {
         path_count: h.path_count,
@@ -74,6 +74,7 @@ fn changed(h: PathHeader, total: u32, split: u32, div_split: usize) -> Again
         header: out,
         split: split,
         div_split: div_split,
+        moves: 0,
     }
 }
 
@@ -92,7 +93,7 @@ fn change_at(
     k: usize,
 ) -> Again
     requires { ⌜ ChangeFits (now img) (now dt) (now dn) (now nt) (now nn) (now pool) count h r × (r .«div_split» < k) × (k < h .«diverge_count») ⌝ }
-    ensures { λ a. ⌜ answer (a .code) (ends (again (trainOf (now (img .entry)) (now (dt .exit)) (now (dn .exit)) (a .header)) (a .split) (a .«div_split»))) ≡ changeAt (trainOf (now (img .entry)) (now (dt .entry)) (now (dn .entry)) h) r (trainsOf (take count (trains (now (pool .entry)))) v) k ⌝ }
+    ensures { λ a. ⌜ (answer (a .code) (ends (again (trainOf (now (img .entry)) (now (dt .exit)) (now (dn .exit)) (a .header)) (a .split) (a .«div_split»))) ≡ changeAt (trainOf (now (img .entry)) (now (dt .entry)) (now (dn .entry)) h) r (trainsOf (take count (trains (now (pool .entry)))) v) k) × (a .moves ≡ 0) ⌝ }
 {
     let m = h.diverge_count as usize;
     let b = v.idx_begin as usize;
@@ -129,7 +130,7 @@ pub fn change_diverge(
     nn: &mut [u16],
 ) -> Again
     requires { ⌜ ChangeFits (now img) (now dt) (now dn) (now nt) (now nn) (now pool) count h r ⌝ }
-    ensures { λ a. ⌜ ((R : Round) (H : Here) (S : Search) → Stands (now (img .entry)) (now (dt .entry)) (now (dn .entry)) h r (H .«est_curr») R H S → Changes (now (pool .entry)) count alt v r H S → answer (a .code) (ends (again (trainOf (now (img .entry)) (now (dt .exit)) (now (dn .exit)) (a .header)) (a .split) (a .«div_split»))) ≡ changeDiverge R H S) ⌝ }
+    ensures { λ a. ⌜ ((R : Round) (H : Here) (S : Search) → Stands (now (img .entry)) (now (dt .entry)) (now (dn .entry)) h r (H .«est_curr») R H S → Changes (now (pool .entry)) count alt v r H S → answer (a .code) (ends (again (trainOf (now (img .entry)) (now (dt .exit)) (now (dn .exit)) (a .header)) (a .split) (a .«div_split»))) ≡ changeDiverge R H S) × (a .moves ≡ 0) ⌝ }
 {
     let m = h.diverge_count as usize;
     let k = base_end(img, h.path_count, r, alt, dn, m);

@@ -13,7 +13,7 @@ ghost use Rattle.train_update.specs.State.{Round, Search, ends, again, withPath
 ghost use Rattle.train_update.specs.Look.{Here};
 ghost use Rattle.train_update.specs.Join.{moveFrontBack, updateFreePathHelpers, updateDivNodes, spliceAt};
 ghost use Rattle.splice.specs.Read.{trainOf, Kept, Stands, Joins, JoinFits, PathFits, finishAt};
-ghost use Rattle.splice.specs.Parts.{DivsFit};
+ghost use Rattle.splice.specs.Parts.{DivsFit, movesOf};
 ghost use Rattle.splice.specs.Flags.{Below};
 use crate::Again;
 use crate::Reached;
@@ -139,17 +139,17 @@ fn divs_at(
 // The path is spliced at base, and disp_node_idx_fixed becomes disp_node_idx_free (600-631); h has the numbers of the train before that.
 fn finish_at(
     img: &mut [u8],
-    fresh: &mut [u8],
+    fresh: &[u8],
     h: PathHeader,
     r: Reached,
     base: u32,
     div_split: usize,
 ) -> Again
     requires { ⌜ PathFits (now img) (now fresh) h r base ⌝ }
-    ensures { λ a. ⌜ ((dt dn : List ℕ) → answer (a .code) (ends (again (trainOf (now (img .exit)) dt dn (a .header)) (a .split) (a .«div_split»))) ≡ finishAt (trainOf (now (img .entry)) dt dn h) (listed (r .«new_count») (nodeAt (now (fresh .entry)))) r base «div_split») × Kept (now (img .exit)) (now (img .entry)) ⌝ }
+    ensures { λ a. ⌜ ((dt dn : List ℕ) → answer (a .code) (ends (again (trainOf (now (img .exit)) dt dn (a .header)) (a .split) (a .«div_split»))) ≡ finishAt (trainOf (now (img .entry)) dt dn h) (listed (r .«new_count») (nodeAt (now (fresh .entry)))) r base «div_split») × Kept (now (img .exit)) (now (img .entry)) × (a .moves ≡ movesOf (a .code) (r .split + r .«new_count») (h .«path_count») (ok base)) ⌝ }
 {
     let n = h.path_count;
-    path::splice_path(img, fresh, n, r.split, base, r.new_count);
+    let moved = path::splice_path(img, fresh, n, r.split, base, r.new_count);
     let total = r.split + r.new_count + (n - base);
     let f = path::free_is_correct(img, total, r.free);
     if f != 0 {
@@ -168,13 +168,14 @@ fn finish_at(
         header: out,
         split: r.join,
         div_split: div_split,
+        moves: moved,
     }
 }
 
 // The join at base, where the old path has the next est (589-631).
 fn splice_at(
     img: &mut [u8],
-    fresh: &mut [u8],
+    fresh: &[u8],
     h: PathHeader,
     r: Reached,
     curr: DispNode,
@@ -186,7 +187,7 @@ fn splice_at(
     nn: &mut [u16],
 ) -> Again
     requires { ⌜ JoinFits (now img) (now fresh) (now dt) (now dn) (now nt) (now nn) h r (est .«idx_next») × (walkFrom (λ x. sameEst (est .«idx_next») (x .«est_idx»)) (listed (h .«path_count») (nodeAt (now img))) (r .«split_save») ≡ ok base) ⌝ }
-    ensures { λ a. ⌜ ((R : Round) (H : Here) (S : Search) → Stands (now (img .entry)) (now (dt .entry)) (now (dn .entry)) h r est R H S → Joins (now (fresh .entry)) (now (nt .entry)) (now (nn .entry)) r curr H S → answer (a .code) (ends (again (trainOf (now (img .exit)) (now (dt .exit)) (now (dn .exit)) (a .header)) (a .split) (a .«div_split»))) ≡ spliceAt R H S base) × (a .code ≡ 0 → Kept (now (img .exit)) (now (img .entry))) ⌝ }
+    ensures { λ a. ⌜ ((R : Round) (H : Here) (S : Search) → Stands (now (img .entry)) (now (dt .entry)) (now (dn .entry)) h r est R H S → Joins (now (fresh .entry)) (now (nt .entry)) (now (nn .entry)) r curr H S → answer (a .code) (ends (again (trainOf (now (img .exit)) (now (dt .exit)) (now (dn .exit)) (a .header)) (a .split) (a .«div_split»))) ≡ spliceAt R H S base) × (a .code ≡ 0 → Kept (now (img .exit)) (now (img .entry))) × (a .moves ≡ movesOf (a .code) (r .split + r .«new_count») (h .«path_count») (ok base)) ⌝ }
 {
     let change = offset_change(img, base, curr, est);
     let x = update_free_path_helpers(img, fresh, h, r, base, change);
@@ -211,7 +212,7 @@ fn splice_at(
 // The new path and the new diverge nodes join the old ones where the old path has the next est.
 pub fn join(
     img: &mut [u8],
-    fresh: &mut [u8],
+    fresh: &[u8],
     h: PathHeader,
     r: Reached,
     curr: DispNode,
@@ -222,7 +223,7 @@ pub fn join(
     nn: &mut [u16],
 ) -> Again
     requires { ⌜ JoinFits (now img) (now fresh) (now dt) (now dn) (now nt) (now nn) h r (est .«idx_next») ⌝ }
-    ensures { λ a. ⌜ ((R : Round) (H : Here) (S : Search) → Stands (now (img .entry)) (now (dt .entry)) (now (dn .entry)) h r est R H S → Joins (now (fresh .entry)) (now (nt .entry)) (now (nn .entry)) r curr H S → answer (a .code) (ends (again (trainOf (now (img .exit)) (now (dt .exit)) (now (dn .exit)) (a .header)) (a .split) (a .«div_split»))) ≡ Rattle.train_update.specs.Join.join R H S) × (a .code ≡ 0 → Kept (now (img .exit)) (now (img .entry))) ⌝ }
+    ensures { λ a. ⌜ ((R : Round) (H : Here) (S : Search) → Stands (now (img .entry)) (now (dt .entry)) (now (dn .entry)) h r est R H S → Joins (now (fresh .entry)) (now (nt .entry)) (now (nn .entry)) r curr H S → answer (a .code) (ends (again (trainOf (now (img .exit)) (now (dt .exit)) (now (dn .exit)) (a .header)) (a .split) (a .«div_split»))) ≡ Rattle.train_update.specs.Join.join R H S) × (a .code ≡ 0 → Kept (now (img .exit)) (now (img .entry))) × (a .moves ≡ movesOf (a .code) (r .split + r .«new_count») (h .«path_count») (walkFrom (λ x. sameEst (est .«idx_next») (x .«est_idx»)) (listed (h .«path_count») (nodeAt (now (img .entry)))) (r .«split_save»))) ⌝ }
 {
     let found = path::join_base(img, h.path_count, r.split_save, est.idx_next);
     if found.code != 0 {

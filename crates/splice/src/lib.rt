@@ -6,6 +6,7 @@ pub mod diverge;
 pub mod ends;
 pub mod join;
 pub mod links;
+pub mod moves;
 pub mod path;
 
 ghost use mathlib.Core.Path.{_≡_};
@@ -23,22 +24,24 @@ pub struct Reached {
     pub div_count: usize,
 }
 
-// A refusal's number, or 0; the header's numbers that are left, and the next idx_split and div_idx_split.
+// A refusal's number, or 0; the header's numbers that are left, and the next idx_split and div_idx_split; how often a path node was moved.
 pub struct Again {
     pub code: u32,
     pub header: PathHeader,
     pub split: u32,
     pub div_split: usize,
+    pub moves: usize,
 }
 
 // A round that stops with a refusal.
 fn stopped(code: u32, h: PathHeader) -> Again
-    ensures { λ a. ⌜ a .code ≡ code ⌝ }
+    ensures { λ a. ⌜ (a .code ≡ code) × (a .moves ≡ 0) ⌝ }
 {
     Again {
         code: code,
         header: h,
         split: 0,
         div_split: 0,
+        moves: 0,
     }
 }

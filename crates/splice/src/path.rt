@@ -11,8 +11,9 @@ ghost use Rattle.free_path.specs.Columns.{answer};
 ghost use Rattle.disp_structs.specs.Listed.{listed};
 ghost use Rattle.train_update.specs.Join.{shiftOffsets, freeIsCorrect};
 ghost use Rattle.splice.specs.Read.{Kept};
-ghost use Rattle.splice.specs.Parts.{fromOn, putOffset};
-use crate::copies;
+ghost use Rattle.splice.specs.Parts.{fromOn, putOffset, tailMoves};
+use crate::moves;
+use crate::moves::Stretch;
 use disp_structs::DispNode;
 use disp_structs::EstIdx;
 use disp_structs::Metres;
@@ -80,29 +81,30 @@ pub(crate) fn update_offsets(img: &mut [u8], n: u32, i: u32, change: Metres) -> 
     shift_offsets(img, n, i, change)
 }
 
-// disp_path.splice(split..base, the k nodes of the new path): the old path from base on goes behind the new one, and both behind the split.
-pub(crate) fn splice_path(img: &mut [u8], fresh: &mut [u8], n: u32, split: u32, base: u32, k: u32)
-    requires { ⌜ (split ≤ base) × (base ≤ n) × (nodePlace (estCount (now img)) n ≤ length (now img)) × (nodePlace (estCount (now img)) (split + k + (n - base)) ≤ length (now img)) × (nodePlace (estCount (now fresh)) (k + (n - base)) ≤ length (now fresh)) ⌝ }
-    ensures { λ _. ⌜ (listed (split + k + (n - base)) (nodeAt (now (img .exit))) ≡ take split (listed n (nodeAt (now (img .entry)))) ++ listed k (nodeAt (now (fresh .entry))) ++ drop base (listed n (nodeAt (now (img .entry))))) × Kept (now (img .exit)) (now (img .entry)) ⌝ }
+// disp_path.splice(split..base, the k nodes of the new path): the old path from base on goes to its new place, unless it stands there, and the new
+// path comes before it; the answer counts the nodes that moved.
+pub(crate) fn splice_path(
+    img: &mut [u8],
+    fresh: &[u8],
+    n: u32,
+    split: u32,
+    base: u32,
+    k: u32,
+) -> usize
+    requires { ⌜ (split ≤ base) × (base ≤ n) × (nodePlace (estCount (now img)) n ≤ length (now img)) × (nodePlace (estCount (now img)) (split + k + (n - base)) ≤ length (now img)) × (nodePlace (estCount (now fresh)) k ≤ length (now fresh)) ⌝ }
+    ensures { λ r. ⌜ (listed (split + k + (n - base)) (nodeAt (now (img .exit))) ≡ take split (listed n (nodeAt (now (img .entry)))) ++ listed k (nodeAt (now (fresh .entry))) ++ drop base (listed n (nodeAt (now (img .entry))))) × Kept (now (img .exit)) (now (img .entry)) × (r ≡ tailMoves base (split + k) (n - base)) ⌝ }
 {
     let e = codec::est_count(img);
     let f = codec::est_count(fresh);
-    let rest = (n - base) as usize;
-    let new = k as usize;
-    copies::copy_octets(
-        img,
-        codec::node_place(e, base),
-        fresh,
-        codec::node_place(f, k),
-        32 * rest,
-    );
-    copies::copy_octets(
-        fresh,
-        codec::node_place(f, 0),
-        img,
-        codec::node_place(e, split),
-        32 * (new + rest),
-    );
+    let w = Stretch {
+        path: codec::node_place(e, 0),
+        split: split as usize,
+        base: base as usize,
+        rest: (n - base) as usize,
+        new: codec::node_place(f, 0),
+        count: k as usize,
+    };
+    moves::splice_nodes(img, fresh, w)
 }
 
 // time_pass == f64::INFINITY

@@ -31,7 +31,7 @@ returns : tie.Need-returns
 returns c =
     let a = c .before .before .before .before .before .before .before .before .before .before .before .args in
     let p = c .before .before .before .before .before .before .before .before .before .before .before .pre in
-    told _ 13 _ (c .stopped .ensures) (change-order (now (a .img)) (now (a .dt)) (now (a .dn)) (now (a .pool)) (a .h) (a .r) (a .v) (a .count) (p .0 .counted) (a .k) (omega (arith, c .before .if1 .taken)))
+    (told _ 13 _ (c .stopped .ensures .0) (change-order (now (a .img)) (now (a .dt)) (now (a .dn)) (now (a .pool)) (a .h) (a .r) (a .v) (a .count) (p .0 .counted) (a .k) (omega (arith, c .before .if1 .taken))), c .stopped .ensures .1)
 
 stopped-requires-2 : tie.Need-stopped-requires-2
 stopped-requires-2 c κs = search needs
@@ -40,7 +40,7 @@ returns-2 : tie.Need-returns-2
 returns-2 c =
     let a = c .before .before .before .before .before .before .before .before .before .before .before .before .args in
     let p = c .before .before .before .before .before .before .before .before .before .before .before .before .pre in
-    told _ 13 _ (c .stopped2 .ensures) (change-past (now (a .img)) (now (a .dt)) (now (a .dn)) (now (a .pool)) (a .h) (a .r) (a .v) (a .count) (p .0 .counted) (a .k) (omega (arith, c .before .if2 .taken)))
+    (told _ 13 _ (c .stopped2 .ensures .0) (change-past (now (a .img)) (now (a .dt)) (now (a .dn)) (now (a .pool)) (a .h) (a .r) (a .v) (a .count) (p .0 .counted) (a .k) (omega (arith, c .before .if2 .taken))), c .stopped2 .ensures .1)
 
 diverge-room-requires : tie.Need-diverge-room-requires
 diverge-room-requires c κs = search needs
@@ -65,7 +65,7 @@ returns-3 c =
     let a = c .before .before .before .before .before .before .before .before .before .before .before .before .before .before .before .args in
     let p = c .before .before .before .before .before .before .before .before .before .before .before .before .before .before .before .pre in
     let r = c .before .before .before .diverge-room .ensures in
-    told _ 11 _ (c .stopped3 .ensures) (change-full (now (a .img)) (now (a .dt)) (now (a .dn)) (now (a .pool)) (a .h) (a .r) (a .v) (a .count) (p .0 .counted) (a .k) (omega (arith, c .before .before .before .before .before .if1 .left)) (omega (arith, c .before .before .before .before .if2 .left)) (omega (arith, p .0 .inside)) (omega (arith, r, c .before .if3 .taken)))
+    (told _ 11 _ (c .stopped3 .ensures .0) (change-full (now (a .img)) (now (a .dt)) (now (a .dn)) (now (a .pool)) (a .h) (a .r) (a .v) (a .count) (p .0 .counted) (a .k) (omega (arith, c .before .before .before .before .before .if1 .left)) (omega (arith, c .before .before .before .before .if2 .left)) (omega (arith, p .0 .inside)) (omega (arith, r, c .before .if3 .taken))), c .stopped3 .ensures .1)
 
 copy-entries-requires : tie.Need-copy-entries-requires
 copy-entries-requires c κs = search needs
@@ -115,10 +115,12 @@ returns-4 c =
     let u = c .before .before .before .before .before .before .before .before .before .before .before .before .before .before .before .before .before .before .before .before .before .before .before .before .before .before .before .before .if1 .left in
     let d = c .before .before .before .before .before .before .before .before .before .before .splice-divs in
     let t = c .before .before .before .before .before .before .before .before .before .before .before .before .before .before .before .before .before .before .before .before .before .before .copy-entries in
-    let n = c .before .before .before .before .before .before .before .before .before .before .before .before .before .before .before .before .before .fill-entries in
-    ap (λ (y : Again). answer (y .code) (ends (again (trainOf (now (a .img)) (d .last .0) (d .last .1 .0) (y .header)) (y .split) (y .«div_split»)))) (c .changed .ensures)
-    ∙ change-done (now (a .img)) (now (a .dt)) (now (a .dn)) (now (a .pool)) (a .h) (a .r) (a .v) (a .count) (p .0 .counted) (a .k) (omega (arith, u)) (omega (arith, w)) (omega (arith, p .0 .inside)) (omega (arith, r, o)) (d .last .0) (d .last .1 .0) _
-    (d .ensures ∙ ap (λ (x : List DivergeNode). take (a .r .«div_split») (listed (a .h .«diverge_count») (divAt (now (a .dt)) (now (a .dn)))) ++ x ++ drop (a .k) (listed (a .h .«diverge_count») (divAt (now (a .dt)) (now (a .dn))))) (new-divs (now (a .pool)) (now (a .nt)) (now (a .nn)) (t .last .1 .1 .0) (n .last .0) (a .count) (a .v .«idx_begin») (a .v .«idx_end») (a .r .split) (omega (arith, u)) (omega (arith, w)) (p .0 .counted) (omega (arith, p .1, p .2, p .0 .first, p .0 .newTrains, r, o)) (omega (arith, p .1, p .2, p .0 .first, p .0 .newNodes, r, o)) (t .ensures) (n .ensures)))
+    let n = c .before .before .before .before .before .before .before .before .before .before .before .before .before .before .before .before .before .fill-entries in (
+      ap (λ (y : Again). answer (y .code) (ends (again (trainOf (now (a .img)) (d .last .0) (d .last .1 .0) (y .header)) (y .split) (y .«div_split»)))) (c .changed .ensures)
+          ∙ change-done (now (a .img)) (now (a .dt)) (now (a .dn)) (now (a .pool)) (a .h) (a .r) (a .v) (a .count) (p .0 .counted) (a .k) (omega (arith, u)) (omega (arith, w)) (omega (arith, p .0 .inside)) (omega (arith, r, o)) (d .last .0) (d .last .1 .0) _
+          (d .ensures ∙ ap (λ (x : List DivergeNode). take (a .r .«div_split») (listed (a .h .«diverge_count») (divAt (now (a .dt)) (now (a .dn)))) ++ x ++ drop (a .k) (listed (a .h .«diverge_count») (divAt (now (a .dt)) (now (a .dn))))) (new-divs (now (a .pool)) (now (a .nt)) (now (a .nn)) (t .last .1 .1 .0) (n .last .0) (a .count) (a .v .«idx_begin») (a .v .«idx_end») (a .r .split) (omega (arith, u)) (omega (arith, w)) (p .0 .counted) (omega (arith, p .1, p .2, p .0 .first, p .0 .newTrains, r, o)) (omega (arith, p .1, p .2, p .0 .first, p .0 .newNodes, r, o)) (t .ensures) (n .ensures))),
+      ap (λ (y : Again). y .moves) (c .changed .ensures),
+    )
 
 pub change-at-spec : {M : Type 1} → statement M
 change-at-spec =

@@ -23,7 +23,7 @@ returns : tie.Need-returns
 returns c =
     let a = c .before .before .before .before .before .before .before .before .before .before .before .before .args in
     let k = c .before .before .before .base-end in
-    λ R H S st ch. told _ _ _ (c .stopped .ensures) (change-base (now (a .img)) (now (a .dt)) (now (a .dn)) (now (a .pool)) (a .h) (a .r) (a .alt) (a .v) (a .count) R H S st ch (k .result .code) (k .result .at) (k .ensures (now (a .dt))) (c .before .if1 .taken) _)
+    ((λ R H S st ch. told _ _ _ (c .stopped .ensures .0) (change-base (now (a .img)) (now (a .dt)) (now (a .dn)) (now (a .pool)) (a .h) (a .r) (a .alt) (a .v) (a .count) R H S st ch (k .result .code) (k .result .at) (k .ensures (now (a .dt))) (c .before .if1 .taken) _)), c .stopped .ensures .1)
 
 change-at-requires : tie.Need-change-at-requires
 change-at-requires c κs =
@@ -49,7 +49,7 @@ returns-2 : tie.Need-returns-2
 returns-2 c =
     let a = c .before .before .before .before .before .before .before .before .before .before .before .before .before .before .before .before .before .before .before .before .before .before .before .before .args in
     let k = c .before .before .before .before .before .before .before .before .before .before .before .before .before .before .before .base-end in
-    λ R H S st ch. c .before .before .before .before .before .before .before .before .change-at .ensures ∙ change-found (now (a .img)) (now (a .dt)) (now (a .dn)) (now (a .pool)) (a .h) (a .r) (a .alt) (a .v) (a .count) R H S st ch (k .result .code) (k .result .at) (k .ensures (now (a .dt))) (c .before .before .before .before .before .before .before .before .before .before .before .before .before .if1 .left)
+    ((λ R H S st ch. c .before .before .before .before .before .before .before .before .change-at .ensures .0 ∙ change-found (now (a .img)) (now (a .dt)) (now (a .dn)) (now (a .pool)) (a .h) (a .r) (a .alt) (a .v) (a .count) R H S st ch (k .result .code) (k .result .at) (k .ensures (now (a .dt))) (c .before .before .before .before .before .before .before .before .before .before .before .before .before .if1 .left)), c .before .before .before .before .before .before .before .before .change-at .ensures .1)
 
 pub change-diverge-spec : {M : Type 1} → statement M
 change-diverge-spec =

@@ -1,7 +1,8 @@
+use mathlib.Core.Path.{sym, _∙_}
 use Prim.Native.Nat.{_+_, _-_}
 use native.Mathlib.Omega.{arith}
 use denote.Ref.{now}
-use Rattle.splice.proofs.JoinLaws.{told, finish-free, finish-done}
+use Rattle.splice.proofs.JoinLaws.{told, moves-none, finish-free, finish-done}
 use borrow.Author.Needs.{needs}
 use Rattle.splice.proofs.join.finish_at.Statement.{statement}
 use Rattle.splice.proofs.join.finish_at.Tie as tie
@@ -27,36 +28,30 @@ stopped-requires c κs = search needs
 same-length : tie.Need-same-length
 same-length c = search needs
 
+returns : tie.Need-returns
+returns c =
+    let a = c .before .before .before .before .before .before .before .before .before .before .before .args in
+    ((λ dt dn. told _ _ _ (c .stopped .ensures .0) (finish-free (now (a .img)) (now (a .fresh)) dt dn (a .h) (a .r) (a .base) (a .div-split) (c .before .before .before .before .before .before .before .splice-path .last .0) (a .r .split + a .r .«new_count» + (a .h .«path_count» - a .base)) (c .before .before .before .before .before .before .before .splice-path .ensures .0) (c .before .before .free-is-correct .result) (c .before .before .free-is-correct .ensures .0) (c .before .if1 .taken) _)), c .before .before .before .before .before .before .before .splice-path .ensures .1, c .stopped .ensures .1 ∙ moves-none _ _ _ _ (λ z. c .before .if1 .taken (sym (c .stopped .ensures .0) ∙ z)))
+
+cast-t19 : tie.Need-cast-t19
+cast-t19 c =
+    let a = c .before .before .before .before .before .before .before .before .before .before .before .args in
+    let p = c .before .before .before .before .before .before .before .before .before .before .before .pre in
+    omega (arith, c .before .before .free-is-correct .ensures .1 (c .before .if1 .left), p .rest, p .small)
+
+cast-t20 : tie.Need-cast-t20
+cast-t20 c =
+    let a = c .before .before .before .before .before .before .before .before .before .before .before .before .args in
+    let p = c .before .before .before .before .before .before .before .before .before .before .before .before .pre in
+    omega (arith, c .before .before .before .free-is-correct .ensures .1 (c .before .before .if1 .left), p .rest, p .small)
+
 same-length-2 : tie.Need-same-length-2
 same-length-2 c = search needs
 
-returns : tie.Need-returns
-returns c =
-    let a = c .before .before .before .before .before .before .before .before .before .before .before .before .before .before .args in
-    ((λ dt dn. told _ _ _ (c .stopped .ensures) (finish-free (now (a .img)) (now (a .fresh)) dt dn (a .h) (a .r) (a .base) (a .div-split) (c .before .before .before .before .before .before .before .before .before .splice-path .last .0) (a .r .split + a .r .«new_count» + (a .h .«path_count» - a .base)) (c .before .before .before .before .before .before .before .before .before .splice-path .ensures .0) (c .before .before .free-is-correct .result) (c .before .before .free-is-correct .ensures .0) (c .before .if1 .taken) _)), c .before .before .before .before .before .before .before .before .before .splice-path .ensures .1)
-
-cast-t21 : tie.Need-cast-t21
-cast-t21 c =
-    let a = c .before .before .before .before .before .before .before .before .before .before .before .before .before .before .args in
-    let p = c .before .before .before .before .before .before .before .before .before .before .before .before .before .before .pre in
-    omega (arith, c .before .before .free-is-correct .ensures .1 (c .before .if1 .left), p .rest, p .small)
-
-cast-t22 : tie.Need-cast-t22
-cast-t22 c =
-    let a = c .before .before .before .before .before .before .before .before .before .before .before .before .before .before .before .args in
-    let p = c .before .before .before .before .before .before .before .before .before .before .before .before .before .before .before .pre in
-    omega (arith, c .before .before .before .free-is-correct .ensures .1 (c .before .before .if1 .left), p .rest, p .small)
-
-same-length-3 : tie.Need-same-length-3
-same-length-3 c = search needs
-
-same-length-4 : tie.Need-same-length-4
-same-length-4 c = search needs
-
 returns-2 : tie.Need-returns-2
 returns-2 c =
-    let a = c .before .before .before .before .before .before .before .before .before .before .before .before .before .before .before .args in
-    ((λ dt dn. finish-done (now (a .img)) (now (a .fresh)) dt dn (a .h) (a .r) (a .base) (a .div-split) (c .before .before .before .before .before .before .before .before .before .before .splice-path .last .0) (a .r .split + a .r .«new_count» + (a .h .«path_count» - a .base)) (c .before .before .before .before .before .before .before .before .before .before .splice-path .ensures .0) (c .before .before .before .free-is-correct .result) (c .before .before .before .free-is-correct .ensures .0) (c .before .before .if1 .left) (c .before .before .before .before .before .before .before .before .before .before .splice-path .ensures .1)), c .before .before .before .before .before .before .before .before .before .before .splice-path .ensures .1)
+    let a = c .before .before .before .before .before .before .before .before .before .before .before .before .args in
+    ((λ dt dn. finish-done (now (a .img)) (now (a .fresh)) dt dn (a .h) (a .r) (a .base) (a .div-split) (c .before .before .before .before .before .before .before .before .splice-path .last .0) (a .r .split + a .r .«new_count» + (a .h .«path_count» - a .base)) (c .before .before .before .before .before .before .before .before .splice-path .ensures .0) (c .before .before .before .free-is-correct .result) (c .before .before .before .free-is-correct .ensures .0) (c .before .before .if1 .left) (c .before .before .before .before .before .before .before .before .splice-path .ensures .1)), c .before .before .before .before .before .before .before .before .splice-path .ensures .1, c .before .before .before .before .before .before .before .before .splice-path .ensures .2)
 
 pub finish-at-spec : {M : Type 1} → statement M
 finish-at-spec =
@@ -69,10 +64,8 @@ finish-at-spec =
     free-is-correct-requires
     stopped-requires
     same-length
-    same-length-2
     returns
-    cast-t21
-    cast-t22
-    same-length-3
-    same-length-4
+    cast-t19
+    cast-t20
+    same-length-2
     returns-2)

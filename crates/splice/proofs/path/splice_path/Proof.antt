@@ -1,75 +1,66 @@
-use mathlib.Core.Path.{refl, ap, _∙_}
-use Prim.Native.Nat.{ℕ}
+use mathlib.Core.Path.{_≡_, refl, ap, _∙_}
+use Prim.Native.Nat.{ℕ, _+_, _-_, _*_}
+use native.Mathlib.Omega.{arith}
 use denote.Ref.{now}
-use Rattle.image.specs.Image.{nodePlace}
-use Rattle.splice.proofs.NodeLaws.{path-bytes, splice-kept, splice-nodes}
+use lib.ListN.{drop}
+use lib.Seq.{paste}
+use Rattle.image.specs.Image.{estCount, nodePlace}
+use Rattle.splice.proofs.NodeLaws.{path-bytes, path-size, splice-kept, splice-nodes}
 use borrow.Author.Needs.{needs}
 use Rattle.splice.proofs.path.splice_path.Statement.{statement}
 use Rattle.splice.proofs.path.splice_path.Tie as tie
 
+-- src/path.rt:97:9
 est-count-requires : tie.Need-est-count-requires
 est-count-requires c κs = search needs
 
+-- src/path.rt:98:9
 est-count-requires-2 : tie.Need-est-count-requires-2
 est-count-requires-2 c κs = search needs
 
-sub-rest : tie.Need-sub-rest
-sub-rest c = search needs
-
-cast-rest : tie.Need-cast-rest
-cast-rest c = search needs
-
+-- src/path.rt:100:15
 node-place-requires : tie.Need-node-place-requires
 node-place-requires c κs = search needs
 
+-- src/path.rt:103:16
+sub-t15 : tie.Need-sub-t15
+sub-t15 c = search needs
+
+-- src/path.rt:103:15
+cast-t16 : tie.Need-cast-t16
+cast-t16 c = search needs
+
+-- src/path.rt:104:14
 node-place-requires-2 : tie.Need-node-place-requires-2
 node-place-requires-2 c κs = search needs
 
-mul-copy-octets : tie.Need-mul-copy-octets
-mul-copy-octets c = search needs
+-- src/path.rt:107:5
+splice-nodes-requires : tie.Need-splice-nodes-requires
+splice-nodes-requires c κs = search needs
 
-copy-octets-requires : tie.Need-copy-octets-requires
-copy-octets-requires c κs = search needs
-
-node-place-requires-3 : tie.Need-node-place-requires-3
-node-place-requires-3 c κs = search needs
-
-node-place-requires-4 : tie.Need-node-place-requires-4
-node-place-requires-4 c κs = search needs
-
-add-copy-octets : tie.Need-add-copy-octets
-add-copy-octets c = search needs
-
-mul-copy-octets-2 : tie.Need-mul-copy-octets-2
-mul-copy-octets-2 c = search needs
-
-copy-octets-requires-2 : tie.Need-copy-octets-requires-2
-copy-octets-requires-2 c κs = search needs
-
+-- src/path.rt:86:1
 same-length : tie.Need-same-length
 same-length c = search needs
 
-same-length-2 : tie.Need-same-length-2
-same-length-2 c = search needs
-
+-- src/path.rt:86:1
 returns : tie.Need-returns
 returns c =
-    let a = c .before .before .before .before .before .before .before .before .before .before .before .before .before .before .before .before .before .before .before .before .args in
-    let p = c .before .before .before .before .before .before .before .before .before .before .before .before .before .before .before .before .before .before .before .before .pre in
-    let e = c .before .before .before .before .before .before .before .before .before .before .before .before .before .before .before .before .est-count .ensures in
-    let f = c .before .before .before .before .before .before .before .before .before .before .before .before .before .before .est-count2 .ensures in
-    let bytes =
-    path-bytes (now (a .img)) (now (a .fresh)) (c .before .before .copy-octets2 .last .1 .1 .0) (c .before .before .before .before .before .before .before .before .before .copy-octets .last .1 .1 .0) (a .n) (a .split) (a .base) (a .k) (p .0) (p .1) (p .2) (p .3) (p .4) _ _ _ _ _ _
-    (c .before .before .before .before .before .before .before .before .before .before .before .before .node-place .ensures ∙ ap (λ (x : ℕ). nodePlace x (a .base)) e)
-    (c .before .before .before .before .before .before .before .before .before .before .node-place2 .ensures ∙ ap (λ (x : ℕ). nodePlace x (a .k)) f)
-    refl
-    (c .before .before .before .before .before .before .before .before .before .copy-octets .ensures)
-    (c .before .before .before .before .before .node-place3 .ensures ∙ ap (λ (x : ℕ). nodePlace x 0) f)
-    (c .before .before .before .node-place4 .ensures ∙ ap (λ (x : ℕ). nodePlace x (a .split)) e)
-    refl
-    (c .before .before .copy-octets2 .ensures) in (
-      splice-nodes (now (a .img)) (now (a .fresh)) (c .before .before .copy-octets2 .last .1 .1 .0) (a .n) (a .split) (a .base) (a .k) (p .0) (p .1) bytes (search needs),
-      splice-kept (now (a .img)) (now (a .fresh)) (c .before .before .copy-octets2 .last .1 .1 .0) (a .n) (a .split) (a .base) (a .k) (p .0) (p .1) bytes (search needs),
+    let a = c .before .before .before .before .before .before .before .before .before .before .before .args in
+    let p = c .before .before .before .before .before .before .before .before .before .before .before .pre in
+    let i = now (a .img) in
+    let f = now (a .fresh) in
+    let x = c .before .before .before .before .before .node-place in
+    let y = c .before .before .before .before .node-place2 in
+    let o = c .before .before .splice-nodes in
+    let ex = x .ensures ∙ ap (λ (e : ℕ). nodePlace e 0) (c .before .before .before .before .before .before .before .est-count .ensures) in
+    let ey = y .ensures ∙ ap (λ (e : ℕ). nodePlace e 0) (c .before .before .before .before .before .before .est-count2 .ensures) in
+    let es : x .result + 32 * a .split ≡ nodePlace (estCount i) (a .split) = omega arith in
+    let tail = paste i (x .result + 32 * (a .split + a .k)) (drop (x .result + 32 * a .base) i) (32 * (a .n - a .base)) in
+    let bytes = path-bytes i f tail (o .last .0) (a .n) (a .split) (a .base) (a .k) (x .result) (y .result) _ (p .0) (p .1) (p .2) (p .3) (p .4) ex ey es refl (o .ensures .0) in
+    let size = path-size i f tail (o .last .0) (a .n) (a .split) (a .base) (a .k) (x .result) (y .result) _ (p .0) (p .1) (p .2) (p .3) (p .4) ex ey es refl (o .ensures .0) in (
+      splice-nodes i f (o .last .0) (a .n) (a .split) (a .base) (a .k) (p .0) (p .1) bytes size,
+      splice-kept i f (o .last .0) (a .n) (a .split) (a .base) (a .k) (p .0) (p .1) bytes size,
+      o .ensures .1,
     )
 
 pub splice-path-spec : {M : Type 1} → statement M
@@ -78,17 +69,10 @@ splice-path-spec =
     (tie.spec
     est-count-requires
     est-count-requires-2
-    sub-rest
-    cast-rest
     node-place-requires
+    sub-t15
+    cast-t16
     node-place-requires-2
-    mul-copy-octets
-    copy-octets-requires
-    node-place-requires-3
-    node-place-requires-4
-    add-copy-octets
-    mul-copy-octets-2
-    copy-octets-requires-2
+    splice-nodes-requires
     same-length
-    same-length-2
     returns)
