@@ -4,8 +4,8 @@
  * answer. A pointer goes with the length that follows it, counted in elements; with length 0 it is not read. No buffer that a
  * call writes may overlap another of its buffers. A refused call changes no buffer but the words of `answer`.
  *
- * A refusal is a number with its place in the upper 16 bits; 0 is none. The layouts and the numbers are in the README and in
- * docs/REFUSALS.md. */
+ * A refusal is a number with its place in the upper 16 bits; 0 is none. The bytes of every buffer are in docs/LAYOUTS.md, the
+ * numbers in docs/REFUSALS.md. */
 #ifndef LAVTOEU_H
 #define LAVTOEU_H
 
