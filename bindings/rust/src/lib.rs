@@ -1,26 +1,35 @@
 //! Safe calls into the proved free path core of a dispatch yard.
 //!
-//! Every function takes slices and numbers, is total, and answers as document 01 of the project says: a refusal has a
-//! number and a place, and a refused call changes no buffer. The layouts of link table, image, yard, report and bundle are
-//! in the project's README.
+//! Every function takes slices and numbers and is total: any bytes get an answer. A refusal has a number and a place, and a
+//! refused call changes no buffer. The bytes of link table, image, yard, report and bundle are in the project's
+//! docs/LAYOUTS.md, the numbers of refusals in its docs/REFUSALS.md. [`Image`], [`table`], [`yard`], [`parts`], [`rows`] and
+//! [`bundle`] write and read them.
 //!
 //! ```
-//! use lavtoeu::{mark, Refusal};
+//! use lavtoeu::{mark, table, Link, Refusal};
 //!
-//! // A table of two links, each the other's flip, with no lockouts: size, L, K, offset; flip, start, count for each link.
-//! let words: [u32; 10] = [40, 2, 0, 40, 1, 0, 0, 0, 0, 0];
-//! let table: Vec<u8> = words.iter().flat_map(|w| w.to_le_bytes()).collect();
-//! let mut occupancy = [0, 0];
+//! // Links 1 and 2 are one track in its two directions; link 0 is none.
+//! let link = |flip| Link { flip, lockouts: vec![] };
+//! let table = table(&[link(0), link(2), link(1)]);
+//! let mut occupancy = [0, 0, 0];
 //! assert_eq!(mark(&table, &mut occupancy, 1, 9), Ok(()));
-//! assert_eq!(occupancy, [9, 0]);
-//! assert_eq!(mark(&table, &mut occupancy, 2, 9), Err(Refusal { number: 3, place: 0 }));
+//! assert_eq!(occupancy, [0, 0, 9]);
+//! assert_eq!(mark(&table, &mut occupancy, 3, 9), Err(Refusal { number: 3, place: 0 }));
 //! ```
 
+mod image;
+pub mod layout;
+mod parts;
 pub mod raw;
+mod table;
+
+pub use image::{Diverge, Image, Node};
+pub use parts::{bundle, parts};
+pub use table::{links, table, Link};
 
 use std::fmt;
 
-/// A refusal: document 01's number, and the place of the record at fault where there is one, else 0.
+/// A refusal: its number, and the place of the record at fault where there is one, else 0.
 #[derive(Clone, Copy, Debug, PartialEq, Eq, Hash)]
 pub struct Refusal {
     pub number: u16,
@@ -55,7 +64,7 @@ impl Refusal {
             15 => "moved train or begin outside the slots",
             16 => "report of a wrong length",
             17 => "bad bundle",
-            _ => "no number of document 01",
+            _ => "no number of a refusal",
         }
     }
 }
@@ -123,7 +132,7 @@ pub struct Order {
 
 /// How long the image of a train is: e est records, room for q diverge nodes.
 pub fn image_size(e: usize, q: usize) -> usize {
-    64 + 64 * e + 4 * q
+    layout::IMAGE_HEADER + (layout::EST_RECORD + layout::PATH_RECORD) * e + layout::DIVERGE_RECORD * q
 }
 
 /// Writes the image of a new train into the buffer, its path along next from est 0. `est` has 32 bytes for each est record.
@@ -224,7 +233,7 @@ pub enum Slot {
     Finished,
     Moved,
     Success,
-    /// By the train that holds it.
+    /// It has no way round the moved train. The number is the report's holder column: the moved train.
     Blocked(u16),
     /// With this many errors of the free path.
     Faulty(u32),
@@ -242,7 +251,7 @@ pub struct Row {
 /// The records of a report, in the order of the slots.
 pub fn rows(report: &[u8]) -> Vec<Row> {
     report
-        .chunks_exact(16)
+        .chunks_exact(layout::REPORT_RECORD)
         .map(|b| {
             let half = |i: usize| u16::from_le_bytes([b[i], b[i + 1]]);
             let word = |i: usize| u32::from_le_bytes([b[i], b[i + 1], b[i + 2], b[i + 3]]);
@@ -269,7 +278,7 @@ pub enum Checked {
     Done { deadlock: bool, next: u16 },
 }
 
-/// Checks every slot of a yard from `begin` on. `report` has 16 bytes for each slot; `rows` reads it.
+/// Checks every slot of a yard from `begin` on. `report` has [`layout::REPORT_RECORD`] bytes for each slot; [`rows`] reads it.
 pub fn check(yard: &mut [u8], m: Move, begin: u16, report: &mut [u8]) -> Result<Checked, Refusal> {
     let mut words = [0; 3];
     check_into(yard, m, begin, report, &mut words)?;
@@ -305,8 +314,7 @@ pub fn check_into(yard: &mut [u8], m: Move, begin: u16, report: &mut [u8], answe
 
 /// The sheet of a bundle as text: `refused n`, or one line for the answer and one for each slot.
 pub fn sheet(bundle: &[u8]) -> String {
-    // 4,096 bytes hold every sheet.
-    let mut text = [0; 4096];
+    let mut text = [0; layout::SHEET_ROOM];
     let n = sheet_into(bundle, &mut text);
     String::from_utf8_lossy(&text[..n]).into_owned()
 }

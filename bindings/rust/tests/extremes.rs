@@ -1,5 +1,5 @@
 //! Every call at the ends of its arguments: lengths of 0, cut short and one too long, the largest numbers, and the largest
-//! table, image and lists of document 01. A refusal leaves every buffer.
+//! table, image and lists. A refusal leaves every buffer.
 
 mod yards;
 

@@ -1,0 +1,54 @@
+//! Sizes of the layouts in bytes, their limits, and numbers in bytes. docs/LAYOUTS.md of the project has every field.
+
+/// A link table before its records, the record of a link, a lockout.
+pub const TABLE_HEADER: usize = 16;
+pub const LINK_RECORD: usize = 12;
+pub const LOCKOUT_RECORD: usize = 4;
+
+/// An image before its records, and its three kinds of records.
+pub const IMAGE_HEADER: usize = 64;
+pub const EST_RECORD: usize = 32;
+pub const PATH_RECORD: usize = 32;
+pub const DIVERGE_RECORD: usize = 4;
+
+/// A yard before its slots' offsets, and one of these.
+pub const YARD_HEADER: usize = 8;
+pub const YARD_OFFSET: usize = 4;
+
+/// The row of a slot in a report.
+pub const REPORT_RECORD: usize = 16;
+
+/// A bundle before its occupancy, and the longest bundle.
+pub const BUNDLE_HEADER: usize = 32;
+pub const MAX_BUNDLE: usize = 65_536;
+
+/// Bytes that hold every sheet.
+pub const SHEET_ROOM: usize = 4_096;
+
+/// The most links, lockouts, est records of a train, diverge nodes of a train, slots.
+pub const MAX_LINKS: usize = 4_000;
+pub const MAX_LOCKOUTS: usize = 4_096;
+pub const MAX_ESTS: usize = 512;
+pub const MAX_ROOM: usize = 1_024;
+pub const MAX_SLOTS: usize = 63;
+
+/// The W bytes from `at` on; a byte past the end counts 0.
+fn octets<const W: usize>(bytes: &[u8], at: usize) -> [u8; W] {
+    std::array::from_fn(|i| bytes.get(at + i).copied().unwrap_or(0))
+}
+
+pub(crate) fn half(bytes: &[u8], at: usize) -> u16 {
+    u16::from_le_bytes(octets(bytes, at))
+}
+
+pub(crate) fn word(bytes: &[u8], at: usize) -> u32 {
+    u32::from_le_bytes(octets(bytes, at))
+}
+
+pub(crate) fn float(bytes: &[u8], at: usize) -> f64 {
+    f64::from_le_bytes(octets(bytes, at))
+}
+
+pub(crate) fn put_words(out: &mut Vec<u8>, numbers: &[usize]) {
+    numbers.iter().for_each(|&n| out.extend((n as u32).to_le_bytes()));
+}
