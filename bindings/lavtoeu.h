@@ -16,6 +16,53 @@
 extern "C" {
 #endif
 
+/* The version of this header: major, minor and patch in a byte each, and as text. lavtoeu_version gives the library's.
+ * CHANGELOG.md says what has changed. */
+#define LAVTOEU_VERSION 0x000200
+#define LAVTOEU_VERSION_TEXT "0.2.0"
+uint32_t lavtoeu_version(void);
+
+/* Bytes of each header and record of docs/LAYOUTS.md, and of a buffer that holds every sheet. */
+enum {
+    LAVTOEU_TABLE_HEADER = 16, LAVTOEU_LINK_RECORD = 12, LAVTOEU_LOCKOUT_RECORD = 4,
+    LAVTOEU_IMAGE_HEADER = 64, LAVTOEU_EST_RECORD = 32, LAVTOEU_PATH_RECORD = 32, LAVTOEU_DIVERGE_RECORD = 4,
+    LAVTOEU_YARD_HEADER = 8, LAVTOEU_YARD_OFFSET = 4,
+    LAVTOEU_REPORT_RECORD = 16,
+    LAVTOEU_BUNDLE_HEADER = 32,
+    LAVTOEU_SHEET_ROOM = 4096
+};
+
+/* The size of an image of e est records with room for q diverge nodes. */
+#define LAVTOEU_IMAGE_SIZE(e, q) (LAVTOEU_IMAGE_HEADER + (LAVTOEU_EST_RECORD + LAVTOEU_PATH_RECORD) * (e) + LAVTOEU_DIVERGE_RECORD * (q))
+
+/* The most links, lockouts, est records of a train, diverge nodes of a train, slots; the longest bundle. */
+enum {
+    LAVTOEU_MAX_LINKS = 4000, LAVTOEU_MAX_LOCKOUTS = 4096, LAVTOEU_MAX_ESTS = 512, LAVTOEU_MAX_ROOM = 1024,
+    LAVTOEU_MAX_SLOTS = 63, LAVTOEU_MAX_BUNDLE = 65536
+};
+
+/* The types of est records and path nodes. */
+enum { LAVTOEU_ARRIVE = 0, LAVTOEU_CLEAR = 1, LAVTOEU_FAKE = 2 };
+
+/* The headers and records, field by field. The calls take bytes: hand an array of records over as (uint8_t *), and copy a record
+ * out of an image, a yard or a bundle with memcpy. Spare bytes are 0. */
+typedef struct { uint32_t size, links, lockouts, lockouts_at; } lavtoeu_table_header;
+typedef struct { uint32_t flip, start, count; } lavtoeu_link;
+typedef struct { double dist_to_next; uint32_t next, alt, prev, prev_alt, link; uint8_t type, spare[3]; } lavtoeu_est;
+typedef struct { double offset, time_pass; uint32_t link, est; uint16_t auth; uint8_t type, spare[5]; } lavtoeu_node;
+typedef struct { uint16_t train, node; } lavtoeu_diverge;
+typedef struct {
+    uint32_t size, ests, nodes, diverges, room, ests_at, nodes_at, diverges_at;
+    uint16_t train, fixed, free, front, back;
+    uint8_t spare[6];
+    double search, fixed_max;
+} lavtoeu_image_header;
+typedef struct { uint16_t code, place, rounds, holder; uint32_t strays, faults; } lavtoeu_row;
+typedef struct {
+    uint32_t size, occupancy_at, occupancy, blocking_at, blocking, yard_at;
+    uint16_t moved, begin, limit, local;
+} lavtoeu_bundle_header;
+
 /* The number and the place of a refusal. */
 static inline uint16_t lavtoeu_number(uint32_t refusal) { return (uint16_t)(refusal & 0xffff); }
 static inline uint16_t lavtoeu_place(uint32_t refusal) { return (uint16_t)(refusal >> 16); }
@@ -49,7 +96,7 @@ enum { LAVTOEU_ERRED = 0, LAVTOEU_DEADLOCK = 1, LAVTOEU_NEXT = 2, LAVTOEU_CHECK_
  * 2, 4, 5, 14, 15, 16. */
 uint32_t lavtoeu_check(uint8_t *yard, size_t yard_len, const uint16_t *occupancy, size_t occupancy_len, const uint32_t *blocking, size_t blocking_len, uint16_t moved, uint16_t begin, uint32_t local, uint16_t limit, uint8_t *report, size_t report_len, uint64_t *answer, size_t answer_len);
 
-/* Writes the sheet of a bundle to the text, as many bytes as it has room for, and returns how many. 4,096 bytes hold every sheet. */
+/* Writes the sheet of a bundle to the text, as many bytes as it has room for, and returns how many; no byte 0 behind them. */
 size_t lavtoeu_sheet(const uint8_t *bundle, size_t bundle_len, uint8_t *text, size_t text_len);
 
 #ifdef __cplusplus

@@ -22,10 +22,12 @@ pub mod layout;
 mod parts;
 pub mod raw;
 mod table;
+mod version;
 
 pub use image::{Diverge, Image, Node};
 pub use parts::{bundle, parts};
 pub use table::{links, table, Link};
+pub use version::{version, VERSION, VERSION_TEXT};
 
 use std::fmt;
 

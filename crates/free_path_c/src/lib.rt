@@ -1,5 +1,7 @@
 // The calls for C and Rust: every function is exported under its plain name with the prefix `lavtoeu_`, takes numbers and slices
 // (a pointer and a length), is total for every argument, and calls the proved function of the same name.
+pub mod version;
+
 ghost use mathlib.Core.Path.{_≡_};
 ghost use mathlib.Core.Bool.{cond};
 ghost use Rattle.link_rules.specs.AdvanceRewind.{markOf};

@@ -1,0 +1,58 @@
+//! The header, the crate and the library say the same.
+
+use lavtoeu::layout::*;
+use lavtoeu::*;
+
+const HEADER: &str = include_str!("../../lavtoeu.h");
+
+/// What the header says after a name: the text of a macro, or the number of an enum.
+fn says(name: &str) -> &'static str {
+    let named = |at: &usize| {
+        let (before, after) = (&HEADER[..*at], &HEADER[*at + name.len()..]);
+        before.ends_with("#define ") && after.starts_with(' ') || before.ends_with([' ', '\n']) && after.starts_with(" = ")
+    };
+    let found: Vec<usize> = HEADER.match_indices(name).map(|(at, _)| at).filter(named).collect();
+    assert_eq!(found.len(), 1, "{name} stands in the header once");
+    HEADER[found[0] + name.len()..].trim_start_matches([' ', '=']).split([',', ' ', '\n']).next().unwrap()
+}
+
+#[test]
+fn header_crate_and_library_have_one_version() {
+    assert_eq!(version(), VERSION);
+    assert_eq!(says("LAVTOEU_VERSION"), format!("0x{VERSION:06x}"));
+    assert_eq!(says("LAVTOEU_VERSION_TEXT"), format!("{VERSION_TEXT:?}"));
+    assert_eq!(VERSION_TEXT, env!("CARGO_PKG_VERSION"));
+    let [_, major, minor, patch] = VERSION.to_be_bytes();
+    assert_eq!(VERSION_TEXT, format!("{major}.{minor}.{patch}"));
+    let changes = include_str!("../../../CHANGELOG.md");
+    assert!(changes.contains(&format!("\n## {VERSION_TEXT}")), "CHANGELOG.md has no entry for {VERSION_TEXT}");
+}
+
+#[test]
+fn header_and_crate_have_the_same_sizes() {
+    for (name, size) in [
+        ("TABLE_HEADER", TABLE_HEADER),
+        ("LINK_RECORD", LINK_RECORD),
+        ("LOCKOUT_RECORD", LOCKOUT_RECORD),
+        ("IMAGE_HEADER", IMAGE_HEADER),
+        ("EST_RECORD", EST_RECORD),
+        ("PATH_RECORD", PATH_RECORD),
+        ("DIVERGE_RECORD", DIVERGE_RECORD),
+        ("YARD_HEADER", YARD_HEADER),
+        ("YARD_OFFSET", YARD_OFFSET),
+        ("REPORT_RECORD", REPORT_RECORD),
+        ("BUNDLE_HEADER", BUNDLE_HEADER),
+        ("SHEET_ROOM", SHEET_ROOM),
+        ("MAX_LINKS", MAX_LINKS),
+        ("MAX_LOCKOUTS", MAX_LOCKOUTS),
+        ("MAX_ESTS", MAX_ESTS),
+        ("MAX_ROOM", MAX_ROOM),
+        ("MAX_SLOTS", MAX_SLOTS),
+        ("MAX_BUNDLE", MAX_BUNDLE),
+        ("ARRIVE", EstType::Arrive as usize),
+        ("CLEAR", EstType::Clear as usize),
+        ("FAKE", EstType::Fake as usize),
+    ] {
+        assert_eq!(says(&format!("LAVTOEU_{name}")), size.to_string(), "{name}");
+    }
+}
