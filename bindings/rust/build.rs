@@ -23,4 +23,5 @@ fn main() {
     println!("cargo:rerun-if-changed={}", library.display());
     println!("cargo:rustc-link-search=native={}", folder.display());
     println!("cargo:rustc-link-lib=static=free_path_c");
+    println!("cargo:rustc-env=LAVTOEU_LIB_FOLDER={}", folder.display());
 }

@@ -1,7 +1,9 @@
-//! The header, the crate and the library say the same.
+//! The header, the crate and the library say the same; the example in C builds and prints what stands beside it.
 
 use lavtoeu::layout::*;
 use lavtoeu::*;
+use std::path::Path;
+use std::process::Command;
 
 const HEADER: &str = include_str!("../../lavtoeu.h");
 
@@ -55,4 +57,21 @@ fn header_and_crate_have_the_same_sizes() {
     ] {
         assert_eq!(says(&format!("LAVTOEU_{name}")), size.to_string(), "{name}");
     }
+}
+
+#[test]
+fn the_example_in_c_prints_what_stands_beside_it() {
+    let bindings = Path::new(env!("CARGO_MANIFEST_DIR")).join("..");
+    let program = Path::new(env!("CARGO_TARGET_TMPDIR")).join("two_trains");
+    let built = Command::new("cc")
+        .args(["-Wall", "-Wextra", "-Werror", "-I"])
+        .arg(&bindings)
+        .arg(bindings.join("c/two_trains.c"))
+        .args(["-L", env!("LAVTOEU_LIB_FOLDER"), "-lfree_path_c", "-o"])
+        .arg(&program)
+        .status();
+    assert!(built.expect("cc").success());
+    let printed = Command::new(&program).output().unwrap();
+    assert!(printed.status.success());
+    assert_eq!(String::from_utf8_lossy(&printed.stdout), include_str!("../../c/two_trains.out"));
 }

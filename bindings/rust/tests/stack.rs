@@ -1,0 +1,145 @@
+//! How much stack each call takes, measured on a thread whose stack was painted before, and held to the bounds that
+//! bindings/README.md states. `cargo test --offline --test stack -- --nocapture` prints the figures.
+#![cfg(all(target_os = "linux", target_arch = "x86_64"))]
+
+#[allow(dead_code)]
+mod yards;
+
+use lavtoeu::layout::*;
+use lavtoeu::*;
+use std::alloc::{alloc, dealloc, Layout};
+use std::ffi::{c_int, c_void};
+use std::fs::File;
+use std::os::unix::fs::FileExt;
+use std::sync::OnceLock;
+use yards::*;
+
+/// pthread_attr_t of x86-64 Linux.
+#[repr(C, align(8))]
+struct Attributes([u8; 56]);
+
+extern "C" {
+    fn pthread_attr_init(attributes: *mut Attributes) -> c_int;
+    fn pthread_attr_setstack(attributes: *mut Attributes, stack: *mut c_void, size: usize) -> c_int;
+    fn pthread_attr_destroy(attributes: *mut Attributes) -> c_int;
+    fn pthread_create(
+        thread: *mut usize,
+        attributes: *const Attributes,
+        run: extern "C" fn(*mut c_void) -> *mut c_void,
+        with: *mut c_void,
+    ) -> c_int;
+    fn pthread_join(thread: usize, answer: *mut *mut c_void) -> c_int;
+}
+
+extern "C" fn run(call: *mut c_void) -> *mut c_void {
+    // SAFETY: `touched` hands its own call over, and waits for the thread.
+    unsafe { (*call.cast::<&mut dyn FnMut()>())() };
+    std::ptr::null_mut()
+}
+
+const STACK: usize = 1 << 20;
+const PAINT: [u8; 8] = [0xa5; 8];
+
+/// The bytes from an address on. They are read by the system, since memcheck lets nobody read a stack that is no longer in use.
+fn memory(at: *const u8, size: usize) -> Vec<u8> {
+    let mut bytes = vec![0; size];
+    File::open("/proc/self/mem").unwrap().read_exact_at(&mut bytes, at as u64).unwrap();
+    bytes
+}
+
+/// How many bytes of a painted stack a thread touches that makes the call.
+fn touched(mut call: &mut dyn FnMut()) -> usize {
+    let layout = Layout::from_size_align(STACK, 4096).unwrap();
+    let (mut attributes, mut thread) = (Attributes([0; 56]), 0);
+    // SAFETY: the stack is an allocation of its own, which outlives the thread.
+    unsafe {
+        let stack = alloc(layout);
+        assert!(!stack.is_null());
+        stack.write_bytes(PAINT[0], STACK);
+        assert_eq!(pthread_attr_init(&mut attributes), 0);
+        assert_eq!(pthread_attr_setstack(&mut attributes, stack.cast(), STACK), 0);
+        let with = &mut call as *mut &mut dyn FnMut();
+        assert_eq!(pthread_create(&mut thread, &attributes, run, with.cast()), 0);
+        assert_eq!(pthread_join(thread, std::ptr::null_mut()), 0);
+        pthread_attr_destroy(&mut attributes);
+        let after = memory(stack, STACK);
+        dealloc(stack, layout);
+        STACK - PAINT.len() * after.chunks(PAINT.len()).take_while(|&bytes| bytes == PAINT).count()
+    }
+}
+
+/// The answer of a call, and its stack beyond that of a thread that calls nothing.
+fn stack_of<T>(mut call: impl FnMut() -> T) -> (T, usize) {
+    static IDLE: OnceLock<usize> = OnceLock::new();
+    let idle = *IDLE.get_or_init(|| touched(&mut || ()));
+    let mut answer = None;
+    let used = touched(&mut || answer = Some(call()));
+    (answer.unwrap(), used.saturating_sub(idle))
+}
+
+/// The siding's train with the most est records and the most room: all others lead nowhere.
+fn large(train: u16) -> Vec<u8> {
+    let mut est = siding();
+    est.resize(EST_RECORD * MAX_ESTS, 0);
+    est[siding().len()..].chunks_exact_mut(EST_RECORD).for_each(|record| record[28] = 2);
+    let mut image = vec![0; image_size(MAX_ESTS, MAX_ROOM)];
+    let o = Order { room: MAX_ROOM as u32, links: MAX_LINKS as u32, ..order(train, 4) };
+    assert_eq!(lay_out(&est, o, &mut image), Ok(()));
+    image
+}
+
+/// Link 1 is held by train 2, in the longest occupancy.
+fn occupancy() -> Vec<u16> {
+    let mut occupancy = vec![0; MAX_LINKS];
+    occupancy[1] = 2;
+    occupancy
+}
+
+/// The calls with the stack that each may take, as bindings/README.md has it.
+const BOUNDS: [(&str, usize); 7] = [
+    ("version", 1 << 10),
+    ("mark", 1 << 10),
+    ("judge", 20 << 10),
+    ("lay_out", 64 << 10),
+    ("update", 96 << 10),
+    ("check", 96 << 10),
+    ("sheet", 320 << 10),
+];
+
+/// The stack of each call of `BOUNDS` over images that `image` makes of a train's number.
+fn stacks(image: fn(u16) -> Vec<u8>, m: Move) -> [usize; 7] {
+    let (one, mut spare) = (image(1), image(1));
+    let header = Image::from_bytes(&one).unwrap();
+    let est = est_bytes(&header.ests);
+    let order = Order { room: header.room, links: m.occupancy.len() as u32, ..order(1, 4) };
+    let table = table(&vec![Link { flip: 1, lockouts: vec![1] }; m.occupancy.len()]);
+    let mut occupancy = m.occupancy.to_vec();
+    let mut yard = yard(&[&one, &laid_out(2, 4)]);
+    let bundle = bundle(&yard, m, 1);
+    let (mut report, mut text) = ([0; 2 * REPORT_RECORD], [0; SHEET_ROOM]);
+
+    let (number, versions) = stack_of(version);
+    let (marked, marks) = stack_of(|| mark(&table, &mut occupancy, 1, 9));
+    let (judged, judges) = stack_of(|| judge(&one, m.occupancy.len() as u32));
+    let (laid, lays) = stack_of(|| lay_out(&est, order, &mut spare));
+    let (updated, updates) = stack_of(|| update(&mut spare, m));
+    let (checked, checks) = stack_of(|| check(&mut yard, m, 1, &mut report));
+    let (printed, sheets) = stack_of(|| sheet_into(&bundle, &mut text));
+
+    assert_eq!((number, marked, judged, laid), (VERSION, Ok(()), Ok(()), Ok(())));
+    assert_eq!(updated, Updated { status: Ok(Status::Success), rounds: 2, strays: 0 });
+    assert_eq!(checked, Ok(Checked::Done { deadlock: false, next: 1 }));
+    assert!(text[..printed].starts_with(b"yard 2 deadlock no next 1\n1 success 2"));
+    [versions, marks, judges, lays, updates, checks, sheets]
+}
+
+#[test]
+fn each_call_keeps_to_its_stack() {
+    let occupancy = occupancy();
+    let small = stacks(|t| laid_out(t, 4), MOVE);
+    let large = stacks(large, Move { occupancy: &occupancy, ..MOVE });
+    for (i, (call, bound)) in BOUNDS.iter().enumerate() {
+        println!("{call}: {} bytes of stack for a small train, {} for the largest, bound {bound}", small[i], large[i]);
+        assert!(small[i].max(large[i]) <= *bound, "{call} takes more stack than bindings/README.md says");
+    }
+}
