@@ -1,9 +1,9 @@
-//! The limits that docs/LAYOUTS.md states of an image: values at them are accepted, values beyond them are refused with the
-//! number and the place that stand there.
+//! The limits that docs/LAYOUTS.md states of an image and a bundle: values at them are accepted, values beyond them are
+//! refused with the number and the place that stand there.
 
-#[allow(dead_code)]
 mod yards;
 
+use lavtoeu::layout::*;
 use lavtoeu::*;
 use yards::*;
 
@@ -121,4 +121,47 @@ fn est_records_come_before_path_records_before_the_header() {
         x.ests[4].dist_to_next = f64::NAN;
     };
     assert_eq!(changed(more), refused(7, 4));
+}
+
+/// The first line of the sheet of a bundle with a u16 or u32 number changed.
+fn sheet_with(at: usize, number: &[u8]) -> String {
+    let mut bytes = bundle(&two_trains(), MOVE, 1);
+    bytes[at..at + number.len()].copy_from_slice(number);
+    sheet(&bytes).lines().next().unwrap().to_string()
+}
+
+#[test]
+fn of_a_bundle() {
+    let size = bundle(&two_trains(), MOVE, 1).len() as u32;
+    for (at, right) in [(0, size), (4, 32), (8, 4), (12, 40), (16, 1), (20, 44)] {
+        assert_eq!(sheet_with(at, &right.to_le_bytes()), "yard 2 deadlock no next 1", "at {at}");
+        for wrong in [0, right - 1, right + 1, u32::MAX].into_iter().filter(|&n| n != right) {
+            assert_eq!(sheet_with(at, &wrong.to_le_bytes()), "refused 17", "{wrong} at {at}");
+        }
+    }
+    for (at, number, first) in [
+        (24, 0, "refused 5"),
+        (24, 3, "refused 15"),
+        (26, 0, "refused 15"),
+        (26, 3, "yard 2 deadlock no next 3"),
+        (26, 4, "refused 15"),
+        (28, 0, "refused 5"),
+        (28, u16::MAX, "yard 2 deadlock no next 1"),
+        (30, 1, "yard 2 deadlock no next 1"),
+        (30, 2, "refused 17"),
+    ] {
+        assert_eq!(sheet_with(at, &number.to_le_bytes()), first, "{number} at {at}");
+    }
+    fn of(yard: &[u8], m: Move) -> String {
+        sheet(&bundle(yard, m, 1)).lines().next().unwrap().to_string()
+    }
+    for n in [0, 1, MAX_LINKS + 1] {
+        assert_eq!(of(&two_trains(), Move { occupancy: &vec![0; n], blocking: &[], ..MOVE }), "refused 2", "{n} entries");
+    }
+    assert_eq!(of(&two_trains(), Move { blocking: &[4], ..MOVE }), "refused 4");
+    assert_eq!(of(&two_trains(), Move { blocking: &[1; 4_001], ..MOVE }), "refused 4");
+    assert_eq!(of(&[], MOVE), "refused 14");
+    let longest = MAX_BUNDLE - bundle(&[], MOVE, 1).len();
+    assert_eq!(of(&vec![0; longest], MOVE), "refused 14");
+    assert_eq!(of(&vec![0; longest + 1], MOVE), "refused 17");
 }
