@@ -1,0 +1,363 @@
+"""yard renumber and yard match: a yard under fresh numbers, and two yards held against each other."""
+import hashlib
+import itertools
+import os
+import re
+import struct
+
+import programs
+from yard import EST, HEADER, NODE, Words, Wrong, Yard, drawn, in_file, once, options, read_file, tell, text_of, train_lines, train_text, write_out
+
+LARGEST = 65535  # the largest train
+COLUMNS = ["slot", "code word", "rounds", "holder", "strays", "faults", "free"]
+
+
+class Numbering:
+    """The new number of each link and train; 0 and numbers that are none of the yard's links stay themselves."""
+
+    def __init__(self, links, slots):
+        self.links, self.slots = links, slots
+        self.new = {"link": {}, "train": {}}
+
+    def link(self, l):
+        return self.number("link", l) if 1 <= l < self.links else l
+
+    def train(self, t):
+        return self.number("train", t) if t else 0
+
+    def number(self, kind, n):
+        if n not in self.new[kind]:
+            raise Wrong(0, f"{kind} {n} has no new number")
+        return self.new[kind][n]
+
+    def text(self):
+        pairs = [f"{kind} {n} is {self.new[kind][n]}" for kind in ("link", "train") for n in sorted(self.new[kind])]
+        return "\n".join([f"links {self.links}", f"slots {self.slots}", *pairs]) + "\n"
+
+
+def read_numbering(text):
+    """Links are permuted within 1 to L - 1, trains 1 to S among themselves and the others one to one."""
+    said, count, new = {}, {}, {"link": {}, "train": {}}
+    for number, line in enumerate(text.split("\n"), 1):
+        words = Words(number, line.split("#")[0].split())
+        if not words.more():
+            continue
+        kind = words.word(["links", "slots", "link", "train"], "a word")
+        n = words.number(16, "the number")
+        if kind in ("links", "slots"):
+            once(said, kind, number)
+            count[kind] = n
+        else:
+            once(said, f"{kind} {n} is", number)
+            words.word(["is"], "the word 'is'")
+            new[kind][n] = words.number(16, "the new number")
+            once(said, f"{kind} is {new[kind][n]}", number)
+        words.end()
+    for kind in ("links", "slots"):
+        if kind not in count:
+            raise Wrong(0, f"the line '{kind}' is missing")
+    permuted(new["link"], count["links"] - 1, "links")
+    permuted({t: n for t, n in new["train"].items() if t <= count["slots"]}, count["slots"], "trains")
+    numbering = Numbering(count["links"], count["slots"])
+    numbering.new = new
+    if 0 in new["train"].values():
+        raise Wrong(0, "a train has the new number 0, which means none")
+    return numbering
+
+
+def permuted(new, top, what):
+    if not set(new) == set(new.values()) == set(range(1, top + 1)):
+        raise Wrong(0, f"the {what} 1 to {top} are not numbered among themselves")
+
+
+# ---- fresh numbers
+
+
+def drawn_lot(*words):
+    """A number that only the words decide, the same everywhere."""
+    return int.from_bytes(hashlib.sha256(" ".join(map(str, words)).encode()).digest(), "big")
+
+
+def shuffled(seed, kind, numbers):
+    return sorted(numbers, key=lambda n: drawn_lot(seed, kind, n))
+
+
+def image_trains(part):
+    """The trains of an image: the header's and those of its diverge records."""
+    e, q = struct.unpack_from("<I", part, 4)[0], struct.unpack_from("<I", part, 16)[0]
+    return [struct.unpack_from("<H", part, at)[0] for at in (32, *range(HEADER + (EST + NODE) * e, HEADER + (EST + NODE) * e + 4 * q, 4))]
+
+
+def fresh(seed, yard, parts):
+    slots = len(parts)
+    numbering = Numbering(yard.links, slots)
+    links = range(1, yard.links)
+    numbering.new["link"] = dict(zip(links, shuffled(seed, "link", links)))
+    trains = range(1, slots + 1)
+    numbering.new["train"] = dict(zip(trains, shuffled(seed, "train", trains)))
+    met = {t for t, _ in yard.occupied.values()} | {t for part in parts for t in image_trains(part)} | {yard.numbers["moved"]}
+    if yard.call is not None and yard.call[0] == "mark":
+        met.add(yard.call[3])
+    for t in sorted(t for t in met if t > slots):
+        lots = (slots + 1 + drawn_lot(seed, "train", t, again) % (LARGEST - slots) for again in itertools.count())
+        numbering.new["train"][t] = next(n for n in lots if n not in numbering.new["train"].values())
+    return numbering
+
+
+# ---- a yard under a numbering
+
+
+def drawn_parts(yard):
+    """The images of the slots; each can be drawn by its counts."""
+    parts = [t.bytes() for t in yard.trains]
+    for t, part in enumerate(parts, 1):
+        if train_text(part) is None:
+            raise Wrong(yard.trains[t - 1].line, f"the image of slot {t} has no counts by which its links and trains could be found")
+    return parts
+
+
+def renumbered_image(part, numbering):
+    """The same bytes but for the header's train, the links of est and path records and the trains of diverge records."""
+    out = bytearray(part)
+    e, q = struct.unpack_from("<I", part, 4)[0], struct.unpack_from("<I", part, 16)[0]
+    nodes, diverges = HEADER + EST * e, HEADER + (EST + NODE) * e
+    for at in (*range(HEADER + 24, nodes, EST), *range(nodes + 16, diverges, NODE)):
+        struct.pack_into("<I", out, at, numbering.link(struct.unpack_from("<I", part, at)[0]))
+    for at in (32, *range(diverges, diverges + 4 * q, 4)):
+        struct.pack_into("<H", out, at, numbering.train(struct.unpack_from("<H", part, at)[0]))
+    return bytes(out)
+
+
+def renumbered_call(call, numbering):
+    """A mark's link and train; the slot of any other call but a report."""
+    kind, line, *given = call
+    if kind == "mark":
+        return (kind, line, numbering.link(given[0]), numbering.train(given[1]))
+    if kind == "report" or not 1 <= given[0] <= numbering.slots:
+        return call
+    return (kind, line, numbering.train(given[0]), *given[1:])
+
+
+def kept_bytes(yard):
+    """Bytes that a text puts into the yard or the bundle: those of counts and sizes can stay, no others."""
+    for line, at, data in yard.yard_patches:
+        if at + len(data) > 8:
+            raise Wrong(line, "a yard-byte behind the yard's size and number of slots cannot be renumbered")
+    for line, at, data in yard.patches:
+        if at + len(data) > 32 or any(24 <= i < 26 for i in range(at, at + len(data))):
+            raise Wrong(line, "a bundle-byte of the moved train or behind the bundle's header cannot be renumbered")
+
+
+def renumbered(yard, parts, numbering):
+    """The yard under the numbering, with its blocking links in their order, and its images."""
+    kept_bytes(yard)
+    out = Yard()
+    out.links = yard.links
+    out.occupied = {numbering.link(l): (numbering.train(t), line) for l, (t, line) in yard.occupied.items()}
+    out.blocking = [numbering.link(l) for l in yard.blocking]
+    out.numbers = {**yard.numbers, "moved": numbering.train(yard.numbers["moved"])}
+    out.flips = {numbering.link(l): (numbering.link(f), [numbering.link(k) for k in locks], line) for l, (f, locks, line) in yard.flips.items()}
+    out.call = yard.call and renumbered_call(yard.call, numbering)
+    out.patches, out.yard_patches = yard.patches, yard.yard_patches
+    images = {numbering.train(t): renumbered_image(part, numbering) for t, part in enumerate(parts, 1)}
+    return out, [images[t] for t in sorted(images)]
+
+
+def call_line(call):
+    kind, _, *given = call
+    if kind == "mark":
+        return f"mark {given[0]} for {given[1]}" if given[1] else f"release {given[0]}"
+    return " ".join([kind, *map(str, given)])
+
+
+def flip_line(link, flip, locks):
+    return f"link {link} flips {flip}" + (" locks " + " ".join(map(str, locks)) if locks else "")
+
+
+def text(yard, parts):
+    """The text that draws a yard with these images."""
+    n = yard.numbers
+    out = [f"links {yard.links}", *(f"occupied {l} by {yard.occupied[l][0]}" for l in sorted(yard.occupied))]
+    if yard.blocking:
+        out.append("blocking " + " ".join(map(str, yard.blocking)))
+    out += [f"moved {n['moved']}", f"begin {n['begin']}", f"limit {n['limit']}", f"local {'yes' if n['local'] else 'no'}"]
+    out += [flip_line(l, *yard.flips[l][:2]) for l in sorted(yard.flips)]
+    if yard.call is not None:
+        out.append(call_line(yard.call))
+    for t, part in enumerate(parts, 1):
+        out += ["", *train_lines(part, t)]
+    out += [f"yard-byte {at} {data.hex()}" for _, at, data in yard.yard_patches]
+    out += [f"bundle-byte {at} {data.hex()}" for _, at, data in yard.patches]
+    return "\n".join(out) + "\n"
+
+
+# ---- sheets
+
+
+def read_sheet(words, slots):
+    """The lines of a sheet, as lists of words: the first, and that of each slot."""
+    lines = [line.split() for line in words.rstrip("\n").split("\n")]
+    first = " ".join(lines[0])
+    if re.fullmatch(r"refused [0-9]+", first) and len(lines) == 1:
+        return lines
+    if not re.fullmatch(r"yard [0-9]+ (deadlock (yes|no) next [0-9]+|erred [0-9]+)", first):
+        raise Wrong(1, "this is no first line of a sheet")
+    if len(lines) != slots + 1 or int(lines[0][1]) != slots:
+        raise Wrong(1, f"the sheet is not one of {slots} slots")
+    for number, line in enumerate(lines[1:], 1):
+        if len(line) != len(COLUMNS) or line[0] != str(number) or not all(re.fullmatch("[0-9]{1,10}", x) for x in line[2:]):
+            raise Wrong(number + 1, f"this is no line of slot {number}")
+    return lines
+
+
+def premises(yard, sheet):
+    """Where a premise of the third promise fails or is not known: the line of the text, and why."""
+    bad = [(line, "the table is refused by 1") for l, (f, locks, line) in yard.flips.items() if max([l, f, *locks]) >= yard.links]
+    if yard.call is not None and yard.call[0] == "mark":
+        return bad
+    if yard.call is not None and yard.call[0] != "report":
+        return bad + [(yard.call[1], "the promise is about marks, releases and checks, not about this call")]
+    if sheet is not None and sheet[0][0] == "refused":
+        return bad + [(0, f"the yard is refused by {sheet[0][1]}") for n in ("2", "14", "17") if n == sheet[0][1]]
+    if yard.numbers["begin"] != 1:
+        bad.append((yard.said.get("begin", 0), "the check does not begin at slot 1"))
+    if yard.occupied.get(0, (0, 0))[0]:
+        bad.append((yard.said.get("occupied 0", 0), "entry 0 of the occupancy is not empty"))
+    if sheet is None:
+        return bad + [(0, "the strays are not known")]
+    return bad + [(0, f"slot {row[0]} has strays: {row[4]}") for row in sheet[1:] if row[4] != "0"]
+
+
+def tell_premises(name, bad):
+    for line, why in bad:
+        tell(f"{name}:{line}: {why}" if line else f"{name}: {why}")
+    if bad:
+        tell(f"{name}: so the third promise of README.md does not say that its answers are good for every numbering")
+
+
+# ---- the commands
+
+
+def put(name, words):
+    """Writes a file, unless it is there with other words."""
+    try:
+        with open(name, "x", encoding="utf-8") as f:
+            f.write(words)
+    except FileExistsError:
+        if read_file(name) != words.encode():
+            raise Wrong(0, "there is such a file already with other words; --to names another", name)
+    except OSError as e:
+        raise Wrong(0, e.strerror, name)
+
+
+def asked_sheet(yard, name, folder):
+    """The sheet in a file, or the program's."""
+    if name is None:
+        return read_sheet(programs.sheet(yard, folder), len(yard.trains))
+    with in_file(name):
+        return read_sheet(text_of(read_file(name)), len(yard.trains))
+
+
+def sheet_if_built(yard, folder):
+    try:
+        return asked_sheet(yard, None, folder)
+    except Wrong as w:
+        tell(f"{w.name}: {w.why}")
+        return None
+
+
+def renumber(args):
+    (seed, name), given = options(args, 2, ["--to", "--sheet", "--programs"])
+    if not re.fullmatch(r"[A-Za-z0-9][A-Za-z0-9_.-]{0,63}", seed):
+        raise Wrong(0, "a seed has letters, digits, points, dashes and underlines, at most 64")
+    to = given.get("--to") or f"{re.sub('[.]yard$', '', name)}-{seed}"
+    if name == "-" and "--to" not in given:
+        raise Wrong(0, "a text from standard input needs --to, the name of what is written", name)
+    with in_file(name):
+        yard = drawn(name)
+        parts = drawn_parts(yard)
+        numbering = fresh(seed, yard, parts)
+        new, images = renumbered(yard, parts, numbering)
+        new.blocking = [new.blocking[i] for i in shuffled(seed, "blocking", range(len(new.blocking)))]
+        words = text(new, images)
+        sheet = asked_sheet(yard, given["--sheet"], None) if "--sheet" in given else sheet_if_built(yard, given.get("--programs"))
+        bad = premises(yard, sheet)
+    put(f"{to}.yard", words)
+    put(f"{to}.numbering", f"# {os.path.basename(name)} under the seed {seed} is {os.path.basename(to)}.yard: each old number, and its new one\n{numbering.text()}")
+    tell_premises(name, bad)
+    return write_out(f"{to}.yard\n{to}.numbering\n".encode()) or (3 if bad else 0)
+
+
+def images_differ(slot, mine, theirs):
+    """The lines of two images that differ."""
+    if mine == theirs:
+        return
+    lines = [train_lines(x, slot) if train_text(x) is not None else ["an image that cannot be drawn"] for x in (mine, theirs)]
+    pairs = [(a, b) for a, b in itertools.zip_longest(*lines, fillvalue="nothing") if a != b]
+    for a, b in pairs[:3]:
+        yield f"slot {slot}: '{b}', and the numbering gives '{a}'"
+    if len(pairs) > 3:
+        yield f"slot {slot}: {len(pairs) - 3} lines more"
+
+
+def told(what, theirs, mine):
+    return [f"{what}: {theirs}, and the numbering gives {mine}"] if mine != theirs else []
+
+
+def yards_differ(mine, images, second):
+    """What of the second yard is not as the numbering gives it."""
+    yield from told("links", second.links, mine.links)
+    for l in sorted({*mine.occupied, *second.occupied}):
+        yield from told(f"the train on link {l}", second.occupied.get(l, (0,))[0], mine.occupied.get(l, (0,))[0])
+    yield from told("the blocking links", sorted(second.blocking), sorted(mine.blocking))
+    for what in ("moved", "begin", "limit", "local"):
+        yield from told(what, second.numbers[what], mine.numbers[what])
+    for l in sorted({*mine.flips, *second.flips}):
+        yield from told("the table", flip_line(l, *second.flips.get(l, (0, []))[:2]), flip_line(l, *mine.flips.get(l, (0, []))[:2]))
+    yield from told("the call", *(y.call and call_line(y.call) or "none" for y in (second, mine)))
+    for t, (a, b) in enumerate(zip(images, second.trains), 1):
+        yield from images_differ(t, a, b.bytes())
+    for what, a, b in (("bundle-byte", mine.patches, second.patches), ("yard-byte", mine.yard_patches, second.yard_patches)):
+        yield from told(f"the {what} lines", *([f"{at} {data.hex()}" for _, at, data in x] for x in (b, a)))
+
+
+def sheets_differ(first, second, numbering):
+    """What of the second sheet does not match: the next begin is not compared."""
+    yield from told("the sheet's first line", *(" ".join(s[0][:4] if "next" in s[0] else s[0]) for s in (second, first)))
+    if len(first) == len(second):
+        for row in first[1:]:
+            slot = numbering.train(int(row[0]))
+            want = [str(slot), row[1], row[2], str(numbering.train(int(row[3]))), *row[4:]]
+            for column, a, b in zip(COLUMNS, want, second[slot]):
+                yield from told(f"the sheet's slot {slot}, {column}", b, a)
+
+
+def matched(names, numbering, sheets, folder):
+    first, second = (drawn_in(name) for name in names)
+    for name, yard in zip(names, (first, second)):
+        if (yard.links, len(yard.trains)) != (numbering.links, numbering.slots):
+            return [f"{name} has links {yard.links} and slots {len(yard.trains)}, and the numbering {numbering.links} and {numbering.slots}"], []
+    with in_file(names[0]):
+        mine, images = renumbered(first, drawn_parts(first), numbering)
+    with in_file(names[1]):
+        out = list(yards_differ(mine, images, second))
+    if not sheets and first.call is not None:
+        raise Wrong(first.call[1], "the text names a call, so there is no sheet to ask for: give both answers as files", names[0])
+    a, b = (asked_sheet(y, s, folder) for y, s in zip((first, second), sheets or (None, None)))
+    more = list(sheets_differ(a, b, numbering))
+    return out + more, premises(first, a) if more else []
+
+
+def drawn_in(name):
+    with in_file(name):
+        return drawn(name)
+
+
+def match(args):
+    names, given = options(args, (3, 5), ["--programs"])
+    with in_file(names[2]):
+        numbering = read_numbering(text_of(read_file(names[2])))
+    out, bad = matched(names[:2], numbering, names[3:], given.get("--programs"))
+    tell_premises(names[0], bad)
+    words = out or [f"{names[1]} is {names[0]} under the numbering, and so are their sheets"]
+    return write_out("".join(f"{w}\n" for w in words).encode()) or (3 if out else 0)
