@@ -9,7 +9,6 @@ import programs
 from yard import EST, HEADER, NODE, Words, Wrong, Yard, drawn, in_file, once, options, read_file, tell, text_of, train_lines, train_text, write_out
 
 LARGEST = 65535  # the largest train
-COLUMNS = ["slot", "code word", "rounds", "holder", "strays", "faults", "free"]
 
 
 class Numbering:
@@ -194,22 +193,6 @@ def text(yard, parts):
 # ---- sheets
 
 
-def read_sheet(words, slots):
-    """The lines of a sheet, as lists of words: the first, and that of each slot."""
-    lines = [line.split() for line in words.rstrip("\n").split("\n")]
-    first = " ".join(lines[0])
-    if re.fullmatch(r"refused [0-9]+", first) and len(lines) == 1:
-        return lines
-    if not re.fullmatch(r"yard [0-9]+ (deadlock (yes|no) next [0-9]+|erred [0-9]+)", first):
-        raise Wrong(1, "this is no first line of a sheet")
-    if len(lines) != slots + 1 or int(lines[0][1]) != slots:
-        raise Wrong(1, f"the sheet is not one of {slots} slots")
-    for number, line in enumerate(lines[1:], 1):
-        if len(line) != len(COLUMNS) or line[0] != str(number) or not all(re.fullmatch("[0-9]{1,10}", x) for x in line[2:]):
-            raise Wrong(number + 1, f"this is no line of slot {number}")
-    return lines
-
-
 def premises(yard, sheet):
     """Where a premise of the third promise fails or is not known: the line of the text, and why."""
     bad = [(line, "the table is refused by 1") for l, (f, locks, line) in yard.flips.items() if max([l, f, *locks]) >= yard.links]
@@ -250,17 +233,9 @@ def put(name, words):
         raise Wrong(0, e.strerror, name)
 
 
-def asked_sheet(yard, name, folder):
-    """The sheet in a file, or the program's."""
-    if name is None:
-        return read_sheet(programs.sheet(yard, folder), len(yard.trains))
-    with in_file(name):
-        return read_sheet(text_of(read_file(name)), len(yard.trains))
-
-
 def sheet_if_built(yard, folder):
     try:
-        return asked_sheet(yard, None, folder)
+        return programs.sheet(yard, folder)
     except Wrong as w:
         tell(f"{w.name}: {w.why}")
         return None
@@ -280,7 +255,7 @@ def renumber(args):
         new, images = renumbered(yard, parts, numbering)
         new.blocking = [new.blocking[i] for i in shuffled(seed, "blocking", range(len(new.blocking)))]
         words = text(new, images)
-        sheet = asked_sheet(yard, given["--sheet"], None) if "--sheet" in given else sheet_if_built(yard, given.get("--programs"))
+        sheet = programs.sheet_in(given["--sheet"], yard) if "--sheet" in given else sheet_if_built(yard, given.get("--programs"))
         bad = premises(yard, sheet)
     put(f"{to}.yard", words)
     put(f"{to}.numbering", f"# {os.path.basename(name)} under the seed {seed} is {os.path.basename(to)}.yard: each old number, and its new one\n{numbering.text()}")
@@ -328,7 +303,7 @@ def sheets_differ(first, second, numbering):
         for row in first[1:]:
             slot = numbering.train(int(row[0]))
             want = [str(slot), row[1], row[2], str(numbering.train(int(row[3]))), *row[4:]]
-            for column, a, b in zip(COLUMNS, want, second[slot]):
+            for column, a, b in zip(programs.COLUMNS, want, second[slot]):
                 yield from told(f"the sheet's slot {slot}, {column}", b, a)
 
 
@@ -343,7 +318,8 @@ def matched(names, numbering, sheets, folder):
         out = list(yards_differ(mine, images, second))
     if not sheets and first.call is not None:
         raise Wrong(first.call[1], "the text names a call, so there is no sheet to ask for: give both answers as files", names[0])
-    a, b = (asked_sheet(y, s, folder) for y, s in zip((first, second), sheets or (None, None)))
+    pairs = zip((first, second), sheets or (None, None))
+    a, b = (programs.sheet_in(name, yard) if name else programs.sheet(yard, folder) for yard, name in pairs)
     more = list(sheets_differ(a, b, numbering))
     return out + more, premises(first, a) if more else []
 

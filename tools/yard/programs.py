@@ -1,9 +1,11 @@
-"""The proved programs that commands of yard run: those in target/bin, or in the folder that --programs names."""
+"""The proved programs that commands of yard run, in target/bin or in the folder that --programs names, and the sheets that they write."""
 import os
+import re
 import subprocess
 
-from yard import Wrong
+from yard import Wrong, in_file, read_file, text_of
 
+COLUMNS = ["slot", "code word", "rounds", "holder", "strays", "faults", "free"]
 BUILT = os.path.join(os.path.dirname(os.path.dirname(os.path.dirname(os.path.abspath(__file__)))), "target", "bin")
 
 
@@ -21,5 +23,29 @@ def output(name, given, folder):
     return ran.stdout
 
 
+def read_sheet(words, slots):
+    """The lines of a sheet, as lists of words: the first, and that of each slot."""
+    lines = [line.split() for line in words.rstrip("\n").split("\n")]
+    first = " ".join(lines[0])
+    if re.fullmatch(r"refused [0-9]{1,10}", first) and len(lines) == 1:
+        return lines
+    if not re.fullmatch(r"yard [0-9]{1,10} (deadlock (yes|no) next [0-9]{1,10}|erred [0-9]{1,10})", first):
+        raise Wrong(1, "this is no first line of a sheet")
+    if len(lines) != slots + 1 or int(lines[0][1]) != slots:
+        raise Wrong(1, f"the sheet is not one of {slots} slots")
+    for number, line in enumerate(lines[1:], 1):
+        if len(line) != len(COLUMNS) or line[0] != str(number) or not all(re.fullmatch("[0-9]{1,10}", x) for x in line[2:]):
+            raise Wrong(number + 1, f"this is no line of slot {number}")
+    return lines
+
+
 def sheet(yard, folder):
-    return output("sheet", yard.bundle(), folder).decode("utf-8", "replace")
+    """The sheet of a yard, by the program."""
+    with in_file("the sheet that the program wrote"):
+        return read_sheet(output("sheet", yard.bundle(), folder).decode("utf-8", "replace"), len(yard.trains))
+
+
+def sheet_in(name, yard):
+    """The sheet of a yard, in a file."""
+    with in_file(name):
+        return read_sheet(text_of(read_file(name)), len(yard.trains))
