@@ -102,11 +102,12 @@ def changed(what, before, after):
 
 def slot_lines(parts, row, occupancy, blocking):
     """What the check did to one slot."""
-    before, after = map(image, parts)
+    before = image(parts[0])
+    after = before if parts[0] == parts[1] else image(parts[1])
     out = row_words(row, after, len(occupancy), occupancy)
     if before is None or after is None:
         return out + ["its counts do not fit, so its path cannot be shown"]
-    out.append("the path is as it was:" if parts[0] == parts[1] else "the path, - for a node that left it, + for one that came, ~ for one that was moved:")
+    out.append("the path is as it was:" if before.nodes == after.nodes else "the path, - for a node that left it, + for one that came, ~ for one that was moved:")
     out += [f"  {line}" for line in path_lines(before, after, occupancy, blocking)]
     out.append("  " + "; ".join(changed(k, getattr(before, k), getattr(after, k)) for k in ("fixed", "free", "front", "back")))
     diverges = [", ".join(f"{t} at {n}" for t, n in x.diverges) for x in (before, after)]
