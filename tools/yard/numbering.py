@@ -6,7 +6,7 @@ import re
 import struct
 
 import programs
-from yard import EST, HEADER, NODE, Words, Wrong, Yard, drawn, in_file, once, options, read_file, tell, text_of, train_lines, train_text, write_out
+from yard import EST, HEADER, NODE, Words, Wrong, Yard, drawn_whole, in_file, once, options, plain, read_file, tell, text_of, train_lines, train_text, write_out
 
 LARGEST = 65535  # the largest train
 
@@ -212,6 +212,7 @@ def premises(yard, sheet):
 
 
 def tell_premises(name, bad):
+    name = plain(name)
     for line, why in bad:
         tell(f"{name}:{line}: {why}" if line else f"{name}: {why}")
     if bad:
@@ -249,7 +250,7 @@ def renumber(args):
     if name == "-" and "--to" not in given:
         raise Wrong(0, "a text from standard input needs --to, the name of what is written", name)
     with in_file(name):
-        yard = drawn(name)
+        yard = drawn_whole(name)
         parts = drawn_parts(yard)
         numbering = fresh(seed, yard, parts)
         new, images = renumbered(yard, parts, numbering)
@@ -258,9 +259,10 @@ def renumber(args):
         sheet = programs.sheet_in(given["--sheet"], yard) if "--sheet" in given else sheet_if_built(yard, given.get("--programs"))
         bad = premises(yard, sheet)
     put(f"{to}.yard", words)
-    put(f"{to}.numbering", f"# {os.path.basename(name)} under the seed {seed} is {os.path.basename(to)}.yard: each old number, and its new one\n{numbering.text()}")
+    old, fresh_name = (plain(os.path.basename(x)) for x in (name, to))
+    put(f"{to}.numbering", f"# {old} under the seed {seed} is {fresh_name}.yard: each old number, and its new one\n{numbering.text()}")
     tell_premises(name, bad)
-    return write_out(f"{to}.yard\n{to}.numbering\n".encode()) or (3 if bad else 0)
+    return write_out(os.fsencode(f"{to}.yard\n{to}.numbering\n")) or (3 if bad else 0)
 
 
 def images_differ(slot, mine, theirs):
@@ -311,7 +313,7 @@ def matched(names, numbering, sheets, folder):
     first, second = (drawn_in(name) for name in names)
     for name, yard in zip(names, (first, second)):
         if (yard.links, len(yard.trains)) != (numbering.links, numbering.slots):
-            return [f"{name} has links {yard.links} and slots {len(yard.trains)}, and the numbering {numbering.links} and {numbering.slots}"], []
+            return [f"{plain(name)} has links {yard.links} and slots {len(yard.trains)}, and the numbering {numbering.links} and {numbering.slots}"], []
     with in_file(names[0]):
         mine, images = renumbered(first, drawn_parts(first), numbering)
     with in_file(names[1]):
@@ -326,7 +328,7 @@ def matched(names, numbering, sheets, folder):
 
 def drawn_in(name):
     with in_file(name):
-        return drawn(name)
+        return drawn_whole(name)
 
 
 def match(args):
@@ -335,5 +337,5 @@ def match(args):
         numbering = read_numbering(text_of(read_file(names[2])))
     out, bad = matched(names[:2], numbering, names[3:], given.get("--programs"))
     tell_premises(names[0], bad)
-    words = out or [f"{names[1]} is {names[0]} under the numbering, and so are their sheets"]
+    words = out or [f"{plain(names[1])} is {plain(names[0])} under the numbering, and so are their sheets"]
     return write_out("".join(f"{w}\n" for w in words).encode()) or (3 if out else 0)
