@@ -222,21 +222,24 @@ def tell_premises(name, bad):
 # ---- the commands
 
 
-def put(name, words):
-    """Writes a file, unless it is there with other words."""
-    try:
-        with open(name, "x", encoding="utf-8") as f:
-            f.write(words)
-    except FileExistsError:
-        if read_file(name) != words.encode():
-            raise Wrong(0, "there is such a file already with other words; --to names another", name)
-    except OSError as e:
-        raise Wrong(0, e.strerror, name)
+def put(files):
+    """Writes files, unless one of them is there with other words."""
+    for name, words in files.items():
+        with in_file(name):
+            if os.path.lexists(name) and read_file(name) != words.encode():
+                raise Wrong(0, "there is such a file already with other words; --to names another")
+    for name, words in files.items():
+        try:
+            with open(name, "w", encoding="utf-8") as f:
+                f.write(words)
+        except OSError as e:
+            raise Wrong(0, e.strerror, name)
 
 
 def sheet_if_built(yard, folder):
+    """The program's sheet; None where the program cannot be run, and for a mark or release, which has none."""
     try:
-        return programs.sheet(yard, folder)
+        return None if yard.call and yard.call[0] == "mark" else programs.sheet(yard, folder)
     except Wrong as w:
         tell(f"{w.name}: {w.why}")
         return None
@@ -258,9 +261,9 @@ def renumber(args):
         words = text(new, images)
         sheet = programs.sheet_in(given["--sheet"], yard) if "--sheet" in given else sheet_if_built(yard, given.get("--programs"))
         bad = premises(yard, sheet)
-    put(f"{to}.yard", words)
     old, fresh_name = (plain(os.path.basename(x)) for x in (name, to))
-    put(f"{to}.numbering", f"# {old} under the seed {seed} is {fresh_name}.yard: each old number, and its new one\n{numbering.text()}")
+    remark = f"# {old} under the seed {seed} is {fresh_name}.yard: each old number, and its new one\n"
+    put({f"{to}.yard": words, f"{to}.numbering": remark + numbering.text()})
     tell_premises(name, bad)
     return write_out(os.fsencode(f"{to}.yard\n{to}.numbering\n")) or (3 if bad else 0)
 
@@ -310,20 +313,22 @@ def sheets_differ(first, second, numbering):
 
 
 def matched(names, numbering, sheets, folder):
+    """What does not match, the premises that fail where sheets do not match, and whether sheets were held against each other, in words."""
     first, second = (drawn_in(name) for name in names)
     for name, yard in zip(names, (first, second)):
         if (yard.links, len(yard.trains)) != (numbering.links, numbering.slots):
-            return [f"{plain(name)} has links {yard.links} and slots {len(yard.trains)}, and the numbering {numbering.links} and {numbering.slots}"], []
+            return [f"{plain(name)} has links {yard.links} and slots {len(yard.trains)}, and the numbering {numbering.links} and {numbering.slots}"], [], ""
     with in_file(names[0]):
         mine, images = renumbered(first, drawn_parts(first), numbering)
     with in_file(names[1]):
         out = list(yards_differ(mine, images, second))
     if not sheets and first.call is not None:
-        raise Wrong(first.call[1], "the text names a call, so there is no sheet to ask for: give both answers as files", names[0])
+        tell(f"{plain(names[0])}:{first.call[1]}: the text names a call, so there are no sheets to hold against each other")
+        return out, [], ""
     pairs = zip((first, second), sheets or (None, None))
     a, b = (programs.sheet_in(name, yard) if name else programs.sheet(yard, folder) for yard, name in pairs)
     more = list(sheets_differ(a, b, numbering))
-    return out + more, premises(first, a) if more else []
+    return out + more, premises(first, a) if more else [], ", and so are their sheets"
 
 
 def drawn_in(name):
@@ -335,7 +340,7 @@ def match(args):
     names, given = options(args, (3, 5), ["--programs"])
     with in_file(names[2]):
         numbering = read_numbering(text_of(read_file(names[2])))
-    out, bad = matched(names[:2], numbering, names[3:], given.get("--programs"))
+    out, bad, sheets = matched(names[:2], numbering, names[3:], given.get("--programs"))
     tell_premises(names[0], bad)
-    words = out or [f"{plain(names[1])} is {plain(names[0])} under the numbering, and so are their sheets"]
+    words = out or [f"{plain(names[1])} is {plain(names[0])} under the numbering" + sheets]
     return write_out("".join(f"{w}\n" for w in words).encode()) or (3 if out else 0)
