@@ -12,7 +12,7 @@ mod updates;
 
 use oracle::cases::Case;
 use oracle::rng::Rng;
-use oracle::{calls, gen, model};
+use oracle::{calls, model};
 use std::process::exit;
 use tally::Tally;
 use update_time::JOINS;
@@ -59,20 +59,10 @@ impl Run {
     /// Refusals 6 to 9 of an image, half of them damaged.
     fn image(&mut self) {
         let rng = &mut self.rng;
-        let case = some_train(rng);
+        let case = calls::some_train(rng);
         let links = case.occ.len();
         let image = if rng.chance(50) { case.damaged(rng).image } else { case.image };
         self.tally.add_image(&image.into_boxed_slice(), links);
-    }
-}
-
-/// A train of any of the generators: small and odd, dense, large.
-fn some_train(rng: &mut Rng) -> gen::UpdateCase {
-    match rng.below(20) {
-        0..=11 => gen::odd_update(rng),
-        12..=15 => gen::twin_update(rng),
-        16..=18 => calls::dense(rng),
-        _ => gen::large_update(rng),
     }
 }
 

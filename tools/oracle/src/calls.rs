@@ -5,6 +5,7 @@ use crate::demand3;
 use crate::gen::*;
 use crate::layout::*;
 use crate::leaves;
+use crate::model::LINKS;
 use crate::rng::Rng;
 use crate::yards::*;
 
@@ -161,6 +162,41 @@ pub fn list(rng: &mut Rng) -> Case {
     Case::list(&first, &calls)
 }
 
+/// A train of any of the generators: small and odd, dense, large.
+pub fn some_train(rng: &mut Rng) -> UpdateCase {
+    match rng.below(20) {
+        0..=11 => odd_update(rng),
+        12..=15 => twin_update(rng),
+        16..=18 => dense(rng),
+        _ => large_update(rng),
+    }
+}
+
+/// The path records of an image that has them all: where each begins.
+fn path_records(image: &[u8]) -> impl Iterator<Item = usize> {
+    let (e, n) = (u32_at(image, 4) as usize, u32_at(image, 8) as usize);
+    (0..n).map(move |i| path_offset(e) + RECORD * i)
+}
+
+/// A page of a train whose offsets are about halves of a metre; some buffers are longer or too short.
+pub fn page(rng: &mut Rng) -> Case {
+    let mut image = some_train(rng).image;
+    path_records(&image).for_each(|at| put_f64(&mut image, at, rounded_offset(rng)));
+    let size = 40 * u32_at(&image, 8) as usize;
+    if rng.chance(10) {
+        image = damaged(rng, &image, LINKS);
+    }
+    let room = match rng.below(20) {
+        0 => 0,
+        1 => size - 1,
+        2 => rng.below(size),
+        3..=6 => size + rng.from(1, 100),
+        _ => size,
+    };
+    let page: Vec<u8> = (0..room).map(|i| i as u8 | 0x80).collect();
+    Case::page(&image, &page)
+}
+
 /// A case of any operation of document 01.
 pub fn any(rng: &mut Rng) -> Case {
     match rng.below(100) {
@@ -184,6 +220,7 @@ pub fn by_name(name: &str, rng: &mut Rng) -> Option<Case> {
         "sheet" => sheet(rng),
         "list" => list(rng),
         "leaf" => leaves::any(rng),
+        "page" => page(rng),
         "any" => any(rng),
         _ => return None,
     })

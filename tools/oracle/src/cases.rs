@@ -19,6 +19,7 @@ pub const UNION: u32 = 9;
 pub const NEAR: u32 = 10;
 pub const STEP: u32 = 11;
 pub const LIST: u32 = 12;
+pub const PAGE: u32 = 13;
 
 const HEAD: usize = 104;
 /// The length of an output buffer that is as its input was.
@@ -43,6 +44,7 @@ fn before(op: u32) -> [Option<usize>; 2] {
         UPDATE => [Some(0), None],
         CHECK => [Some(0), Some(3)],
         UNION => [Some(0), None],
+        PAGE => [Some(1), None],
         _ => [None, None],
     }
 }
@@ -82,6 +84,10 @@ impl Case {
         Case { op: LIST, args, ins, outs: [write_all(calls), vec![]], ..Case::default() }
     }
 
+    pub fn page(image: &[u8], page: &[u8]) -> Case {
+        Case { op: PAGE, ins: [image.to_vec(), page.to_vec(), vec![], vec![]], ..Case::default() }
+    }
+
     pub fn tagged(mut self, tag: u32) -> Case {
         self.tag = tag;
         self
@@ -98,6 +104,7 @@ impl Case {
             CHECK => self.answer_check(),
             SHEET => self.outs = [model::sheet(&self.ins[0]).into_bytes(), vec![]],
             LIST => self.answer_list(),
+            PAGE => self.answer_page(),
             _ => leaves::answer(&mut self),
         }
         self
@@ -178,6 +185,13 @@ impl Case {
             (call.ins[0], call.ins[1]) = (vec![], vec![]);
         }
         self.outs = [write_all(&calls), vec![]];
+    }
+
+    fn answer_page(&mut self) {
+        let mut page = self.ins[1].clone();
+        let r = model::page(&self.ins[0], &mut page, model::ROUNDING);
+        self.put_plain(r);
+        self.outs = [page, vec![]];
     }
 
     /// The calls of a list.

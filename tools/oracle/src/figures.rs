@@ -50,6 +50,14 @@ fn refused(op: &str, number: u32) -> String {
     format!("{op:<7}refused {number:2}")
 }
 
+/// The name of an answer that is a refusal or none.
+fn done(op: &str, number: u32) -> String {
+    match number {
+        0 => format!("{op:<7}done"),
+        n => refused(op, n),
+    }
+}
+
 fn slot_code(code: u16) -> String {
     format!("slot   code {code:2}")
 }
@@ -68,10 +76,9 @@ fn sheet_name(text: &[u8]) -> String {
 fn names(c: &Case) -> Vec<String> {
     let a = c.answer;
     match c.op {
-        MARK if a[0] == 0 => vec!["mark   done".into()],
-        MARK => vec![refused("mark", a[0])],
-        LAY_OUT if a[0] == 0 => vec!["layout done".into()],
-        LAY_OUT => vec![refused("layout", a[0])],
+        MARK => vec![done("mark", a[0])],
+        LAY_OUT => vec![done("layout", a[0])],
+        PAGE => vec![done("page", a[0])],
         UPDATE if a[0] < 3 => vec![format!("update {}", ["success", "blocked", "faulty"][a[0] as usize])],
         UPDATE if a[1] == 11 => {
             vec![refused("update", 11), format!("{} by {}", refused("update", 11), hook::state().cause)]

@@ -94,6 +94,49 @@ fn odd_offset(rng: &mut Rng) -> f64 {
     }
 }
 
+/// Offsets that a rounding may get wrong.
+const ROUNDED: [f64; 14] = [
+    0.0,
+    0.3,
+    0.49999999999999994,
+    0.5,
+    0.5000000000000001,
+    1.5,
+    2.5,
+    3.5,
+    f64::from_bits(1),
+    f64::MIN_POSITIVE,
+    999_999_999_998.5,
+    999_999_999_999.5,
+    999_999_999_999.9999,
+    1e12,
+];
+
+/// An offset of at most 1e12 in magnitude: a half, a float beside one, or anything.
+pub fn rounded_offset(rng: &mut Rng) -> f64 {
+    let whole = match rng.below(3) {
+        0 => rng.below(20) as u64,
+        1 => rng.next() % 1_000_000_000_000,
+        _ => (1 << rng.below(40)) - rng.below(2) as u64,
+    };
+    let half = whole as f64 + 0.5;
+    let size = match rng.below(12) {
+        0..=3 => half,
+        4 => half.next_up(),
+        5 => half.next_down(),
+        6 => whole as f64,
+        7..=8 => rng.pick(&ROUNDED),
+        // a fraction behind as many bits as there are
+        9..=10 => half.min(5e11) * (1.0 + rng.unit()),
+        _ => f64::from_bits(rng.next() % (1e12f64.to_bits() + 1)),
+    };
+    if rng.chance(50) {
+        -size
+    } else {
+        size
+    }
+}
+
 fn odd_event(rng: &mut Rng, l: usize) -> (u8, u32) {
     match rng.below(8) {
         0..=4 => (ARRIVE, rng.from(1, l - 1) as u32),

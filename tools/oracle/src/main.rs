@@ -1,6 +1,6 @@
 //! The command line of the oracle.
 
-use oracle::cases::{read_all, Case, SHEET};
+use oracle::cases::{read_all, Case, PAGE, SHEET};
 use oracle::demand3::{self, Premises, ALL};
 use oracle::rng::Rng;
 use oracle::{calls, figures, model, record, selftest};
@@ -8,12 +8,12 @@ use std::io::{Read, Write};
 use std::process::exit;
 
 const USAGE: &str = "usage:
-  oracle selftest                         document 01's examples on the original text
+  oracle selftest                         document 01's examples on the original text, and the change requests'
   oracle answer  < CASES > CASES          the same cases with the oracle's answers
   oracle compare < CASES                  the oracle's answers against those in the cases
   oracle show    < CASES                  one line for each case
   oracle summary < CASES                  counts of answers, sites and branches
-  oracle generate KIND SEED COUNT > CASES KIND: mark, layout, update, large, check, tidy, sheet, list, leaf, any
+  oracle generate KIND SEED COUNT > CASES KIND: mark, layout, update, large, check, tidy, sheet, list, leaf, page, any
   oracle record SEED > CASES              the recorded list
   oracle fuzz SEED UPDATES                plain text against hooked text, and counts
   oracle demand3 SEED LISTS [PREMISE]     PREMISE left out: begin, entry0, strays";
@@ -49,7 +49,7 @@ fn compare(cases: Vec<Case>) -> bool {
 fn show(cases: Vec<Case>) {
     for (i, c) in cases.iter().enumerate() {
         let ins: Vec<usize> = c.ins.iter().map(Vec::len).collect();
-        let text = if c.op == SHEET {
+        let text = if c.op == SHEET || c.op == PAGE && c.answer[0] == 0 {
             String::from_utf8_lossy(&c.outs[0]).replace('\n', " / ")
         } else {
             String::new()

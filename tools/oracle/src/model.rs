@@ -7,6 +7,7 @@ use crate::shims::si;
 use crate::text::structs::*;
 use crate::text::{hooked, plain};
 use std::cell::Cell;
+use std::fmt::Write;
 use std::num::NonZeroU16;
 use std::panic::{catch_unwind, AssertUnwindSafe};
 
@@ -649,4 +650,37 @@ pub fn sheet(bytes: &[u8]) -> String {
         );
     }
     text
+}
+
+// ---- page
+
+/// L of a call that has no occupancy.
+pub const LINKS: usize = 4_000;
+
+/// Gives the nearest whole number of a float.
+pub type Rounding = fn(f64) -> f64;
+
+/// How a page rounds: halves away from zero.
+pub const ROUNDING: Rounding = f64::round;
+
+/// A line for each node of the path, 39 columns and a line end.
+pub fn lines(t: &Train, round: Rounding) -> String {
+    let mut text = String::with_capacity(40 * t.path.len());
+    for (i, x) in t.path.iter().enumerate() {
+        let kind = ["Arrive", "Clear", "Fake"][x.kind as usize];
+        // a whole number in place of the float: its zero has no sign
+        let offset = round(x.offset) as i64;
+        writeln!(text, "{i:>5} {:>5} {kind:<6} {:>5} {offset:>14}", x.est, x.link).expect("text has room");
+    }
+    text
+}
+
+pub fn page(image: &[u8], page: &mut [u8], round: Rounding) -> Result<(), Refusal> {
+    let t = read_image(image, LINKS)?;
+    let size = 40 * t.path.len();
+    if page.len() < size {
+        return Err(refusal(18));
+    }
+    page[..size].copy_from_slice(lines(&t, round).as_bytes());
+    Ok(())
 }

@@ -1,4 +1,4 @@
-//! Document 01's examples, run on the original text.
+//! Document 01's examples, run on the original text, and those of the change requests.
 
 use crate::layout::*;
 use crate::model;
@@ -67,7 +67,23 @@ pub fn sheet_bundle() -> Vec<u8> {
 
 pub const SHEET: &str = "yard 2 deadlock no next 1\n1 success 1 0 0 0 0\n2 moved 0 0 0 0 0\n";
 
-/// Each example with its value and what document 01 says.
+/// The page of a train of one node at this offset.
+fn page(offset: f64) -> String {
+    let est = [Est { dist_to_next: 0.0, next: 0, alt: 0, prev: 0, prev_alt: 0, link: 7, kind: CLEAR }];
+    let mut image = vec![0; image_size(1, 2)];
+    model::lay_out(&est_bytes(&est), 1, 0.0, 0.0, 2, 8, &mut image).unwrap();
+    put_f64(&mut image, path_offset(1), offset);
+    let mut page = [0; 40];
+    model::page(&image, &mut page, model::ROUNDING).unwrap();
+    String::from_utf8_lossy(&page).into_owned()
+}
+
+/// The offset's column of that page, without its blanks.
+fn metres(offset: f64) -> String {
+    page(offset)[25..].trim().into()
+}
+
+/// Each example with its value and what document 01 or a change request says.
 fn examples() -> Vec<(&'static str, String, &'static str)> {
     let near = |a: f64, b: f64| if utils::near(a, b) { "yes" } else { "no" }.to_string();
     vec![
@@ -84,10 +100,19 @@ fn examples() -> Vec<(&'static str, String, &'static str)> {
         ("P11", near(1_000_000.0, 1_000_000.0078125), "yes"),
         ("P12", near(0.0, 1e-8), "no"),
         ("sheet", model::sheet(&sheet_bundle()), SHEET),
+        ("page", page(-1e12), "    0     0 Clear      7 -1000000000000\n"),
+        ("Q-1", metres(2.5), "3"),
+        ("Q-1", metres(3.5), "4"),
+        ("Q-1", metres(0.5), "1"),
+        ("Q-1", metres(-0.5), "-1"),
+        ("Q-1", metres(-0.3), "0"),
+        ("Q-1", metres(-0.0), "0"),
+        ("Q-1", metres(0.49999999999999994), "0"),
+        ("Q-1", metres(999_999_999_999.5), "1000000000000"),
     ]
 }
 
-/// Prints each example; true where all are as document 01 says.
+/// Prints each example; true where all are as they should be.
 pub fn run() -> bool {
     let mut ok = true;
     for (name, is, should) in examples() {
