@@ -172,10 +172,15 @@ pub fn some_train(rng: &mut Rng) -> UpdateCase {
     }
 }
 
-/// The path records of an image that has them all: where each begins.
+/// Where the path records of an image begin, that is their offsets.
 fn path_records(image: &[u8]) -> impl Iterator<Item = usize> {
     let (e, n) = (u32_at(image, 4) as usize, u32_at(image, 8) as usize);
     (0..n).map(move |i| path_offset(e) + RECORD * i)
+}
+
+/// Where the distances of an image are: of the header, of the est records.
+fn distances(image: &[u8]) -> impl Iterator<Item = usize> {
+    [48, 56].into_iter().chain((0..u32_at(image, 4) as usize).map(|i| HEADER + RECORD * i))
 }
 
 /// A page of a train whose offsets are about halves of a metre; some buffers are longer or too short.
@@ -195,6 +200,26 @@ pub fn page(rng: &mut Rng) -> Case {
     };
     let page: Vec<u8> = (0..room).map(|i| i as u8 | 0x80).collect();
     Case::page(&image, &page)
+}
+
+/// A train whose distances and offsets are in the profile; of half of the trains one of them may not be.
+pub fn profile(rng: &mut Rng) -> Case {
+    let mut image = some_train(rng).image;
+    let distances: Vec<usize> = distances(&image).collect();
+    let offsets: Vec<usize> = path_records(&image).collect();
+    distances.iter().chain(&offsets).for_each(|&at| put_f64(&mut image, at, profile_value(rng)));
+    if rng.chance(50) {
+        let at = match rng.below(3) {
+            0 => rng.pick(&distances[..2]),
+            1 => rng.pick(&distances[2..]),
+            _ => rng.pick(&offsets),
+        };
+        put_f64(&mut image, at, beside_profile(rng));
+    }
+    if rng.chance(10) {
+        image = damaged(rng, &image, LINKS);
+    }
+    Case::profile(&image)
 }
 
 /// A case of any operation of document 01.
@@ -221,6 +246,7 @@ pub fn by_name(name: &str, rng: &mut Rng) -> Option<Case> {
         "list" => list(rng),
         "leaf" => leaves::any(rng),
         "page" => page(rng),
+        "profile" => profile(rng),
         "any" => any(rng),
         _ => return None,
     })

@@ -20,6 +20,7 @@ pub const NEAR: u32 = 10;
 pub const STEP: u32 = 11;
 pub const LIST: u32 = 12;
 pub const PAGE: u32 = 13;
+pub const PROFILE: u32 = 14;
 
 const HEAD: usize = 104;
 /// The length of an output buffer that is as its input was.
@@ -88,6 +89,10 @@ impl Case {
         Case { op: PAGE, ins: [image.to_vec(), page.to_vec(), vec![], vec![]], ..Case::default() }
     }
 
+    pub fn profile(image: &[u8]) -> Case {
+        Case { op: PROFILE, ins: [image.to_vec(), vec![], vec![], vec![]], ..Case::default() }
+    }
+
     pub fn tagged(mut self, tag: u32) -> Case {
         self.tag = tag;
         self
@@ -105,6 +110,7 @@ impl Case {
             SHEET => self.outs = [model::sheet(&self.ins[0]).into_bytes(), vec![]],
             LIST => self.answer_list(),
             PAGE => self.answer_page(),
+            PROFILE => self.put_plain(model::profile(&self.ins[0])),
             _ => leaves::answer(&mut self),
         }
         self

@@ -47,13 +47,13 @@ pub struct Figures {
 }
 
 fn refused(op: &str, number: u32) -> String {
-    format!("{op:<7}refused {number:2}")
+    format!("{op:<6} refused {number:2}")
 }
 
 /// The name of an answer that is a refusal or none.
 fn done(op: &str, number: u32) -> String {
     match number {
-        0 => format!("{op:<7}done"),
+        0 => format!("{op:<6} done"),
         n => refused(op, n),
     }
 }
@@ -79,6 +79,7 @@ fn names(c: &Case) -> Vec<String> {
         MARK => vec![done("mark", a[0])],
         LAY_OUT => vec![done("layout", a[0])],
         PAGE => vec![done("page", a[0])],
+        PROFILE => vec![done("profile", a[0])],
         UPDATE if a[0] < 3 => vec![format!("update {}", ["success", "blocked", "faulty"][a[0] as usize])],
         UPDATE if a[1] == 11 => {
             vec![refused("update", 11), format!("{} by {}", refused("update", 11), hook::state().cause)]

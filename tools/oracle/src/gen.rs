@@ -2,6 +2,7 @@
 //! large ones, and damaged images. `yards` makes whole yards.
 
 use crate::layout::*;
+use crate::model::PROFILE_MOST;
 use crate::rng::Rng;
 
 /// The arguments of one update.
@@ -134,6 +135,34 @@ pub fn rounded_offset(rng: &mut Rng) -> f64 {
         -size
     } else {
         size
+    }
+}
+
+/// A value of the profile, -0.0 among them.
+pub fn profile_value(rng: &mut Rng) -> f64 {
+    let steps = match rng.below(8) {
+        0 => return -0.0,
+        1 => rng.pick(&[0, 1, 2, PROFILE_MOST - 1, PROFILE_MOST]),
+        2 => rng.below(40) as u64 * 1_024,
+        _ => rng.next() % (PROFILE_MOST + 1),
+    };
+    steps as f64 / 1_024.0
+}
+
+/// A value about the bounds of the profile and its unit; most are outside it.
+pub fn beside_profile(rng: &mut Rng) -> f64 {
+    let inside = profile_value(rng);
+    match rng.below(10) {
+        0 => inside.next_up(),
+        1 => inside.next_down(),
+        2 => inside + 1.0 / 2_048.0,
+        3 => -inside,
+        4 => 40_000.0 + inside,
+        5 => rng.pick(&[40_000f64.next_up(), 40_000f64.next_down(), 40_000.0 + 1.0 / 1_024.0, 50_000.0]),
+        6 => rng.pick(&[f64::from_bits(1), -f64::from_bits(1), f64::MIN_POSITIVE, 1.0 / 1_048_576.0]),
+        7 => rng.pick(&[0.1, -1.0 / 1_024.0, 1e12, 999_999_999_999.5, 549_755_813_888.0]),
+        8 => rng.unit() * 40_000.0,
+        _ => f64::from_bits(rng.next() % (1e12f64.to_bits() + 1)),
     }
 }
 

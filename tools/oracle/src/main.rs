@@ -13,7 +13,7 @@ const USAGE: &str = "usage:
   oracle compare < CASES                  the oracle's answers against those in the cases
   oracle show    < CASES                  one line for each case
   oracle summary < CASES                  counts of answers, sites and branches
-  oracle generate KIND SEED COUNT > CASES KIND: mark, layout, update, large, check, tidy, sheet, list, leaf, page, any
+  oracle generate KIND SEED COUNT > CASES KIND: mark, layout, update, large, check, tidy, sheet, list, leaf, page, profile, any
   oracle record SEED > CASES              the recorded list
   oracle fuzz SEED UPDATES                plain text against hooked text, and counts
   oracle demand3 SEED LISTS [PREMISE]     PREMISE left out: begin, entry0, strays";

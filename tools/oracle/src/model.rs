@@ -684,3 +684,38 @@ pub fn page(image: &[u8], page: &mut [u8], round: Rounding) -> Result<(), Refusa
     page[..size].copy_from_slice(lines(&t, round).as_bytes());
     Ok(())
 }
+
+// ---- profile
+
+/// The largest multiple of 1/1024 metre in the profile, 40,000 metres.
+pub const PROFILE_MOST: u64 = 40_960_000;
+
+/// Is a float k/1024 with k from 0 to 40,960,000? By its bits: its size is a significand times 2 to the power of
+/// an exponent - 1075.
+pub fn in_profile(x: f64) -> bool {
+    let (negative, exponent, fraction) =
+        (x.is_sign_negative(), x.to_bits() >> 52 & 0x7ff, x.to_bits() & ((1 << 52) - 1));
+    let significand = if exponent == 0 { fraction } else { fraction | 1 << 52 };
+    if significand == 0 {
+        return true;
+    }
+    // 1,024 times the size is the significand without so many bits at its end, which must be 0
+    match 1_065u64.checked_sub(exponent.max(1)) {
+        Some(bits) if bits <= significand.trailing_zeros() as u64 => {
+            !negative && significand >> bits <= PROFILE_MOST
+        }
+        _ => false,
+    }
+}
+
+pub fn profile(image: &[u8]) -> Result<(), Refusal> {
+    let t = read_image(image, LINKS)?;
+    let distances = t.est.iter().map(|x| x.dist_to_next);
+    let settings = [t.dist_disp_path_search, t.dist_fixed_max];
+    let offsets = t.path.iter().map(|x| x.offset);
+    if distances.chain(settings).chain(offsets).all(in_profile) {
+        Ok(())
+    } else {
+        Err(refusal(29))
+    }
+}

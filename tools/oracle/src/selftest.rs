@@ -67,20 +67,28 @@ pub fn sheet_bundle() -> Vec<u8> {
 
 pub const SHEET: &str = "yard 2 deadlock no next 1\n1 success 1 0 0 0 0\n2 moved 0 0 0 0 0\n";
 
-/// The page of a train of one node at this offset.
-fn page(offset: f64) -> String {
+/// A train of one node at this offset.
+fn one_node(offset: f64) -> Vec<u8> {
     let est = [Est { dist_to_next: 0.0, next: 0, alt: 0, prev: 0, prev_alt: 0, link: 7, kind: CLEAR }];
     let mut image = vec![0; image_size(1, 2)];
     model::lay_out(&est_bytes(&est), 1, 0.0, 0.0, 2, 8, &mut image).unwrap();
     put_f64(&mut image, path_offset(1), offset);
+    image
+}
+
+fn page(offset: f64) -> String {
     let mut page = [0; 40];
-    model::page(&image, &mut page, model::ROUNDING).unwrap();
+    model::page(&one_node(offset), &mut page, model::ROUNDING).unwrap();
     String::from_utf8_lossy(&page).into_owned()
 }
 
 /// The offset's column of that page, without its blanks.
 fn metres(offset: f64) -> String {
     page(offset)[25..].trim().into()
+}
+
+fn profile(offset: f64) -> String {
+    model::profile(&one_node(offset)).map_or_else(|r| format!("refused {}", r.number), |()| "within".into())
 }
 
 /// Each example with its value and what document 01 or a change request says.
@@ -109,6 +117,12 @@ fn examples() -> Vec<(&'static str, String, &'static str)> {
         ("Q-1", metres(-0.0), "0"),
         ("Q-1", metres(0.49999999999999994), "0"),
         ("Q-1", metres(999_999_999_999.5), "1000000000000"),
+        ("Q-13", profile(-0.0), "within"),
+        ("Q-13", profile(1.0 / 1_024.0), "within"),
+        ("Q-13", profile(1.0 / 2_048.0), "refused 29"),
+        ("Q-13", profile(-1.0 / 1_024.0), "refused 29"),
+        ("Q-13", profile(40_000.0), "within"),
+        ("Q-13", profile(40_000.0 + 1.0 / 1_024.0), "refused 29"),
     ]
 }
 
