@@ -1,0 +1,227 @@
+-- An update that ends in Success and leaves an image in the profile leaves exact steps. Assumes nothing.
+use mathlib.Core.Path.{_≡_, refl, sym, ap, _∙_, subst}
+use mathlib.Core.Bool.{Bool, true, false, not, cond, _&&_, _||_, true≢false}
+use mathlib.Core.List.{List, [], _∷_}
+use Prim.Native.Nat.{ℕ, zero, suc, _+_, _<_}
+use native.Mathlib.Omega.{arith}
+use lib.ListN.{length}
+use lib.Dec.{leb}
+use borrow.Author.Tests.{not-false}
+use Rattle.disp_structs.specs.Values.{sameEst, near, minus}
+use Rattle.disp_structs.specs.Train.{Train}
+use Rattle.disp_structs.specs.declared.EstTime.{EstTime}
+use Rattle.disp_structs.specs.declared.DispNode.{DispNode}
+use Rattle.free_path.specs.Base.{Res, ok, no, at}
+use Rattle.free_path.specs.Validate.{stepsNext, stepsAlt, badStep, badSteps, badPath, validateFreePath}
+use Rattle.train_update.specs.State.{Ended, atEnd, blockedAt, again}
+use Rattle.train_update.specs.Update.{Given, Status, Success, Blocked, Faulty, Refused, Updated, Between, faultsOf, finish, afterRound, due, roundsFrom, roundOf, straysOf, startOf, givenOf, updateFrom, updateFreePath}
+use Rattle.update_laws.proofs.Answers.{no-ok, ok-same, bind-ok, need-ok}
+use Rattle.link_rules.specs.declared.link_idx.LinkIdx.{LinkIdx}
+use Rattle.link_rules.specs.declared.link_idx.TrainIdx.{TrainIdx}
+use Rattle.link_rules.proofs.OctetLaws.{Bytes}
+use Rattle.disp_structs.specs.Listed.{listed}
+use Rattle.image.specs.Image.{estCount, pathCount, estAt, nodeAt}
+use Rattle.image.specs.Codec.{decoded}
+use Rattle.image_fault.specs.ImageFault.{imageFault}
+use Rattle.image_fault.proofs.AcceptLaws as Clean
+use Rattle.update_laws.specs.Ended.{Leaves}
+use Rattle.update_laws.proofs.Updates.{StaysFit}
+use Rattle.update_image.specs.UpdateImage.{UpdatedImage, callFault, linkIdxs, answerBy, updateFault, updatedImage}
+use Rattle.update_image.proofs.PathReads.{listed-read, read-listed}
+use Rattle.update_image.proofs.UpdateLeaves.{Trains16, leaves, left-holds}
+use Rattle.track_profile.specs.Profile.{InProfile, distAt, offsetAt}
+use Rattle.track_profile.specs.ExactSteps.{StepsExact, SuccessIsExact, estOf}
+use Rattle.track_profile.proofs.NearLaws.{near-equal, step-exact}
+use Rattle.track_profile.proofs.ProfileLaws.{worth-units}
+use Rattle.track_profile.proofs.ImageLaws.{DistsInProfile, OffsetsInProfile, in-profile}
+
+-- ---- no error is counted: no step is bad
+
+pub record StepRight (est : List EstTime) (a b : DispNode) : Type 0 where
+  pub from : EstTime
+  pub to : EstTime
+  pub from-at : at est (a .«est_idx» .0) ≡ ok from
+  pub to-at : at est (b .«est_idx» .0) ≡ ok to
+  pub right : badStep a b from to ≡ false
+
+none-bad : (t : Bool) (n : ℕ) → cond t 1 0 + n ≡ 0 → (t ≡ false) × (n ≡ 0)
+none-bad true n h = absurd (omega arith)
+none-bad false n h = (refl, omega arith)
+
+-- the first step, and the errors of the others
+steps-first : (est : List EstTime) (a b : DispNode) (ns : List DispNode) → badSteps est a (b ∷ ns) ≡ ok 0 → StepRight est a b × (badSteps est b ns ≡ ok 0)
+unfolding badSteps
+steps-first est a b ns h =
+    let x = bind-ok (at est (a .«est_idx» .0)) h in
+    let y = bind-ok (at est (b .«est_idx» .0)) (x .2) in
+    let n = bind-ok (badSteps est b ns) (y .2) in
+    let z = none-bad (badStep a b (x .0) (y .0)) (n .0) (ok-same (n .2)) in
+    (record { from = x .0; to = y .0; from-at = x .1; to-at = y .1; right = z .0 }, n .1 ∙ ap ok (z .1))
+
+pub steps-right : (est : List EstTime) (path : List DispNode) → badPath est path ≡ ok 0 → (i : ℕ) (a b : DispNode) → at path i ≡ ok a → at path (suc i) ≡ ok b → StepRight est a b
+unfolding at
+steps-right est [] h i a b p q = no-ok p
+steps-right est (x ∷ []) h i a b p q = no-ok q
+steps-right est (x ∷ (y ∷ ns)) h zero a b p q = subst (λ (z : DispNode). StepRight est z b) (ok-same p) (subst (λ (z : DispNode). StepRight est x z) (ok-same q) (steps-first est x y ns h .0))
+steps-right est (x ∷ (y ∷ ns)) h (suc i) a b p q = steps-right est (y ∷ ns) (steps-first est x y ns h .1) i a b p q
+
+pub no-errors : (occ : List ℕ) (est : List EstTime) (free : ℕ) (path : List DispNode) → validateFreePath occ est free path ≡ ok 0 → badPath est path ≡ ok 0
+unfolding validateFreePath
+no-errors occ est free path h =
+    let n = bind-ok (badPath est path) h in
+    let w = need-ok (leb free (length path)) (n .2) in
+    n .1 ∙ ap ok (omega (arith, ok-same (w .1)))
+
+-- ---- what a right step says
+
+-- n: b is x's next; p, q: a is y's prev, its prev_alt; l: b is x's alt; d, o: what is near
+by-next : (n p q l d o : Bool) → cond (n && (p || q)) (not d) (cond (l && p) (not o) true) ≡ false → n ≡ true → d ≡ true
+by-next true true q l d o h e = not-false d h
+by-next true false true l d o h e = not-false d h
+by-next true false false true d o h e = absurd (true≢false h)
+by-next true false false false d o h e = absurd (true≢false h)
+by-next false p q l d o h e = absurd (true≢false (sym e))
+
+by-alt : (n p q l d o : Bool) → cond (n && (p || q)) (not d) (cond (l && p) (not o) true) ≡ false → n ≡ false → (l ≡ true) × (o ≡ true)
+by-alt true p q l d o h e = absurd (true≢false e)
+by-alt false true q true d o h e = (refl, not-false o h)
+by-alt false false q true d o h e = absurd (true≢false h)
+by-alt false p q false d o h e = absurd (true≢false h)
+
+module _ (a b : DispNode) (x y : EstTime) (h : badStep a b x y ≡ false) where
+  -- b is a's next
+  pub right-next : sameEst (x .«idx_next») (b .«est_idx») ≡ true → near (x .«dist_to_next») (minus (b .offset) (a .offset)) ≡ true
+  unfolding badStep stepsNext stepsAlt
+  right-next e = by-next _ (sameEst (y .«idx_prev») (a .«est_idx»)) (sameEst (y .«idx_prev_alt») (a .«est_idx»)) (sameEst (x .«idx_next_alt») (b .«est_idx»)) _ (near (a .offset) (b .offset)) h e
+
+  -- b is not a's next
+  pub right-alt : sameEst (x .«idx_next») (b .«est_idx») ≡ false → (sameEst (x .«idx_next_alt») (b .«est_idx») ≡ true) × (near (a .offset) (b .offset) ≡ true)
+  unfolding badStep stepsNext stepsAlt
+  right-alt e = by-alt _ (sameEst (y .«idx_prev») (a .«est_idx»)) (sameEst (y .«idx_prev_alt») (a .«est_idx»)) (sameEst (x .«idx_next_alt») (b .«est_idx»)) (near (x .«dist_to_next») (minus (b .offset) (a .offset))) (near (a .offset) (b .offset)) h e
+
+-- ---- Success: no error was counted
+
+abbrev isSuccess : Status → Bool
+isSuccess Success = true
+isSuccess Blocked = false
+isSuccess (Faulty n) = false
+isSuccess (Refused n place) = false
+
+other-no : {X : Type 0} (s : Status) → isSuccess s ≡ false → s ≡ Success → X
+other-no s e h = absurd (true≢false (sym (ap isSuccess h) ∙ e))
+
+module _ (g : Given) (was : Train) where
+  abbrev Right : Updated → Type 0
+  Right u = u .status ≡ Success → faultsOf g (u .train) ≡ ok 0
+
+  finish-right : (r : Res ℕ) (rounds strays : ℕ) (t : Train) → faultsOf g t ≡ r → Right (finish r rounds strays was t)
+  unfolding finish
+  finish-right (ok zero) rounds strays t e h = e
+  finish-right (ok (suc n)) rounds strays t e h = other-no (Faulty (suc n)) refl h
+  finish-right (no n) rounds strays t e h = other-no (Refused n 0) refl h
+
+  after-right : (x : Res Ended) (next : Between → Updated) (w : Between) → ((y : Between) → Right (next y)) → Right (afterRound x next g was w)
+  unfolding afterRound
+  after-right (no n) next w f h = other-no (Refused n 0) refl h
+  after-right (ok atEnd) next w f h = finish-right (faultsOf g (w .train)) (w .rounds + 1) (w .strays + straysOf g (w .train)) (w .train) refl h
+  after-right (ok (blockedAt t)) next w f h = other-no Blocked refl h
+  after-right (ok (again t split k)) next w f h = f _ h
+
+  cond-right : (b : Bool) (u v : Updated) → Right u → Right v → Right (cond b u v)
+  cond-right true u v p q = p
+  cond-right false u v p q = q
+
+  rounds-right : (k : ℕ) (w : Between) → Right (roundsFrom k g was w)
+  unfolding roundsFrom
+  rounds-right zero w = cond-right (due w) _ _ (λ h. other-no (Refused 12 0) refl h) (finish-right (faultsOf g (w .train)) (w .rounds) (w .strays) (w .train) refl)
+  rounds-right (suc k) w =
+      cond-right (due w) _ _ (after-right (roundOf g (w .train) (w .«idx_split») (w .«div_idx_split»)) (λ x. roundsFrom k g was x) w (λ y. rounds-right k y))
+      (finish-right (faultsOf g (w .train)) (w .rounds) (w .strays) (w .train) refl)
+
+pub update-right : (occ : List ℕ) (blocking : List LinkIdx) (moved : TrainIdx) (local : Bool) (limit : ℕ) (t : Train)
+    → updateFreePath occ blocking moved local limit t .status ≡ Success
+    → badPath (updateFreePath occ blocking moved local limit t .train .«est_times») (updateFreePath occ blocking moved local limit t .train .«disp_path») ≡ ok 0
+unfolding updateFreePath
+update-right occ blocking moved local limit t h = go (at (t .«disp_path») (t .«disp_node_idx_free»)) h
+  where
+    go : (r : Res DispNode) → updateFrom r occ blocking moved local limit t .status ≡ Success
+        → badPath (updateFrom r occ blocking moved local limit t .train .«est_times») (updateFrom r occ blocking moved local limit t .train .«disp_path») ≡ ok 0
+    go (no k) h = other-no (Refused 10 0) refl h
+    go (ok n) h =
+        let g = givenOf occ blocking moved local t n in
+        let u = roundsFrom limit g t (startOf g t) in
+        no-errors occ (u .train .«est_times») (u .train .«disp_node_idx_free») (u .train .«disp_path») (rounds-right g t limit (startOf g t) h)
+
+-- ---- the same of images
+
+module _ (bs : List ℕ) (right : badPath (decoded bs .«est_times») (decoded bs .«disp_path») ≡ ok 0) (ds : DistsInProfile bs) (os : OffsetsInProfile bs) where
+  pub steps-exact : StepsExact bs
+  unfolding decoded
+  steps-exact i l =
+      let e : i + 1 ≡ suc i = omega arith in
+      let r = steps-right (listed (estCount bs) (estAt bs)) (listed (pathCount bs) (nodeAt bs)) right i (nodeAt bs i) (nodeAt bs (i + 1))
+      (read-listed (pathCount bs) (nodeAt bs) i (omega arith)) (rw (← e) (read-listed (pathCount bs) (nodeAt bs) (i + 1) l)) in
+      let x = listed-read (estCount bs) (estAt bs) (estOf bs i) (r .from-at) in
+      let s : badStep (nodeAt bs i) (nodeAt bs (i + 1)) (estAt bs (estOf bs i)) (r .to) ≡ false = subst (λ (z : EstTime). badStep (nodeAt bs i) (nodeAt bs (i + 1)) z (r .to) ≡ false) (sym (x .1)) (r .right) in
+      let a = os i (omega arith) in
+      let b = os (i + 1) l in
+      let d = ds (estOf bs i) (x .0) in
+      let ua = worth-units (offsetAt bs i) (a .units) (a .worth) in
+      let ub = worth-units (offsetAt bs (i + 1)) (b .units) (b .worth) in
+      let ud = worth-units (distAt bs (estOf bs i)) (d .units) (d .worth) in
+      record {
+        next = λ h.
+            let n = right-next (nodeAt bs i) (nodeAt bs (i + 1)) (estAt bs (estOf bs i)) (r .to) s h in
+            let k = step-exact (offsetAt bs i) (offsetAt bs (i + 1)) (distAt bs (estOf bs i)) (a .units) (b .units) (d .units) (a .worth) (b .worth) (d .worth) (a .few) (b .few) (d .few) n in
+            omega (arith, ua, ub, ud, k);
+        alt = λ h.
+            let n = right-alt (nodeAt bs i) (nodeAt bs (i + 1)) (estAt bs (estOf bs i)) (r .to) s h in
+            let k = near-equal (offsetAt bs i) (offsetAt bs (i + 1)) (a .units) (b .units) (a .worth) (b .worth) (a .few) (b .few) (n .1) in
+            (n .0, omega (arith, ua, ub, k));
+      }
+
+-- ---- the theorem
+
+module _ (img occ blocking : List ℕ) (moved : ℕ) (local : Bool) (limit : ℕ) where
+  abbrev after : UpdatedImage
+  after = updatedImage img occ blocking moved local limit
+
+  abbrev train-left : Updated
+  train-left = updateFreePath occ (linkIdxs blocking) (record { 0 = moved }) local limit (decoded img)
+
+  success-told : after .status ≡ Success → (updateFault img occ blocking moved limit .number ≡ 0) × (train-left .status ≡ Success)
+  unfolding updatedImage
+  success-told h = go (updateFault img occ blocking moved limit .number) refl h
+    where
+      go : (k : ℕ) → updateFault img occ blocking moved limit .number ≡ k → answerBy k (updateFault img occ blocking moved limit .place) train-left img .status ≡ Success
+          → (updateFault img occ blocking moved limit .number ≡ 0) × (train-left .status ≡ Success)
+      go zero e h = (e, h)
+      go (suc k) e h = other-no (Refused (suc k) (updateFault img occ blocking moved limit .place)) refl h
+
+  same-listed : {A : Type 0} (n k : ℕ) (f g : ℕ → A) → listed n f ≡ listed k g → (i : ℕ) → i < n → (i < k) × (g i ≡ f i)
+  same-listed n k f g e i l = listed-read k g i (subst (λ (xs : List _). at xs i ≡ ok (f i)) e (read-listed n f i l))
+
+  -- Success leaves the est records
+  pub success-ests : Bytes img → Trains16 occ → moved < 65536 → after .status ≡ Success → decoded (after .image) .«est_times» ≡ decoded img .«est_times»
+  unfolding updateFault
+  success-ests b w m h =
+      let k = success-told h in
+      let c = Clean.or-else-clean (callFault occ blocking moved limit) (imageFault img (length occ)) (k .0) .1 in
+      let f = subst (λ (s : Status). Leaves (StaysFit (length occ) 65536 (decoded img)) (decoded img) s (train-left .train)) (k .1) (leaves img (length occ) b c occ blocking moved local limit w m) in
+      ap (λ (t : Train). t .«est_times») (left-holds img occ blocking moved local limit b w m (k .0)) ∙ f .stays .same .ests
+
+  -- needed of the image before are its est distances alone, of the image after its offsets
+  pub success-exact : Bytes img → Trains16 occ → moved < 65536 → DistsInProfile img → after .status ≡ Success → OffsetsInProfile (after .image) → StepsExact (after .image)
+  success-exact b w m ds h os =
+      let k = success-told h in
+      let e = left-holds img occ blocking moved local limit b w m (k .0) in
+      let r = update-right occ (linkIdxs blocking) (record { 0 = moved }) local limit (decoded img) (k .1) in
+      steps-exact (after .image) (subst (λ (t : Train). badPath (t .«est_times») (t .«disp_path») ≡ ok 0) (sym e) r) kept os
+    where
+      kept : DistsInProfile (after .image)
+      kept i l =
+          let z = same-listed (estCount (after .image)) (estCount img) (estAt (after .image)) (estAt img) (unfold decoded in success-ests b w m h) i l in
+          subst (λ (x : EstTime). InProfile (x .«dist_to_next» .0)) (z .1) (ds i (z .0))
+
+pub success-is-exact : SuccessIsExact
+success-is-exact img occ blocking moved local limit b w m p h q = success-exact img occ blocking moved local limit b w m (in-profile img p .0) h (in-profile (after img occ blocking moved local limit .image) q .1)
