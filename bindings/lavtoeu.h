@@ -77,6 +77,10 @@ uint32_t lavtoeu_mark(const uint8_t *table, size_t table_len, uint16_t *occupanc
 /* The first refusal of an image over a number of links by 6 to 9; 2 where these are fewer than 2 or more than 4,000. */
 uint32_t lavtoeu_image_fault(const uint8_t *image, size_t image_len, uint32_t links);
 
+/* The first refusal of an image by 6 to 9 over 4,000 links, then 29: an est distance, a distance of the header or a path offset is
+ * no whole multiple of 1/1024 metre from 0 to 40,000 metres. */
+uint32_t lavtoeu_profile(const uint8_t *image, size_t image_len);
+
 /* Lays a new train out in an image buffer: est records of 32 bytes each, the train, dist_disp_path_search and dist_fixed_max in
  * metres, Q (room for diverge nodes) and L (number of links). Refused by 5 to 9 and 11. */
 uint32_t lavtoeu_lay_out(const uint8_t *est, size_t est_len, uint16_t train, double search, double fixed, uint32_t room, uint32_t links, uint8_t *image, size_t image_len);

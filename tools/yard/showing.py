@@ -24,6 +24,7 @@ REFUSALS = {
     15: "the moved train is none of the slots, or begin is outside them",
     16: "the report has not 16 bytes for each slot",
     17: "the bundle is too long, its size or its parts do not fit, or local is neither 0 nor 1",
+    29: "a value outside the training track profile",
 }
 WORDS = {
     0: "unvisited: the check began behind it, and it stays as it is",

@@ -66,6 +66,7 @@ impl Refusal {
             15 => "moved train or begin outside the slots",
             16 => "report of a wrong length",
             17 => "bad bundle",
+            29 => "outside the training track profile",
             _ => "no number of a refusal",
         }
     }
@@ -150,6 +151,13 @@ pub fn lay_out(est: &[u8], order: Order, image: &mut [u8]) -> Result<(), Refusal
 pub fn judge(image: &[u8], links: u32) -> Result<(), Refusal> {
     // SAFETY: the pointer goes with its own length, and the function keeps to it.
     Refusal::of(unsafe { raw::lavtoeu_image_fault(image.as_ptr(), image.len(), links) })
+}
+
+/// Refusals 6 to 9 of an image over 4,000 links, then 29: an est distance, a distance of the header or a path offset is outside
+/// the training track profile, which is the whole multiples of 1/1024 metre from 0 to 40,000 metres.
+pub fn profile(image: &[u8]) -> Result<(), Refusal> {
+    // SAFETY: the pointer goes with its own length, and the function keeps to it.
+    Refusal::of(unsafe { raw::lavtoeu_profile(image.as_ptr(), image.len()) })
 }
 
 /// What an update and a check are told besides the image or the yard.

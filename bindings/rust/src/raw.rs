@@ -4,6 +4,7 @@ extern "C" {
     pub fn lavtoeu_version() -> u32;
     pub fn lavtoeu_mark(table: *const u8, table_len: usize, occupancy: *mut u16, occupancy_len: usize, link: u32, train: u16) -> u32;
     pub fn lavtoeu_image_fault(image: *const u8, image_len: usize, links: u32) -> u32;
+    pub fn lavtoeu_profile(image: *const u8, image_len: usize) -> u32;
     pub fn lavtoeu_lay_out(
         est: *const u8,
         est_len: usize,

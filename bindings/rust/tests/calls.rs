@@ -23,6 +23,53 @@ fn a_layout_runs_along_next_and_is_accepted() {
     assert_eq!(judge(&image, 3), Err(Refusal { number: 7, place: 4 }));
 }
 
+/// The image with another float at a place.
+fn with_float(image: &[u8], at: usize, x: f64) -> Vec<u8> {
+    let mut image = image.to_vec();
+    image[at..at + 8].copy_from_slice(&x.to_le_bytes());
+    image
+}
+
+#[test]
+fn the_profile_asks_each_distance_and_offset_and_no_time() {
+    let image = laid_out(1, 4);
+    assert_eq!(profile(&image), Ok(()));
+    let last_offset = 64 + 5 * 32 + 2 * 32;
+    // Both distances of the header, an est record's, and an offset.
+    for at in [48, 56, 64 + 4 * 32, last_offset] {
+        for x in [0.0, -0.0, 1.0 / 1024.0, 100.125, 40_000.0 - 1.0 / 1024.0, 40_000.0] {
+            assert_eq!(profile(&with_float(&image, at, x)), Ok(()), "{x} at {at}");
+        }
+        for x in [1.0 / 2048.0, 5e-324, 100.1, 40_000.0 + 1.0 / 1024.0, 1e12] {
+            assert_eq!(profile(&with_float(&image, at, x)), Err(Refusal { number: 29, place: 0 }), "{x} at {at}");
+        }
+    }
+    assert_eq!(profile(&with_float(&image, last_offset, -1.0)), Err(Refusal { number: 29, place: 0 }));
+    assert_eq!(profile(&with_float(&image, last_offset + 8, 0.1)), Ok(()));
+}
+
+#[test]
+fn the_profile_takes_a_multiple_and_neither_float_beside_it() {
+    let image = laid_out(1, 4);
+    let asked = |bits| profile(&with_float(&image, 64, f64::from_bits(bits)));
+    for k in (1..=40_960_000u32).step_by(1_999).chain([40_960_000]) {
+        let bits = (k as f64 / 1024.0).to_bits();
+        assert_eq!(asked(bits), Ok(()), "{k}");
+        for beside in [bits - 1, bits + 1] {
+            assert_eq!(asked(beside), Err(Refusal { number: 29, place: 0 }), "beside {k}");
+        }
+    }
+}
+
+#[test]
+fn the_image_is_judged_before_its_profile() {
+    let image = with_float(&laid_out(1, 4), 64, 0.1);
+    assert_eq!(profile(&image).unwrap_err().to_string(), "refused 29 (outside the training track profile) at 0");
+    assert_eq!(profile(&with_float(&image, 64 + 32, f64::NAN)), Err(Refusal { number: 7, place: 1 }));
+    assert_eq!(profile(&image[1..]), Err(Refusal { number: 6, place: 0 }));
+    assert_eq!(profile(&[]), Err(Refusal { number: 6, place: 0 }));
+}
+
 #[test]
 fn a_refused_layout_leaves_the_buffer() {
     let mut image = vec![0xaa; image_size(5, 4)];

@@ -202,6 +202,7 @@ fn a_pointer_with_length_0_may_be_null() {
     unsafe {
         assert_eq!(raw::lavtoeu_mark(null(), 0, null_mut(), 0, 1, 1), 1);
         assert_eq!(raw::lavtoeu_image_fault(null(), 0, 2), 6);
+        assert_eq!(raw::lavtoeu_profile(null(), 0), 6);
         assert_eq!(raw::lavtoeu_lay_out(null(), 0, 1, 0.0, 0.0, 2, 2, null_mut(), 0), 6);
         assert_eq!(raw::lavtoeu_update(null_mut(), 0, null(), 0, null(), 0, 1, 0, 1, null_mut(), 0), 2);
         assert_eq!(raw::lavtoeu_check(null_mut(), 0, null(), 0, null(), 0, 1, 1, 0, 1, null_mut(), 0, null_mut(), 0), 2);

@@ -5,6 +5,7 @@ use link_rules::link_idx::LinkIdx;
 use link_rules::link_idx::TrainIdx;
 use link_rules::octets;
 use link_rules::refusal::Answer;
+use track_profile;
 use update_free_path;
 use update_free_path::answer::Status;
 use yard_check::check;
@@ -62,4 +63,11 @@ pub(crate) fn check(
         check::Answer::Erred(k) => 0,
         check::Answer::Done { deadlock, next } => 0,
     }
+}
+
+// No arguments.
+pub(crate) fn profile(case: &mut [u8]) -> u16 {
+    let image = case::first_input(case);
+    let f = track_profile::profile_fault(image);
+    f.number
 }

@@ -129,6 +129,10 @@ fn answer_lent(case: &mut [u8], occupancy: &mut [u16], blocking: &mut [u32], rep
         print_number(call::check(case, occupancy, blocking, report));
         return;
     }
+    if operation == case::PROFILE {
+        print_number(call::profile(case));
+        return;
+    }
     print_unread();
 }
 

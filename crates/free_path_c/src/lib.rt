@@ -6,6 +6,7 @@ ghost use mathlib.Core.Path.{_≡_};
 ghost use mathlib.Core.Bool.{cond};
 ghost use Rattle.link_rules.specs.AdvanceRewind.{markOf};
 ghost use Rattle.image_fault.specs.ImageFault.{imageFault};
+ghost use Rattle.track_profile.specs.Profile.{profileFault};
 ghost use Rattle.train_disp.specs.TrainDisp.{laidOut};
 ghost use lib.ListN.{set};
 ghost use Rattle.update_image.specs.UpdateImage.{updatedImage};
@@ -55,6 +56,15 @@ pub extern "C" fn lavtoeu_image_fault(image: &[u8], links: u32) -> u32
     ensures { λ r. ⌜ r ≡ faultWord (imageFault (now (image .entry)) links) ⌝ }
 {
     let f = image_fault::image_fault(image, links);
+    (f.number as u32) + 65536 * (f.place as u32)
+}
+
+// The first refusal of an image by 6 to 9 over 4,000 links, then 29 where a distance or an offset is outside the training track profile. Answers as lavtoeu_image_fault does.
+#[no_mangle]
+pub extern "C" fn lavtoeu_profile(image: &[u8]) -> u32
+    ensures { λ r. ⌜ r ≡ faultWord (profileFault (now (image .entry))) ⌝ }
+{
+    let f = track_profile::profile_fault(image);
     (f.number as u32) + 65536 * (f.place as u32)
 }
 
