@@ -14,7 +14,7 @@ ghost use Rattle.update_free_path.specs.Updates.{statusOf};
 ghost use Rattle.yard_check.specs.Check.{checked};
 ghost use Rattle.yard_check.specs.Checks.{answeredOf};
 ghost use Rattle.yard_check.specs.Sheet.{sheetText};
-ghost use Rattle.yard_check.specs.Text.{textOf, written};
+ghost use Rattle.text.specs.Text.{textOf, written};
 ghost use Rattle.free_path_c.specs.Words.{answerWord, faultWord, orderOf, flagOf, statusWord, codeOf, errorsOf, Told, checkWord, erredOf, deadlockOf, nextOf, ToldCheck};
 use disp_structs::Metres;
 use link_rules::advance_rewind;

@@ -15,8 +15,6 @@ pub mod MarkedTrains
 pub mod DemandThree
 pub mod MatchTests
 pub mod SidingRenumbered
-pub mod DecimalLaws
-pub mod TextLaws
 pub mod SheetLaws
 pub mod BundleLaws
 pub mod SheetRoom

@@ -4,7 +4,8 @@ use mathlib.Core.List.{List, [], _∷_, _++_}
 use Prim.Native.Nat.{ℕ}
 use lib.ListN.{set, take, replicate}
 use Rattle.yard_check.specs.Check.{rowFrom}
-use Rattle.yard_check.specs.Sheet.{partsFit, bundleFits, reportSlots, checkedBundle, ascii, decimalFrom, codeWord, freeColumn, slotLine, slotLines, checkLines, sheetText}
+use Rattle.yard_check.specs.Sheet.{partsFit, bundleFits, reportSlots, checkedBundle, codeWord, freeColumn, slotLine, slotLines, checkLines, sheetText}
+use Rattle.text.specs.Ascii.{ascii, decimalFrom}
 use Rattle.yard_check.proofs.Siding.{words, everything}
 
 -- train t, path Fake, Arrive and Clear on its own link; all distances and offsets 0, prev naming the node before

@@ -19,11 +19,11 @@ use Rattle.yard_check.specs.Checks.{answeredOf, checkedOf}
 use Rattle.yard_check.specs.YardMatch.{NotRefused}
 use Rattle.yard_check.specs.declared.check.Answer as Code
 use Rattle.yard_check.specs.declared.check.Answer.the-variants as Answers
-use Rattle.yard_check.specs.Text.{Text, Put}
+use Rattle.text.specs.Text.{Text, Put}
 use Rattle.yard_check.specs.Sheet.{refusedWord, codeWord, refusedLine, firstLine, freeColumn, slotLine, slotLines, checkLines, occupancyCount, bundleFits, bundleOccupancy, bundleBlocking, bundleYard, reportSlots, checkedBundle, sheetText}
 use Rattle.yard_check.proofs.YardLaws.{fits}
 use Rattle.yard_check.proofs.CheckLaws.{taken, taken-done, slots-kept}
-use Rattle.yard_check.proofs.TextLaws.{then, put-is, nothing}
+use Rattle.text.proofs.TextLaws.{then, put-is, nothing}
 
 pub word-refused : (c : ℕ) → (c ≡ 0 → ⊥) → (c ≡ 1 → ⊥) → (c ≡ 2 → ⊥) → (c ≡ 3 → ⊥) → (c ≡ 4 → ⊥) → (c ≡ 5 → ⊥) → codeWord c ≡ refusedWord (c - 16)
 unfolding codeWord

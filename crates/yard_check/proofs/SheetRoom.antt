@@ -1,9 +1,8 @@
 -- Every sheet fits into 4,096 bytes: a first line and at most 63 lines of at most 55 bytes. Assumes nothing.
 use mathlib.Core.Path.{_≡_, refl, sym, ap, subst⁻¹, _∙_}
-use mathlib.Core.Logic.{_⊎_, inl, inr}
 use mathlib.Core.Bool.{Bool, true, false, cond, not, _&&_, _||_}
 use mathlib.Core.List.{List}
-use Prim.Native.Nat.{ℕ, zero, suc, _+_, _*_, _-_, _/_, _≤_, _<_}
+use Prim.Native.Nat.{ℕ, zero, suc, _+_, _*_, _-_, _^_, _≤_, _<_}
 use native.Mathlib.Omega.{arith}
 use lib.Dec.{leb, eqb}
 use lib.ListN.{length, length-append}
@@ -16,35 +15,20 @@ use Rattle.image_fault.specs.ImageFault.{noFault, refused, orElse, imageFault, 
 use Rattle.image_fault.specs.declared.Fault.{Fault}
 use Rattle.image_fault.proofs.ScanLaws.{both}
 use Rattle.image_fault.proofs.AcceptLaws.{accepted, fits-counts, clean-header}
-use Rattle.search.proofs.ListedLaws.{below-or-not}
 use Rattle.update_image.specs.UpdateImage.{linksBelow, callFault}
 use Rattle.yard_check.specs.Yard.{slotCount, partOf, yardFits, yardFault}
 use Rattle.yard_check.specs.Check.{CheckArgs, slotsFault, reportFault, checkFault, Row, isFinishedRow, isBlockedRow, isErredRow, rowAt, slotVisit, yardAfter, reportAfter, howMany, firstNot, answerBy, answerOf, Checked, check, checkedBy, checkedWith}
-use Rattle.yard_check.specs.Sheet.{bundleFits, checkedBundle, occupancyCount, ascii, decimal, column, codeWord, refusedWord, refusedLine, firstLine, freeColumn, slotLine, slotLines, checkText, checkLines, sheetText}
+use Rattle.yard_check.specs.Sheet.{bundleFits, checkedBundle, occupancyCount, codeWord, refusedWord, refusedLine, firstLine, freeColumn, slotLine, slotLines, checkText, checkLines, sheetText}
+use Rattle.text.specs.Ascii.{ascii, column}
 use Rattle.yard_check.proofs.YardLaws.{fits}
 use Rattle.yard_check.proofs.ReportLaws.{report-row}
 use Rattle.yard_check.proofs.CheckLaws.{taken, taken-done, slots-kept}
-use Rattle.yard_check.proofs.DecimalLaws.{decimal-small, decimal-large}
+use Rattle.text.proofs.DecimalLaws.{decimal-length}
 
 -- ---- numbers
 
-abbrev tens : ℕ → ℕ
-tens zero = 1
-tens (suc k) = 10 * tens k
-
-digit : (n : ℕ) → n < 10 → length (decimal n) ≤ 1
-digit n h = rw (decimal-small n h) (omega arith)
-
-digits : (k n : ℕ) → n < tens (suc k) → length (decimal n) ≤ suc k
-digits zero n h = digit n (omega arith)
-digits (suc k) n h = go (below-or-not n 10) (digits k (n / 10))
-  where
-    go : (n < 10) ⊎ (10 ≤ n) → (n / 10 < tens (suc k) → length (decimal (n / 10)) ≤ suc k) → length (decimal n) ≤ suc (suc k)
-    go (inl l) r = omega (arith, digit n l)
-    go (inr l) r = rw (decimal-large n l, length-append) (omega (arith, r (omega arith)))
-
-column-long : (k n : ℕ) → n < tens (suc k) → length (column n) ≤ suc (suc k)
-column-long k n h = omega (arith, digits k n h)
+column-long : (k n : ℕ) → n < 10 ^ suc k → length (column n) ≤ suc (suc k)
+column-long k n h = omega (arith, decimal-length k n h)
 
 -- ---- the line of a slot
 
@@ -55,7 +39,7 @@ either-long false xs ys h k = k
 word-long : (c : ℕ) → c < 65536 → length (codeWord c) ≤ 13
 unfolding codeWord ascii listed
 word-long c h =
-    let last : length (refusedWord (c - 16)) ≤ 13 = omega (arith, digits 4 (c - 16) (omega arith)) in
+    let last : length (refusedWord (c - 16)) ≤ 13 = omega (arith, decimal-length 4 (c - 16) (omega arith)) in
     either-long (eqb c 0) (ascii "unvisited") _ (omega arith)
     (either-long (eqb c 1) (ascii "finished") _ (omega arith)
     (either-long (eqb c 2) (ascii "moved") _ (omega arith)
@@ -74,7 +58,7 @@ record Small (r : Row) : Type 0 where
 line-long : (t free : ℕ) (r : Row) → t ≤ 63 → free ≤ 512 → Small r → length (slotLine t r free) ≤ 55
 unfolding slotLine
 line-long t free r h l s =
-    let a = digits 1 t (omega arith) in
+    let a = decimal-length 1 t (omega arith) in
     let b = word-long (r .code) (s .code) in
     let c = column-long 4 (r .rounds) (omega (arith, s .rounds)) in
     let d = column-long 4 (r .holder) (omega (arith, s .holder)) in

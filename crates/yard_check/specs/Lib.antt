@@ -5,5 +5,4 @@ pub mod YardMatch
 pub mod Calls
 pub mod DemandThree
 pub mod Sheet
-pub mod Text
 pub mod Sheets

@@ -1,15 +1,14 @@
 -- What the program sheet prints for a bundle (document 01, Program sheet): refusal 17 first, then the check of the bundle's yard as text. Assumes nothing.
-use Prim.Native.Nat.{ℕ, zero, suc, _+_, _*_, _-_, _/_, _%_}
-use Prim.Native.Char.{code}
-use Prim.Native.String.{String, len, charAt}
+use Prim.Native.Nat.{ℕ, zero, suc, _+_, _*_, _-_}
 use mathlib.Core.Bool.{Bool, true, false, cond, _&&_}
 use mathlib.Core.List.{List, [], _∷_, _++_}
-use lib.Dec.{ltb, leb, eqb}
+use lib.Dec.{leb, eqb}
 use lib.ListN.{length, drop, replicate}
 use Rattle.link_rules.specs.Octets.{leAt}
 use Rattle.disp_structs.specs.Listed.{listed}
 use Rattle.image_reader.specs.Reader.{freeOf}
 use Rattle.image_fault.specs.ImageFault.{imageFault}
+use Rattle.text.specs.Ascii.{ascii, decimal, column, lineEnd}
 use Rattle.yard_check.specs.Yard.{slotCount, partOf, yardFits}
 use Rattle.yard_check.specs.Check.{Row, rowAt, Answer, Refused, Erred, Done, Checked, checked}
 
@@ -54,26 +53,6 @@ reportSlots yard = cond (yardFits yard) (slotCount yard) 0
 unfoldable pub checkedBundle : List ℕ → Checked
 checkedBundle b =
     checked (bundleYard b) (bundleOccupancy b) (bundleBlocking b) (leAt 2 b 24) (leAt 2 b 26) (eqb (leAt 2 b 30) 1) (leAt 2 b 28) (replicate (16 * reportSlots (bundleYard b)) 0)
-
--- ---- text: bytes of ASCII
-
-unfoldable pub ascii : String → List ℕ
-ascii s = listed (len s) (λ i. code (charAt s i))
-
--- the decimal digits of n, for n below the first number
-unfoldable pub decimalFrom : ℕ → ℕ → List ℕ
-decimalFrom zero n = []
-decimalFrom (suc k) n = let front = decimalFrom k (n / 10) in elim (ltb n 10) [ true ↦ (48 + n) ∷ [] | false ↦ front ++ ((48 + n % 10) ∷ []) ]
-
-abbrev pub decimal : ℕ → List ℕ
-decimal n = decimalFrom (suc n) n
-
--- a blank and a number
-abbrev pub column : ℕ → List ℕ
-column n = 32 ∷ decimal n
-
-abbrev pub lineEnd : List ℕ
-lineEnd = 10 ∷ []
 
 -- ---- the sheet
 

@@ -3,5 +3,4 @@
 mod bundle;
 pub mod check;
 pub mod sheet;
-mod text;
 pub mod yard;

@@ -2,10 +2,10 @@
 use crate::bundle;
 use crate::check;
 use crate::check::Answer;
-use crate::text;
 use crate::yard;
 use link_rules::link_idx::TrainIdx;
 use link_rules::octets;
+use text;
 ghost use mathlib.Core.Path.{_≡_};
 ghost use Prim.Native.Nat.{_+_, _*_, _-_, _≤_};
 ghost use mathlib.Core.Bool.{true};
@@ -15,7 +15,7 @@ ghost use Rattle.yard_check.specs.Yard.{slotCount};
 ghost use Rattle.yard_check.specs.YardMatch.{NotRefused};
 ghost use Rattle.yard_check.specs.Checks.{answeredOf, checkedOf};
 ghost use Rattle.yard_check.specs.Sheets.{Lent};
-ghost use Rattle.yard_check.specs.Text.{textOf, Put, written};
+ghost use Rattle.text.specs.Text.{textOf, Put, written};
 ghost use Rattle.yard_check.specs.Sheet.{refusedWord, codeWord, yesOrNo, refusedLine, firstLine, bundleFits, checkedBundle, occupancyCount, freeColumn, rowColumns, slotLine, slotLines, checkLines, sheetText};
 
 // ---- the line of a slot

@@ -2,7 +2,7 @@ use native.Mathlib.Omega.{arith}
 use mathlib.Core.Path.{sym}
 use lib.Seq.{length-take-le}
 use borrow.Author.Needs.{needs}
-use Rattle.yard_check.proofs.TextLaws.{within}
+use Rattle.text.proofs.TextLaws.{within}
 use Rattle.answers.proofs.print_sheet.Statement.{statement}
 use Rattle.answers.proofs.print_sheet.Tie as tie
 

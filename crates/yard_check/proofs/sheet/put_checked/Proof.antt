@@ -1,4 +1,4 @@
-use Rattle.yard_check.proofs.TextLaws.{put-is}
+use Rattle.text.proofs.TextLaws.{put-is}
 use Rattle.yard_check.specs.Sheet.{occupancyCount, blockingOffset, checkLines}
 use Rattle.yard_check.specs.Check.{Checked}
 use Rattle.disp_structs.specs.Listed.{listed}

@@ -1,8 +1,9 @@
 use mathlib.Core.Path.{ap, sym, _∙_}
 use Rattle.yard_check.proofs.SheetLaws.{word-refused}
 use Rattle.disp_structs.specs.Listed.{listed}
-use Rattle.yard_check.specs.Sheet.{ascii, refusedWord, codeWord}
-use Rattle.yard_check.proofs.TextLaws.{put-is}
+use Rattle.yard_check.specs.Sheet.{refusedWord, codeWord}
+use Rattle.text.specs.Ascii.{ascii}
+use Rattle.text.proofs.TextLaws.{put-is}
 use borrow.Author.Needs.{needs}
 use Rattle.yard_check.proofs.sheet.put_code_word.Statement.{statement}
 use Rattle.yard_check.proofs.sheet.put_code_word.Tie as tie

@@ -1,7 +1,7 @@
 use mathlib.Core.Path.{ap, sym}
 use Rattle.yard_check.specs.Check.{rowFrom}
-use Rattle.yard_check.specs.Sheet.{column}
-use Rattle.yard_check.proofs.TextLaws.{then, put-is}
+use Rattle.text.specs.Ascii.{column}
+use Rattle.text.proofs.TextLaws.{then, put-is}
 use borrow.Author.Needs.{needs}
 use Rattle.yard_check.proofs.sheet.put_columns.Statement.{statement}
 use Rattle.yard_check.proofs.sheet.put_columns.Tie as tie

@@ -1,7 +1,7 @@
 use mathlib.Core.Path.{ap, sym}
 use Rattle.yard_check.specs.Check.{rowFrom}
 use Rattle.yard_check.specs.Sheet.{codeWord, slotLine}
-use Rattle.yard_check.proofs.TextLaws.{then, put-is}
+use Rattle.text.proofs.TextLaws.{then, put-is}
 use borrow.Author.Needs.{needs}
 use Rattle.yard_check.proofs.sheet.put_slot_line.Statement.{statement}
 use Rattle.yard_check.proofs.sheet.put_slot_line.Tie as tie

@@ -5,9 +5,9 @@ use native.Mathlib.Omega.{arith}
 use lib.ListN.{length}
 use borrow.Author.Needs.{needs}
 use denote.Ref.{now}
-use Rattle.yard_check.specs.Text.{textOf, Put}
+use Rattle.text.specs.Text.{textOf, Put}
 use Rattle.yard_check.specs.Sheet.{freeColumn, slotLines}
-use Rattle.yard_check.proofs.TextLaws.{put-is}
+use Rattle.text.proofs.TextLaws.{put-is}
 use Rattle.yard_check.proofs.SheetLaws.{lines-none, lines-turn}
 use Rattle.yard_check.proofs.sheet.put_slot_lines.Statement.{statement}
 use Rattle.yard_check.proofs.sheet.put_slot_lines.Tie as tie

@@ -1,7 +1,8 @@
 use mathlib.Core.Path.{ap}
 use Rattle.disp_structs.specs.Listed.{listed}
-use Rattle.yard_check.specs.Sheet.{ascii, yesOrNo}
-use Rattle.yard_check.proofs.TextLaws.{put-is}
+use Rattle.yard_check.specs.Sheet.{yesOrNo}
+use Rattle.text.specs.Ascii.{ascii}
+use Rattle.text.proofs.TextLaws.{put-is}
 use borrow.Author.Needs.{needs}
 use Rattle.yard_check.proofs.sheet.put_yes_or_no.Statement.{statement}
 use Rattle.yard_check.proofs.sheet.put_yes_or_no.Tie as tie

@@ -1,4 +1,4 @@
-use Rattle.yard_check.proofs.TextLaws.{put-is, from-start}
+use Rattle.text.proofs.TextLaws.{put-is, from-start}
 use Rattle.yard_check.specs.Sheet.{sheetText}
 use mathlib.Core.Path.{sym, _∙_}
 use Rattle.yard_check.proofs.SheetLaws.{sheet-fits, sheet-bad}

@@ -1,15 +1,15 @@
 use borrow.Author.Needs.{needs}
-use Rattle.yard_check.proofs.DecimalLaws.{decimal-small, decimal-large}
-use Rattle.yard_check.proofs.TextLaws.{then, put-is}
+use Rattle.text.proofs.DecimalLaws.{decimal-small, decimal-large}
+use Rattle.text.proofs.TextLaws.{then, put-is}
 use Prim.Native.Nat.{ℕ, _<_}
 use borrow.Fn.Kinds.{In}
 use borrow.Fn.PlainCycle.{Measures, is, falls, and}
-use Rattle.yard_check.proofs.text.put_decimal.Reads as put-decimal
-use Rattle.yard_check.proofs.text.put_decimal.Kinds as put-decimal-kinds
-use Rattle.yard_check.proofs.text.+put_decimal.Lts-put_decimal as put-decimal-lts
-use Rattle.yard_check.proofs.text.put_byte.Reads as put-byte-reads
-use Rattle.yard_check.proofs.text.+put_decimal.{statement}
-use Rattle.yard_check.proofs.text.+put_decimal.Tie.{close}
+use Rattle.text.proofs.put_decimal.Reads as put-decimal
+use Rattle.text.proofs.put_decimal.Kinds as put-decimal-kinds
+use Rattle.text.proofs.+put_decimal.Lts-put_decimal as put-decimal-lts
+use Rattle.text.proofs.put_byte.Reads as put-byte-reads
+use Rattle.text.proofs.+put_decimal.{statement}
+use Rattle.text.proofs.+put_decimal.Tie.{close}
 
 abbrev μ-put-decimal : Measures 1 put-decimal-kinds.ps ℕ
 μ-put-decimal κs a = a .1 .1 .0

@@ -1,8 +1,8 @@
 use borrow.Author.Needs.{needs}
 use denote.Ref.{now}
-use Rattle.yard_check.proofs.TextLaws.{put-in, put-none}
-use Rattle.yard_check.proofs.text.put_byte.Statement.{statement}
-use Rattle.yard_check.proofs.text.put_byte.Tie as tie
+use Rattle.text.proofs.TextLaws.{put-in, put-none}
+use Rattle.text.proofs.put_byte.Statement.{statement}
+use Rattle.text.proofs.put_byte.Tie as tie
 
 slice-write-text : tie.Need-slice-write-text
 slice-write-text c = search needs

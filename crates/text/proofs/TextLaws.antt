@@ -4,12 +4,12 @@ use mathlib.Core.List.{List, [], _∷_, _++_, append-assoc}
 use Prim.Native.Nat.{ℕ, zero, suc, _+_, _-_, _≤_, _<_}
 use native.Mathlib.Omega.{arith}
 use native.Mathlib.Numerals.{add-one}
-use mathlib.Core.Logic.{_⊎_, inl, inr}
-use Rattle.search.proofs.ListedLaws.{below-or-not}
+use mathlib.Core.Bool.{Bool, true, false}
+use lib.Dec.{ltb}
 use lib.ListN.{length, getD, take, drop, set, length-set, take-append-drop}
 use lib.Seq.{take-suc, take-suc-set, drop-set-lt, take-all, take-nil, set-out, take-append-seam}
-use borrow.Author.Tests.{lt-ltb, le-ltb}
-use Rattle.yard_check.specs.Text.{Text, textOf, putByte, putBytes, Put, written}
+use borrow.Author.Tests.{ltb-true, ltb-false, lt-ltb, le-ltb}
+use Rattle.text.specs.Text.{Text, textOf, putByte, putBytes, Put, written}
 
 pub put-append : (xs ys : List ℕ) (t : Text) → putBytes (xs ++ ys) t ≡ putBytes ys (putBytes xs t)
 unfolding putBytes
@@ -69,16 +69,17 @@ placed-more n b xs t h =
 put-from : (bs : List ℕ) (n : ℕ) (t : List ℕ) → putBytes bs (textOf n t) ≡ placed n (take (length t - n) bs) t
 unfolding putBytes
 put-from [] n t = rw (take-nil) (placed-none n t)
-put-from (b ∷ bs) n t = go (below-or-not n (length t)) (put-from bs (n + 1) (set t n b))
+put-from (b ∷ bs) n t = go (ltb n (length t)) refl (put-from bs (n + 1) (set t n b))
   where
-    go : (n < length t) ⊎ (length t ≤ n) → putBytes bs (textOf (n + 1) (set t n b)) ≡ placed (n + 1) (take (length (set t n b) - (n + 1)) bs) (set t n b)
+    go : (x : Bool) → ltb n (length t) ≡ x → putBytes bs (textOf (n + 1) (set t n b)) ≡ placed (n + 1) (take (length (set t n b) - (n + 1)) bs) (set t n b)
         → putBytes (b ∷ bs) (textOf n t) ≡ placed n (take (length t - n) (b ∷ bs)) t
-    go (inl h) r =
+    go true e r =
+        let h = ltb-true n (length t) e in
         let m : length t - n ≡ suc (length t - (n + 1)) = omega arith in
         let k : length (set t n b) ≡ length t = length-set t n b in
         let q : putBytes (b ∷ bs) (textOf n t) ≡ putBytes bs (textOf (n + 1) (set t n b)) = rw (lt-ltb n (length t) h) in
         q ∙ (r ∙ rw (k, m) (placed-more n b (take (length t - (n + 1)) bs) t h))
-    go (inr h) r = let m : length t - n ≡ 0 = omega arith in rw m (put-full (b ∷ bs) n t h ∙ placed-none n t)
+    go false e r = let h = ltb-false n (length t) e in let m : length t - n ≡ 0 = omega arith in rw m (put-full (b ∷ bs) n t h ∙ placed-none n t)
 
 -- ---- from the start of the buffer
 
@@ -89,7 +90,11 @@ from-start bs t p =
     let z : 0 + length (take (length t) bs) ≡ length (take (length t) bs) = omega arith in
     p .is ∙ (put-from bs 0 t ∙ rw (m, z))
 
--- where there is room for the whole text, it stands at the start of the buffer
+-- where there is room for the whole text, it stands at the start of the buffer, and what is behind it stays
+pub written-all : (bs t : List ℕ) → length bs ≤ length t → written bs t .buffer ≡ bs ++ drop (length bs) t
+unfolding written
+written-all bs t h = rw (take-all (length t) bs h)
+
 pub written-whole : (bs t : List ℕ) → length bs ≤ length t → (written bs t .count ≡ length bs) × (take (length bs) (written bs t .buffer) ≡ bs)
 unfolding written
 written-whole bs t h = rw (take-all (length t) bs h) (refl, take-append-seam bs (drop (length bs) t))

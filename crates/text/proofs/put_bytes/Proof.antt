@@ -3,10 +3,10 @@ use Prim.Native.Nat.{_-_, _≤_}
 use lib.ListN.{length, take}
 use borrow.Author.Needs.{needs}
 use denote.Ref.{now}
-use Rattle.yard_check.specs.Text.{textOf, Put}
-use Rattle.yard_check.proofs.TextLaws.{nothing, bytes-turn, bytes-end}
-use Rattle.yard_check.proofs.text.put_bytes.Statement.{statement}
-use Rattle.yard_check.proofs.text.put_bytes.Tie as tie
+use Rattle.text.specs.Text.{textOf, Put}
+use Rattle.text.proofs.TextLaws.{nothing, bytes-turn, bytes-end}
+use Rattle.text.proofs.put_bytes.Statement.{statement}
+use Rattle.text.proofs.put_bytes.Tie as tie
 
 abbrev Inv-loop : tie.InvT-loop
 Inv-loop text₀ count bytes n₀ i₀ text n i =

@@ -1,7 +1,7 @@
-use Rattle.yard_check.proofs.TextLaws.{then}
+use Rattle.text.proofs.TextLaws.{then}
 use borrow.Author.Needs.{needs}
-use Rattle.yard_check.proofs.text.put_column.Statement.{statement}
-use Rattle.yard_check.proofs.text.put_column.Tie as tie
+use Rattle.text.proofs.put_column.Statement.{statement}
+use Rattle.text.proofs.put_column.Tie as tie
 
 put-byte-requires : tie.Need-put-byte-requires
 put-byte-requires c κs = search needs
