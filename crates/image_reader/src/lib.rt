@@ -1,5 +1,5 @@
 // A reader over one lent image (document 01): the slice and the index of a path node, and thin functions over those of `image`.
-// The functions over a Reader are proved by walks of their MIR, by hand; whoever calls `free_of`, which takes a plain slice, needs none.
+// The functions over a Reader are proved by walks of their MIR, by hand; whoever calls `free_of` or `node_of`, which take a plain slice, needs none.
 // The crate assumes nothing of its own, and no public function has a `requires`.
 use disp_structs::DispNode;
 use image::codec;
@@ -76,4 +76,11 @@ pub fn free_of(image: &[u8]) -> u16
     ensures { λ r. ⌜ r ≡ freeOf (now (image .entry)) ⌝ }
 {
     free(new(image, 0))
+}
+
+// Node i of the path, for the page.
+pub fn node_of(image: &[u8], i: u32) -> DispNode
+    ensures { λ x. ⌜ x ≡ nodeAt (now (image .entry)) i ⌝ }
+{
+    node(new(image, i))
 }
