@@ -1,0 +1,2 @@
+pub mod Metres
+pub mod Page
