@@ -107,6 +107,10 @@ uint32_t lavtoeu_check(uint8_t *yard, size_t yard_len, const uint16_t *occupancy
 /* Writes the sheet of a bundle to the text, as many bytes as it has room for, and returns how many; no byte 0 behind them. */
 size_t lavtoeu_sheet(const uint8_t *bundle, size_t bundle_len, uint8_t *text, size_t text_len);
 
+/* Writes the page of an image's path: for each node a line of 39 columns and a line end, bytes 0 to 40 N - 1; bytes past them stay.
+ * Refused by 6 to 9 over 4,000 links, and by 18. */
+uint32_t lavtoeu_page(const uint8_t *image, size_t image_len, uint8_t *page, size_t page_len);
+
 #ifdef __cplusplus
 }
 #endif

@@ -24,6 +24,7 @@ REFUSALS = {
     15: "the moved train is none of the slots, or begin is outside them",
     16: "the report has not 16 bytes for each slot",
     17: "the bundle is too long, its size or its parts do not fit, or local is neither 0 nor 1",
+    18: "the page has fewer than 40 bytes for each node of the path",
     29: "a value outside the training track profile",
 }
 WORDS = {

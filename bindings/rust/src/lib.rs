@@ -66,6 +66,7 @@ impl Refusal {
             15 => "moved train or begin outside the slots",
             16 => "report of a wrong length",
             17 => "bad bundle",
+            18 => "page too short",
             29 => "outside the training track profile",
             _ => "no number of a refusal",
         }
@@ -333,4 +334,11 @@ pub fn sheet(bundle: &[u8]) -> String {
 pub fn sheet_into(bundle: &[u8], text: &mut [u8]) -> usize {
     // SAFETY: each pointer goes with its own length, and the function keeps to them.
     unsafe { raw::lavtoeu_sheet(bundle.as_ptr(), bundle.len(), text.as_mut_ptr(), text.len()) }
+}
+
+/// Writes the page of an image's path: for each node a line of 39 columns and a line end. It takes 40 bytes a node, and bytes past
+/// these stay.
+pub fn page(image: &[u8], page: &mut [u8]) -> Result<(), Refusal> {
+    // SAFETY: each pointer goes with its own length, and the function keeps to them.
+    Refusal::of(unsafe { raw::lavtoeu_page(image.as_ptr(), image.len(), page.as_mut_ptr(), page.len()) })
 }

@@ -46,4 +46,5 @@ extern "C" {
         answer: *mut u64,
         answer_len: usize,
     ) -> u32;
+    pub fn lavtoeu_page(image: *const u8, image_len: usize, page: *mut u8, page_len: usize) -> u32;
 }

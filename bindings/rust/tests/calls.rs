@@ -168,6 +168,26 @@ fn refused_checks_change_nothing() {
 }
 
 #[test]
+fn a_page_has_a_line_of_forty_bytes_for_each_node() {
+    let image = laid_out(1, 4);
+    let mut text = [b'.'; 121];
+    assert_eq!(page(&image, &mut text), Ok(()));
+    let lines = "    0     0 Fake       0              0\n    1     1 Arrive     1              0\n    2     4 Arrive     3            100\n.";
+    assert_eq!(std::str::from_utf8(&text), Ok(lines));
+}
+
+#[test]
+fn a_refused_page_leaves_the_buffer() {
+    let mut image = laid_out(1, 4);
+    let mut text = [b'.'; 119];
+    let refusal = page(&image, &mut text).unwrap_err();
+    assert_eq!(refusal.to_string(), "refused 18 (page too short) at 0");
+    image[42] = 1;
+    assert_eq!(page(&image, &mut text), Err(Refusal { number: 6, place: 0 }));
+    assert_eq!(text, [b'.'; 119]);
+}
+
+#[test]
 fn a_sheet_is_text_for_any_bytes() {
     assert_eq!(sheet(&[]), "refused 17\n");
     assert_eq!(sheet(&vec![0; 70_000]), "refused 17\n");

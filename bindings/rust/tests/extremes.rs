@@ -71,6 +71,22 @@ fn mark_takes_the_largest_table_and_no_larger() {
 }
 
 #[test]
+fn page_refuses_other_images_and_short_pages() {
+    let image = laid_out(1, 4);
+    for cut in other_lengths(&image) {
+        assert_eq!(leaves(&[9; 200], |text| page(&cut, text)), refused(6), "{} bytes", cut.len());
+    }
+    for n in 0..120 {
+        assert_eq!(leaves(&vec![9; n], |text| page(&image, text)), refused(18), "{n} bytes");
+    }
+    for n in 120..130 {
+        let mut text = vec![9; n];
+        assert_eq!(page(&image, &mut text), Ok(()));
+        assert!(text[120..].iter().all(|&b| b == 9) && text[119] == b'\n', "{n} bytes");
+    }
+}
+
+#[test]
 fn judge_refuses_every_other_length_and_number_of_links() {
     let image = laid_out(1, 4);
     for cut in other_lengths(&image) {
@@ -207,6 +223,7 @@ fn a_pointer_with_length_0_may_be_null() {
         assert_eq!(raw::lavtoeu_update(null_mut(), 0, null(), 0, null(), 0, 1, 0, 1, null_mut(), 0), 2);
         assert_eq!(raw::lavtoeu_check(null_mut(), 0, null(), 0, null(), 0, 1, 1, 0, 1, null_mut(), 0, null_mut(), 0), 2);
         assert_eq!(raw::lavtoeu_sheet(null(), 0, null_mut(), 0), 0);
+        assert_eq!(raw::lavtoeu_page(null(), 0, null_mut(), 0), 6);
     }
 }
 

@@ -10,6 +10,8 @@ pub(crate) const CHECK: u32 = 4;
 
 pub(crate) const SHEET: u32 = 5;
 
+pub(crate) const PAGE: u32 = 13;
+
 pub(crate) const PROFILE: u32 = 14;
 
 pub(crate) fn operation(case: &[u8]) -> u32 {

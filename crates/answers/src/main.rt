@@ -1,4 +1,4 @@
-// Prints the answer of each call that the arguments name: the sheet of a bundle, or `refused` and the number, or `done`.
+// Prints the answer of each call that the arguments name: the sheet of a bundle, the page of an image, or `refused` and the number, or `done`.
 // A call is a file in the format of case.rt, which `tools/yard/yard case` writes from a yard that is drawn as text.
 ghost use mathlib.Core.Path.{_≡_};
 ghost use lib.ListN.{length};
@@ -6,8 +6,10 @@ ghost use lib.ListN.{length};
 mod call;
 mod case;
 
+use image::codec;
 use libc::STDOUT_FILENO;
 use link_rules::octets;
+use path_page;
 use yard_check::sheet;
 
 fn main() {
@@ -63,6 +65,10 @@ fn answer(case: &mut [u8]) {
         print_sheet(case);
         return;
     }
+    if case::operation(case) == case::PAGE {
+        answer_page(case);
+        return;
+    }
     answer_call(case);
 }
 
@@ -71,6 +77,28 @@ fn print_sheet(case: &mut [u8]) {
     let bundle = case::first_input(case);
     let long = sheet::sheet(bundle, &mut text);
     io::write_all(STDOUT_FILENO, &text[..long]);
+}
+
+// Lends a page; of the second input only the length matters, since its bytes past the lines are not printed.
+fn answer_page(case: &mut [u8]) {
+    let mut page = io::large_buffer();
+    let bytes = octets::u32_at(case, 52) as usize;
+    if 65536 < bytes {
+        print_unread();
+        return;
+    }
+    let image = case::first_input(case);
+    print_page(image, &mut page[..bytes]);
+}
+
+fn print_page(image: &[u8], page: &mut [u8]) {
+    let fault = path_page::page(image, page);
+    if fault.number != 0 {
+        print_number(fault.number);
+        return;
+    }
+    let long = 40 * (codec::path_count(image) as usize);
+    io::write_all(STDOUT_FILENO, &page[..long]);
 }
 
 fn trains_room() -> [u16; 8192]

@@ -15,12 +15,16 @@ ghost use Rattle.yard_check.specs.Check.{checked};
 ghost use Rattle.yard_check.specs.Checks.{answeredOf};
 ghost use Rattle.yard_check.specs.Sheet.{sheetText};
 ghost use Rattle.text.specs.Text.{textOf, written};
+ghost use Rattle.path_page.specs.Page.{drawingRule, pageFault, pageAfter};
 ghost use Rattle.free_path_c.specs.Words.{answerWord, faultWord, orderOf, flagOf, statusWord, codeOf, errorsOf, Told, checkWord, erredOf, deadlockOf, nextOf, ToldCheck};
 use disp_structs::Metres;
+use image_fault;
+use image_fault::Fault;
 use link_rules::advance_rewind;
 use link_rules::link_idx::LinkIdx;
 use link_rules::link_idx::TrainIdx;
 use link_rules::refusal::Answer;
+use path_page;
 use train_disp::Order;
 use update_free_path;
 use update_free_path::answer::Status;
@@ -55,7 +59,12 @@ fn answer_word(answer: Answer) -> u32
 pub extern "C" fn lavtoeu_image_fault(image: &[u8], links: u32) -> u32
     ensures { λ r. ⌜ r ≡ faultWord (imageFault (now (image .entry)) links) ⌝ }
 {
-    let f = image_fault::image_fault(image, links);
+    fault_word(image_fault::image_fault(image, links))
+}
+
+fn fault_word(f: Fault) -> u32
+    ensures { λ r. ⌜ r ≡ faultWord f ⌝ }
+{
     (f.number as u32) + 65536 * (f.place as u32)
 }
 
@@ -256,4 +265,12 @@ pub extern "C" fn lavtoeu_sheet(bundle: &[u8], text: &mut [u8]) -> usize
     ensures { λ r. ⌜ textOf r (now (text .exit)) ≡ written (sheetText (now (bundle .entry))) (now (text .entry)) ⌝ }
 {
     sheet::sheet(bundle, text)
+}
+
+// Writes the page of an image's path: a line of 40 bytes for each node. Answers as lavtoeu_mark does.
+#[no_mangle]
+pub extern "C" fn lavtoeu_page(image: &[u8], page: &mut [u8]) -> u32
+    ensures { λ r. ⌜ (r ≡ faultWord (pageFault (now (image .entry)) (now (page .entry)))) × (now (page .exit) ≡ pageAfter drawingRule (now (image .entry)) (now (page .entry))) ⌝ }
+{
+    fault_word(path_page::page(image, page))
 }

@@ -160,6 +160,16 @@ module _ (t : Ties) (img page : List ℕ) where
       go true e = eqb-true (imageFault img mostLinks .number) 0 e
       go false e = sym (ap (λ (f : Fault). f .number) (image-refused (eqb-false (imageFault img mostLinks .number) 0 e))) ∙ z
 
+  -- where nothing is refused, the page has room for the lines
+  pub lines-room : pageFault img page .number ≡ 0 → 40 * pathCount img ≤ length page
+  lines-room z = go (ltb (length page) (40 * pathCount img)) refl
+    where
+      go : (b : Bool) → ltb (length page) (40 * pathCount img) ≡ b → 40 * pathCount img ≤ length page
+      go true e =
+          let n : _≡_ {A = ℕ} 18 0 = sym (ap (λ (f : Fault). f .number) (too-short (image-accepted z) (ltb-true (length page) (40 * pathCount img) e))) ∙ z in
+          absurd (omega arith)
+      go false e = ltb-false (length page) (40 * pathCount img) e
+
 -- ---- the numbers of an accepted image fit their columns
 
 five : (n : ℕ) → n < 100000 → rightIn 5 n ≡ padded 5 (decimal n)

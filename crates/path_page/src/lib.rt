@@ -2,6 +2,9 @@
 // Every function here is proved, and the crate assumes nothing of its own. No public function has a `requires`.
 use disp_structs::DispNode;
 use disp_structs::EstType;
+use image::codec;
+use image_fault;
+use image_fault::Fault;
 use image_reader;
 use metres::Ties;
 use metres::WholeMetres;
@@ -14,7 +17,7 @@ ghost use Rattle.disp_structs.specs.Floats.{inReach};
 ghost use Rattle.text.specs.Text.{textOf, Put};
 ghost use Rattle.text.specs.Columns.{rightIn};
 ghost use Rattle.image.specs.Image.{nodeAt};
-ghost use Rattle.path_page.specs.Page.{field, kindField, beforeLink, afterLink, lineOf, pageLines};
+ghost use Rattle.path_page.specs.Page.{drawingRule, field, kindField, beforeLink, afterLink, lineOf, pageLines, pageFault, pageAfter};
 
 pub mod metres;
 
@@ -79,4 +82,26 @@ fn put_lines(ties: Ties, text: &mut [u8], image: &[u8], n: u32) -> usize
         i += 1;
     }
     count
+}
+
+// The page of an image's path, or the refusal; a refused call leaves the page.
+pub fn page(image: &[u8], page: &mut [u8]) -> Fault
+    ensures { λ r. ⌜ (r ≡ pageFault (now (image .entry)) (now (page .entry))) × (now (page .exit) ≡ pageAfter drawingRule (now (image .entry)) (now (page .entry))) ⌝ }
+{
+    let fault = image_fault::image_fault(image, 4000);
+    if fault.number != 0 {
+        return fault;
+    }
+    let n = codec::path_count(image);
+    if page.len() < 40 * (n as usize) {
+        return Fault {
+            number: 18,
+            place: 0,
+        };
+    }
+    put_lines(Ties::Away, page, image, n);
+    Fault {
+        number: 0,
+        place: 0,
+    }
 }
