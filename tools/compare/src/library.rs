@@ -1,7 +1,7 @@
 //! The calls of the proved library, each over a case. Every buffer that is lent is an allocation of just its length.
 
 use lavtoeu::{Move, Order, Refusal};
-use oracle::cases::{Case, CHECK, LAY_OUT, MARK, SHEET, UPDATE};
+use oracle::cases::{Case, CHECK, LAY_OUT, MARK, PAGE, SHEET, UPDATE};
 use oracle::gen::UpdateCase;
 use oracle::layout::{u16_bytes, u16s, u32s};
 use oracle::model::CheckArgs;
@@ -9,7 +9,7 @@ use oracle::model::CheckArgs;
 /// Where the answer of an operation has the refusal's number.
 pub fn number_at(op: u32) -> usize {
     match op {
-        MARK | LAY_OUT => 0,
+        MARK | LAY_OUT | PAGE => 0,
         _ => 1,
     }
 }
@@ -24,6 +24,7 @@ pub fn answered(asked: &Case) -> Case {
         UPDATE => update(&mut case),
         CHECK => check(&mut case),
         SHEET => sheet(&mut case),
+        PAGE => page(&mut case),
         op => panic!("no operation {op}"),
     }
     case
@@ -111,4 +112,11 @@ fn sheet(case: &mut Case) {
     let n = lavtoeu::sheet_into(&case.ins[0], &mut text);
     text.truncate(n);
     case.outs = [text, vec![]];
+}
+
+fn page(case: &mut Case) {
+    let mut page = case.ins[1].clone();
+    let answer = lavtoeu::page(&case.ins[0], &mut page);
+    (case.answer[0], case.answer[1]) = numbers(answer);
+    case.outs = [page, vec![]];
 }

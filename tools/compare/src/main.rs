@@ -5,6 +5,7 @@ mod check_time;
 mod checks;
 mod clock;
 mod library;
+mod page_time;
 mod tally;
 mod time;
 mod update_time;
@@ -25,7 +26,7 @@ struct Run {
 }
 
 /// The kinds of cases, each with one step of a run.
-const KINDS: [(&str, fn(&mut Run)); 10] = [
+const KINDS: [(&str, fn(&mut Run)); 11] = [
     ("mark", |r| r.call(calls::mark)),
     ("layout", |r| r.call(calls::lay_out)),
     ("image", Run::image),
@@ -36,10 +37,15 @@ const KINDS: [(&str, fn(&mut Run)); 10] = [
     ("check-large", |r| r.call(checks::large)),
     ("sheet", |r| r.call(calls::sheet)),
     ("sheet-damaged", |r| r.call(checks::damaged_sheet)),
+    ("page", |r| r.call(calls::page)),
 ];
 
-const TIMES: [(&str, fn(u64)); 3] =
-    [("time", time::run), ("update-time", update_time::run), ("check-time", check_time::run)];
+const TIMES: [(&str, fn(u64)); 4] = [
+    ("time", time::run),
+    ("update-time", update_time::run),
+    ("check-time", check_time::run),
+    ("page-time", page_time::run),
+];
 
 impl Run {
     fn new(seed: u64) -> Run {

@@ -2,12 +2,14 @@
 
 use crate::library;
 use crate::updates::Source;
-use oracle::cases::{Case, CHECK, UPDATE};
+use oracle::cases::{Case, CHECK, PAGE, UPDATE};
 use oracle::layout::read_image;
+use oracle::model::LINKS;
 use std::collections::BTreeMap;
 
 /// The number of cases whose answers differ, how many were refused by each number (0: by none), how updates and checks
-/// ended, how often a slot of a check has each code, and how many updates came from each generator.
+/// ended, how often a slot of a check has each code, how many updates came from each generator, and of pages how many lines
+/// there were and at how many the offset is an exact half of a metre.
 #[derive(Default)]
 pub struct Tally {
     pub differ: u64,
@@ -15,6 +17,8 @@ pub struct Tally {
     ends: BTreeMap<&'static str, u64>,
     codes: BTreeMap<u8, u64>,
     sources: BTreeMap<Source, u64>,
+    lines: u64,
+    halves: u64,
 }
 
 /// How an update or a check ends that is not refused.
@@ -46,11 +50,20 @@ impl Tally {
         if judged.op == CHECK && number == 0 {
             judged.outs[1].chunks(16).for_each(|row| count(&mut self.codes, row[0]));
         }
+        if judged.op == PAGE && number == 0 {
+            self.add_lines(&judged.ins[0]);
+        }
         if library::answered(asked) != judged {
             let mut bytes = vec![];
             judged.write(&mut bytes);
             self.differs(&bytes);
         }
+    }
+
+    fn add_lines(&mut self, image: &[u8]) {
+        let path = read_image(image, LINKS).expect("an accepted image").path;
+        self.lines += path.len() as u64;
+        self.halves += path.iter().filter(|x| x.offset.fract().abs() == 0.5).count() as u64;
     }
 
     pub fn add_update(&mut self, source: Source, asked: &Case) {
@@ -85,6 +98,9 @@ impl Tally {
         self.codes.iter().for_each(|(code, n)| println!("  slots with code {code}: {n}"));
         for (source, n) in &self.sources {
             println!("  from {}: {n}", format!("{source:?}").to_lowercase());
+        }
+        if self.lines > 0 {
+            println!("  lines: {}, exact halves among their offsets: {}", self.lines, self.halves);
         }
     }
 }
