@@ -1,7 +1,7 @@
 //! The calls of the proved library, each over a case. Every buffer that is lent is an allocation of just its length.
 
 use lavtoeu::{Move, Order, Refusal};
-use oracle::cases::{Case, CHECK, LAY_OUT, MARK, PAGE, SHEET, UPDATE};
+use oracle::cases::{Case, CHECK, LAY_OUT, MARK, PAGE, PROFILE, SHEET, UPDATE};
 use oracle::gen::UpdateCase;
 use oracle::layout::{u16_bytes, u16s, u32s};
 use oracle::model::CheckArgs;
@@ -9,7 +9,7 @@ use oracle::model::CheckArgs;
 /// Where the answer of an operation has the refusal's number.
 pub fn number_at(op: u32) -> usize {
     match op {
-        MARK | LAY_OUT | PAGE => 0,
+        MARK | LAY_OUT | PAGE | PROFILE => 0,
         _ => 1,
     }
 }
@@ -25,6 +25,7 @@ pub fn answered(asked: &Case) -> Case {
         CHECK => check(&mut case),
         SHEET => sheet(&mut case),
         PAGE => page(&mut case),
+        PROFILE => (case.answer[0], case.answer[1]) = numbers(lavtoeu::profile(&case.ins[0])),
         op => panic!("no operation {op}"),
     }
     case

@@ -26,7 +26,7 @@ struct Run {
 }
 
 /// The kinds of cases, each with one step of a run.
-const KINDS: [(&str, fn(&mut Run)); 11] = [
+const KINDS: [(&str, fn(&mut Run)); 12] = [
     ("mark", |r| r.call(calls::mark)),
     ("layout", |r| r.call(calls::lay_out)),
     ("image", Run::image),
@@ -38,6 +38,7 @@ const KINDS: [(&str, fn(&mut Run)); 11] = [
     ("sheet", |r| r.call(calls::sheet)),
     ("sheet-damaged", |r| r.call(checks::damaged_sheet)),
     ("page", |r| r.call(calls::page)),
+    ("profile", |r| r.call(calls::profile)),
 ];
 
 const TIMES: [(&str, fn(u64)); 4] = [
