@@ -17,9 +17,9 @@ use Rattle.path_page.specs.declared.metres.Ties.{Ties}
 use Rattle.path_page.specs.declared.metres.Ties as Ties
 use Rattle.path_page.specs.declared.metres.WholeMetres.{WholeMetres}
 
--- Q-1: halves go away from zero
+-- Q-8: halves go to the even metre
 abbrev pub drawingRule : Ties
-drawingRule = Ties.the-variants.Away
+drawingRule = Ties.the-variants.Even
 
 -- the links of a call that has neither an occupancy nor an index
 abbrev pub mostLinks : ℕ

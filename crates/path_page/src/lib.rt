@@ -99,7 +99,7 @@ pub fn page(image: &[u8], page: &mut [u8]) -> Fault
             place: 0,
         };
     }
-    put_lines(Ties::Away, page, image, n);
+    put_lines(Ties::Even, page, image, n);
     Fault {
         number: 0,
         place: 0,
