@@ -660,8 +660,8 @@ pub const LINKS: usize = 4_000;
 /// Gives the nearest whole number of a float.
 pub type Rounding = fn(f64) -> f64;
 
-/// How a page rounds: halves away from zero.
-pub const ROUNDING: Rounding = f64::round;
+/// How a page rounds: halves to the even number.
+pub const ROUNDING: Rounding = f64::round_ties_even;
 
 /// A line for each node of the path, 39 columns and a line end.
 pub fn lines(t: &Train, round: Rounding) -> String {
