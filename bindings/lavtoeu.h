@@ -33,7 +33,8 @@ enum {
     LAVTOEU_YARD_HEADER = 8, LAVTOEU_YARD_OFFSET = 4,
     LAVTOEU_REPORT_RECORD = 16,
     LAVTOEU_BUNDLE_HEADER = 32,
-    LAVTOEU_SHEET_ROOM = 4096
+    LAVTOEU_SHEET_ROOM = 4096,
+    LAVTOEU_PAGE_LINE = 40
 };
 
 /* The size of an image of e est records with room for q diverge nodes. */

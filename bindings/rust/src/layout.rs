@@ -25,6 +25,9 @@ pub const MAX_BUNDLE: usize = 65_536;
 /// Bytes that hold every sheet.
 pub const SHEET_ROOM: usize = 4_096;
 
+/// The line of a path node on a page, with its line end.
+pub const PAGE_LINE: usize = 40;
+
 /// The most links, lockouts, est records of a train, diverge nodes of a train, slots.
 pub const MAX_LINKS: usize = 4_000;
 pub const MAX_LOCKOUTS: usize = 4_096;

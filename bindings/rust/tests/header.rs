@@ -45,6 +45,7 @@ fn header_and_crate_have_the_same_sizes() {
         ("REPORT_RECORD", REPORT_RECORD),
         ("BUNDLE_HEADER", BUNDLE_HEADER),
         ("SHEET_ROOM", SHEET_ROOM),
+        ("PAGE_LINE", PAGE_LINE),
         ("MAX_LINKS", MAX_LINKS),
         ("MAX_LOCKOUTS", MAX_LOCKOUTS),
         ("MAX_ESTS", MAX_ESTS),

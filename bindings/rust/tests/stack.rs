@@ -96,7 +96,7 @@ fn occupancy() -> Vec<u16> {
 }
 
 /// The calls with the stack that each may take, as bindings/README.md has it.
-const BOUNDS: [(&str, usize); 7] = [
+const BOUNDS: [(&str, usize); 9] = [
     ("version", 1 << 10),
     ("mark", 1 << 10),
     ("judge", 20 << 10),
@@ -104,10 +104,12 @@ const BOUNDS: [(&str, usize); 7] = [
     ("update", 96 << 10),
     ("check", 96 << 10),
     ("sheet", 320 << 10),
+    ("page", 20 << 10),
+    ("profile", 20 << 10),
 ];
 
 /// The stack of each call of `BOUNDS` over images that `image` makes of a train's number.
-fn stacks(image: fn(u16) -> Vec<u8>, m: Move) -> [usize; 7] {
+fn stacks(image: fn(u16) -> Vec<u8>, m: Move) -> [usize; 9] {
     let (one, mut spare) = (image(1), image(1));
     let header = Image::from_bytes(&one).unwrap();
     let est = est_bytes(&header.ests);
@@ -125,12 +127,16 @@ fn stacks(image: fn(u16) -> Vec<u8>, m: Move) -> [usize; 7] {
     let (updated, updates) = stack_of(|| update(&mut spare, m));
     let (checked, checks) = stack_of(|| check(&mut yard, m, 1, &mut report));
     let (printed, sheets) = stack_of(|| sheet_into(&bundle, &mut text));
+    let mut lines = vec![0; PAGE_LINE * header.path.len()];
+    let (paged, pages) = stack_of(|| page(&one, &mut lines));
+    let (profiled, profiles) = stack_of(|| profile(&one));
 
     assert_eq!((number, marked, judged, laid), (VERSION, Ok(()), Ok(()), Ok(())));
     assert_eq!(updated, Updated { status: Ok(Status::Success), rounds: 2, strays: 0 });
     assert_eq!(checked, Ok(Checked::Done { deadlock: false, next: 1 }));
     assert!(text[..printed].starts_with(b"yard 2 deadlock no next 1\n1 success 2"));
-    [versions, marks, judges, lays, updates, checks, sheets]
+    assert_eq!((paged, profiled), (Ok(()), Ok(())));
+    [versions, marks, judges, lays, updates, checks, sheets, pages, profiles]
 }
 
 #[test]

@@ -29,7 +29,7 @@ fn parts_fit(bundle: &[u8]) -> bool
     yard <= bundle.len()
 }
 
-pub(crate) fn bundle_fits(bundle: &[u8]) -> bool
+pub fn bundle_fits(bundle: &[u8]) -> bool
     ensures { λ r. ⌜ r ≡ bundleFits (now (bundle .entry)) ⌝ }
 {
     if 65536 < bundle.len() {
@@ -47,7 +47,7 @@ pub(crate) fn bundle_fits(bundle: &[u8]) -> bool
 // ---- the parts
 
 // The entries of the occupancy, as many as there is room for.
-pub(crate) fn read_occupancy(occ: &mut [u16], bundle: &[u8])
+pub fn read_occupancy(occ: &mut [u16], bundle: &[u8])
     ensures { λ _. ⌜ now (occ .exit) ≡ listed (length (now (occ .entry))) (λ i. leAt 2 (now (bundle .entry)) (32 + 2 * i)) ⌝ }
 {
     let mut i = 0;
@@ -57,7 +57,7 @@ pub(crate) fn read_occupancy(occ: &mut [u16], bundle: &[u8])
     }
 }
 
-pub(crate) fn read_blocking(blocking: &mut [u32], bundle: &[u8])
+pub fn read_blocking(blocking: &mut [u32], bundle: &[u8])
     ensures { λ _. ⌜ now (blocking .exit) ≡ listed (length (now (blocking .entry))) (λ i. leAt 4 (now (bundle .entry)) (blockingOffset (now (bundle .entry)) + 4 * i)) ⌝ }
 {
     let offset = octets::u32_at(bundle, 12) as usize;
@@ -81,7 +81,7 @@ pub(crate) fn copy_from(to: &mut [u8], from: &[u8], at: usize)
 }
 
 // As many slots as the report needs; a yard that 14 refuses needs none.
-pub(crate) fn report_slots(yard: &[u8]) -> u32
+pub fn report_slots(yard: &[u8]) -> u32
     ensures { λ r. ⌜ r ≡ reportSlots (now (yard .entry)) ⌝ }
 {
     if yard::yard_fits(yard) {
