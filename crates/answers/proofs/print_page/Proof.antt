@@ -13,8 +13,8 @@ use Rattle.answers.proofs.print_page.Tie as tie
 page-requires : tie.Need-page-requires
 page-requires c κs = search needs
 
-print-number-requires : tie.Need-print-number-requires
-print-number-requires c κs = search needs
+refused-requires : tie.Need-refused-requires
+refused-requires c κs = search needs
 
 same-length : tie.Need-same-length
 same-length c = search needs
@@ -31,24 +31,24 @@ cast-long c = search needs
 mul-long : tie.Need-mul-long
 mul-long c = search needs
 
-slice-reshare-prefix-write-all : tie.Need-slice-reshare-prefix-write-all
-slice-reshare-prefix-write-all c =
+slice-reshare-prefix-bytes : tie.Need-slice-reshare-prefix-bytes
+slice-reshare-prefix-bytes c =
     let o = c .before .before .before .before .before .page in
     let a = c .before .before .before .before .before .before .before .before .before .args in
     let z = sym (ap (λ (f : Fault). f .number) (o .ensures .0)) ∙ c .before .if1 .left in
     let room = lines-room drawingRule (now (a .image)) (now (a .page)) z in
     omega (arith, room, c .path-count .ensures, o .kept .1 .0)
 
-slice-aggregate-write-all : tie.Need-slice-aggregate-write-all
-slice-aggregate-write-all c =
+slice-aggregate-bytes : tie.Need-slice-aggregate-bytes
+slice-aggregate-bytes c =
     let o = c .before .before .before .before .before .before .page in
     let a = c .before .before .before .before .before .before .before .before .before .before .args in
     let z = sym (ap (λ (f : Fault). f .number) (o .ensures .0)) ∙ c .before .before .if1 .left in
     let room = lines-room drawingRule (now (a .image)) (now (a .page)) z in
     sym (length-take-le (40 * c .before .path-count .result) (o .last .1 .0) (omega (arith, room, c .before .path-count .ensures, o .kept .1 .0)))
 
-write-all-requires : tie.Need-write-all-requires
-write-all-requires c κs = search needs
+bytes-requires : tie.Need-bytes-requires
+bytes-requires c κs = search needs
 
 same-length-2 : tie.Need-same-length-2
 same-length-2 c = search needs
@@ -61,14 +61,14 @@ print-page-spec =
     tie.close
     (tie.spec
     page-requires
-    print-number-requires
+    refused-requires
     same-length
     returns
     path-count-requires
     cast-long
     mul-long
-    slice-reshare-prefix-write-all
-    slice-aggregate-write-all
-    write-all-requires
+    slice-reshare-prefix-bytes
+    slice-aggregate-bytes
+    bytes-requires
     same-length-2
     returns-2)

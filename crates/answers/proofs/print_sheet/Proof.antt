@@ -21,14 +21,14 @@ sheet-requires c κs = search needs
 array-share-prefix-text : tie.Need-array-share-prefix-text
 array-share-prefix-text c = let k = within _ _ _ _ (c .before .before .before .sheet .ensures) in omega arith
 
-slice-aggregate-write-all : tie.Need-slice-aggregate-write-all
-slice-aggregate-write-all c =
+slice-aggregate-bytes : tie.Need-slice-aggregate-bytes
+slice-aggregate-bytes c =
     let o = c .before .before .before .before .sheet in
     let k = within _ _ _ _ (o .ensures) in
     sym (length-take-le (o .result) (o .last .1 .0) (omega (arith, o .kept .1 .0)))
 
-write-all-requires : tie.Need-write-all-requires
-write-all-requires c κs = search needs
+bytes-requires : tie.Need-bytes-requires
+bytes-requires c κs = search needs
 
 same-length : tie.Need-same-length
 same-length c = search needs
@@ -45,7 +45,7 @@ print-sheet-spec =
     slice-aggregate-sheet
     sheet-requires
     array-share-prefix-text
-    slice-aggregate-write-all
-    write-all-requires
+    slice-aggregate-bytes
+    bytes-requires
     same-length
     returns)

@@ -1,7 +1,7 @@
 use Prim.Native.Nat.{_-_}
 use borrow.Author.Needs.{needs}
-use Rattle.answers.proofs.main.Statement.{statement}
-use Rattle.answers.proofs.main.Tie as tie
+use Rattle.answers.proofs.answer_arguments.Statement.{statement}
+use Rattle.answers.proofs.answer_arguments.Tie as tie
 
 abbrev Inv-loop : tie.InvT-loop
 Inv-loop count i₀ i = Unit {0}
@@ -18,6 +18,9 @@ loop-holds c = search needs
 answer-argument-requires : tie.Need-answer-argument-requires Inv-loop μ-loop
 answer-argument-requires c κs = search needs
 
+returns : tie.Need-returns Inv-loop μ-loop
+returns c = search needs
+
 add-i : tie.Need-add-i Inv-loop μ-loop
 add-i c = search needs
 
@@ -27,11 +30,11 @@ loop-less c = search needs
 loop-again : tie.Need-loop-again Inv-loop μ-loop
 loop-again c = search needs
 
-returns : tie.Need-returns Inv-loop μ-loop
-returns c = search needs
+returns-2 : tie.Need-returns-2 Inv-loop μ-loop
+returns-2 c = search needs
 
-pub main-spec : {M : Type 1} → statement M
-main-spec =
+pub answer-arguments-spec : {M : Type 1} → statement M
+answer-arguments-spec =
     tie.close
     (tie.spec
     Inv-loop
@@ -39,7 +42,8 @@ main-spec =
     arg-count-requires
     loop-holds
     answer-argument-requires
+    returns
     add-i
     loop-less
     loop-again
-    returns)
+    returns-2)
