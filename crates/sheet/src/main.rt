@@ -2,6 +2,7 @@
 // At most 65,537 bytes are read: a longer input is refused by 17 as those are.
 ghost use mathlib.Core.Path.{_≡_};
 ghost use lib.ListN.{length};
+use libc::STDERR_FILENO;
 use libc::STDIN_FILENO;
 use libc::STDOUT_FILENO;
 use yard_check::sheet;
@@ -18,5 +19,8 @@ fn main() {
     let mut text = io::buffer();
     let got = io::read_full(STDIN_FILENO, &mut bundle);
     let long = sheet::sheet(&bundle[..got], &mut text);
-    io::write_all(STDOUT_FILENO, &text[..long]);
+    if io::write_all(STDOUT_FILENO, &text[..long]) {
+        return;
+    }
+    io::write_all(STDERR_FILENO, b"sheet: standard output cannot be written\n");
 }
