@@ -80,25 +80,12 @@ fn check_read(bundle: &mut [u8], occ: &mut [u16], blocking: &mut [u32], report: 
     check_from(bundle, at, occ, blocking, n, report)
 }
 
-// As many as a bundle of 65,536 bytes can have behind its header.
-fn occupancy_room() -> [u16; 32752]
-    ensures { λ r. ⌜ 32752 ≡ length r ⌝ }
-{
-    [0u16; 32752]
-}
-
-fn blocking_room() -> [u32; 16376]
-    ensures { λ r. ⌜ 16376 ≡ length r ⌝ }
-{
-    [0u32; 16376]
-}
-
 fn check_fitting(bundle: &mut [u8], report: &mut [u8]) -> Answer
     requires { ⌜ bundleFits (now bundle) ≡ true ⌝ }
     ensures { λ r. ⌜ bundleOf r (now (bundle .exit)) (now (report .exit)) ≡ checkedInBundle (now (bundle .entry)) (now (report .entry)) ⌝ }
 {
-    let mut occ = occupancy_room();
-    let mut blocking = blocking_room();
+    let mut occ = bundle::occupancy_room();
+    let mut blocking = bundle::blocking_room();
     let links = octets::u32_at(bundle, 8) as usize;
     let count = octets::u32_at(bundle, 16) as usize;
     check_read(bundle, &mut occ[..links], &mut blocking[..count], report)

@@ -89,3 +89,17 @@ pub fn report_slots(yard: &[u8]) -> u32
     }
     0
 }
+
+// ---- room for the parts: as many as a bundle of 65,536 bytes can have behind its header
+
+pub fn occupancy_room() -> [u16; 32752]
+    ensures { λ r. ⌜ 32752 ≡ length r ⌝ }
+{
+    [0u16; 32752]
+}
+
+pub fn blocking_room() -> [u32; 16376]
+    ensures { λ r. ⌜ 16376 ≡ length r ⌝ }
+{
+    [0u32; 16376]
+}

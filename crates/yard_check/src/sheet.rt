@@ -207,19 +207,7 @@ fn put_checked(
     put_check(text, answer, yard, report, octets::u32_at(bundle, 8))
 }
 
-// ---- room for the parts: as many as a bundle of 65,536 bytes can have behind its header
-
-fn occupancy_room() -> [u16; 32752]
-    ensures { λ r. ⌜ 32752 ≡ length r ⌝ }
-{
-    [0u16; 32752]
-}
-
-fn blocking_room() -> [u32; 16376]
-    ensures { λ r. ⌜ 16376 ≡ length r ⌝ }
-{
-    [0u32; 16376]
-}
+// ---- room for the yard and the report
 
 fn yard_room() -> [u8; 65504]
     ensures { λ r. ⌜ 65504 ≡ length r ⌝ }
@@ -237,8 +225,8 @@ fn put_bundle(text: &mut [u8], bundle: &[u8]) -> usize
     requires { ⌜ bundleFits (now bundle) ≡ true ⌝ }
     ensures { λ r. ⌜ Put (checkLines (checkedBundle (now (bundle .entry))) (occupancyCount (now (bundle .entry)))) (textOf 0 (now (text .entry))) (textOf r (now (text .exit))) ⌝ }
 {
-    let mut occ = occupancy_room();
-    let mut blocking = blocking_room();
+    let mut occ = bundle::occupancy_room();
+    let mut blocking = bundle::blocking_room();
     let mut yard = yard_room();
     let mut report = blank_report();
     let links = octets::u32_at(bundle, 8) as usize;
