@@ -149,8 +149,8 @@ fn finish_at(
     ensures { λ a. ⌜ ((dt dn : List ℕ) → answer (a .code) (ends (again (trainOf (now (img .exit)) dt dn (a .header)) (a .split) (a .«div_split»))) ≡ finishAt (trainOf (now (img .entry)) dt dn h) (listed (r .«new_count») (nodeAt (now (fresh .entry)))) r base «div_split») × Kept (now (img .exit)) (now (img .entry)) × (a .moves ≡ movesOf (a .code) (r .split + r .«new_count») (h .«path_count») (ok base)) ⌝ }
 {
     let n = h.path_count;
-    let moved = path::splice_path(img, fresh, n, r.split, base, r.new_count);
     let total = r.split + r.new_count + (n - base);
+    let moved = path::splice_path(img, fresh, n, r.split, base, r.new_count);
     let f = path::free_is_correct(img, total, r.free);
     if f != 0 {
         return crate::stopped(f, h);
