@@ -1,8 +1,12 @@
-// A call as bytes: a case of tools/oracle/README.md, of which the answer is not read.
-ghost use Prim.Native.Nat.{_≤_, _<_, _^_};
+// A case of tools/oracle/README.md, in its head and the buffers behind it. Its answer and the outputs are not read, but for the calls of a list.
+ghost use mathlib.Core.Path.{_≡_};
+ghost use Prim.Native.Nat.{_<_, _^_};
+ghost use lib.ListN.{length};
 use link_rules::octets;
 
 pub(crate) const MARK: u32 = 1;
+
+pub(crate) const LAY_OUT: u32 = 2;
 
 pub(crate) const UPDATE: u32 = 3;
 
@@ -10,69 +14,166 @@ pub(crate) const CHECK: u32 = 4;
 
 pub(crate) const SHEET: u32 = 5;
 
+pub(crate) const LIST: u32 = 12;
+
 pub(crate) const PAGE: u32 = 13;
 
 pub(crate) const PROFILE: u32 = 14;
 
-pub(crate) fn operation(case: &[u8]) -> u32 {
-    octets::u32_at(case, 4)
+// ---- the head: size, operation, tag, line, 8 arguments, 4 lengths of inputs, 8 numbers of the answer, 2 lengths of outputs
+
+pub(crate) fn operation(head: &[u8]) -> u32 {
+    octets::u32_at(head, 4)
 }
 
-// ---- where the inputs lie: behind the head of 104 bytes, in order
-
-pub(crate) fn first_end(case: &[u8]) -> usize
-    ensures { λ r. ⌜ 104 ≤ r ⌝ }
-    ensures { λ r. ⌜ r < 2 ^ 33 ⌝ }
-{
-    104 + (octets::u32_at(case, 48) as usize)
+pub(crate) fn argument(head: &[u8], i: u32) -> u32 {
+    octets::u32_at(head, 16 + 4 * (i as usize))
 }
 
-pub(crate) fn second_end(case: &[u8]) -> usize
-    ensures { λ r. ⌜ r < 2 ^ 34 ⌝ }
-{
-    first_end(case) + (octets::u32_at(case, 52) as usize)
+fn input_len(head: &[u8], i: u32) -> u32 {
+    octets::u32_at(head, 48 + 4 * (i as usize))
 }
 
-fn inputs_end(case: &[u8]) -> usize {
-    let two = second_end(case);
-    two + (octets::u32_at(case, 56) as usize) + (octets::u32_at(case, 60) as usize)
+// How many bytes follow the head; a size below the head's counts as none.
+pub(crate) fn body_size(head: &[u8]) -> usize {
+    let size = octets::u32_at(head, 0) as usize;
+    if size < 104 {
+        return 0;
+    }
+    size - 104
 }
 
-// Is the size that of the bytes, and do the inputs lie within them?
-pub(crate) fn is_whole(case: &[u8]) -> bool {
-    if octets::u32_at(case, 0) as usize != case.len() {
+// Do the inputs lie within the size?
+pub(crate) fn is_whole(head: &[u8]) -> bool {
+    if octets::u32_at(head, 0) < 104 {
         return false;
     }
-    inputs_end(case) <= case.len()
+    outputs_at(head) <= body_size(head)
 }
 
-// The first input; none where it does not lie within the bytes.
-pub(crate) fn first_input(case: &mut [u8]) -> &mut [u8] {
-    let e = first_end(case);
-    if case.len() < e {
-        return &mut case[0..0];
+// ---- the buffers
+
+// Room for an image, a yard or a report, for an occupancy and for a blocking list.
+pub(crate) fn no_bytes() -> [u8; 65536]
+    ensures { λ r. ⌜ 65536 ≡ length r ⌝ }
+{
+    [0u8; 65536]
+}
+
+pub(crate) fn no_trains() -> [u16; 8192]
+    ensures { λ r. ⌜ 8192 ≡ length r ⌝ }
+{
+    [0u16; 8192]
+}
+
+pub(crate) fn no_links() -> [u32; 8192]
+    ensures { λ r. ⌜ 8192 ≡ length r ⌝ }
+{
+    [0u32; 8192]
+}
+
+// Copies a buffer into one of the same length.
+pub(crate) fn copy(to: &mut [u8], from: &[u8]) {
+    if to.len() != from.len() {
+        return;
     }
-    &mut case[104..e]
-}
-
-// Numbers of 16 bits from a place on; past the bytes they are 0.
-pub(crate) fn read_u16s(to: &mut [u16], case: &[u8], first: usize) {
-    let mut at = first;
     let mut i = 0;
     while i < to.len() {
-        to[i] = octets::u16_at(case, at);
-        at = std::num::wrapping_add_usize(at, 2);
+        to[i] = from[i];
         i += 1;
     }
 }
 
-// Numbers of 32 bits in the same way.
-pub(crate) fn read_u32s(to: &mut [u32], case: &[u8], first: usize) {
+pub(crate) fn same(a: &[u8], b: &[u8]) -> bool {
+    if a.len() != b.len() {
+        return false;
+    }
+    let mut i = 0;
+    while i < a.len() {
+        if a[i] != b[i] {
+            return false;
+        }
+        i += 1;
+    }
+    true
+}
+
+// Fills a column with the u16 numbers that begin at `first` and stand `step` bytes apart; past the bytes they are 0.
+pub(crate) fn u16s(to: &mut [u16], bytes: &[u8], first: usize, step: usize) {
     let mut at = first;
     let mut i = 0;
     while i < to.len() {
-        to[i] = octets::u32_at(case, at);
+        to[i] = octets::u16_at(bytes, at);
+        at = std::num::wrapping_add_usize(at, step);
+        i += 1;
+    }
+}
+
+// Fills a column with u32 numbers; past the bytes they are 0.
+pub(crate) fn u32s(to: &mut [u32], bytes: &[u8]) {
+    let mut at: usize = 0;
+    let mut i = 0;
+    while i < to.len() {
+        to[i] = octets::u32_at(bytes, at);
         at = std::num::wrapping_add_usize(at, 4);
         i += 1;
     }
+}
+
+// n bytes from a on; none where they do not lie within the slice.
+pub(crate) fn part(s: &[u8], a: usize, n: usize) -> &[u8] {
+    if s.len() < a {
+        return &s[0..0];
+    }
+    if s.len() - a < n {
+        return &s[0..0];
+    }
+    let e = a + n;
+    &s[a..e]
+}
+
+pub(crate) fn first_input<'a>(head: &[u8], body: &'a [u8]) -> &'a [u8] {
+    part(body, 0, input_len(head, 0) as usize)
+}
+
+pub(crate) fn second_input<'a>(head: &[u8], body: &'a [u8]) -> &'a [u8] {
+    part(
+        body,
+        input_len(head, 0) as usize,
+        input_len(head, 1) as usize,
+    )
+}
+
+// How many bytes the first two inputs have.
+fn two_inputs_len(head: &[u8]) -> usize
+    ensures { λ r. ⌜ r < 2 ^ 33 ⌝ }
+{
+    (input_len(head, 0) as usize) + (input_len(head, 1) as usize)
+}
+
+pub(crate) fn third_input<'a>(head: &[u8], body: &'a [u8]) -> &'a [u8] {
+    part(body, two_inputs_len(head), input_len(head, 2) as usize)
+}
+
+// How many bytes the first three inputs have.
+fn three_inputs_len(head: &[u8]) -> usize
+    ensures { λ r. ⌜ r < 2 ^ 34 ⌝ }
+{
+    two_inputs_len(head) + (input_len(head, 2) as usize)
+}
+
+pub(crate) fn fourth_input<'a>(head: &[u8], body: &'a [u8]) -> &'a [u8] {
+    part(body, three_inputs_len(head), input_len(head, 3) as usize)
+}
+
+// Where the outputs begin.
+fn outputs_at(head: &[u8]) -> usize
+    ensures { λ r. ⌜ r < 2 ^ 35 ⌝ }
+{
+    three_inputs_len(head) + (input_len(head, 3) as usize)
+}
+
+// The calls of a list: its first output.
+pub(crate) fn calls<'a>(head: &[u8], body: &'a [u8]) -> &'a [u8] {
+    part(body, outputs_at(head), octets::u32_at(head, 96) as usize)
 }

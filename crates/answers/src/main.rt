@@ -1,17 +1,22 @@
-// Prints the answer of each call that the arguments name: the sheet of a bundle, the page of an image, or a call's words (README, Draw a yard).
-// A call is a file in the format of case.rt, which `tools/yard/yard case` writes from a yard that is drawn as text.
+// Prints the answer of each call that stands in the files which the arguments name: a sheet, a page, or a call's words (README, Draw a yard).
+// A file is a row of cases (tools/oracle/README.md): `tools/yard/yard case` writes one from a yard that is drawn as text, the oracle records many.
+// Behind the argument `--sums` each case has a line of its own, with a checksum of each buffer that its call left: what the oracle prints of the same cases.
 ghost use mathlib.Core.Path.{_≡_};
 ghost use lib.ListN.{length};
 
-mod call;
 mod case;
+mod check;
+mod lay_out;
+mod leaf;
+mod list;
+mod mark;
+mod page;
 mod print;
+mod sheet;
+mod update;
 
-use image::codec;
 use libc::STDERR_FILENO;
-use link_rules::octets;
-use path_page;
-use yard_check::sheet;
+use track_profile;
 
 fn main() {
     if answer_arguments() {
@@ -23,152 +28,181 @@ fn main() {
     );
 }
 
+// How an argument leaves the run: are checksums asked for, and was all written?
+struct Run {
+    sums: bool,
+    written: bool,
+}
+
 // Was all of it written? As soon as something is not, no more is.
 fn answer_arguments() -> bool {
     let count = os::arg_count();
+    let mut sums = false;
     let mut i: usize = 1;
     while i < count {
-        if !answer_argument(i) {
+        let run = answer_argument(i, sums);
+        if !run.written {
             return false;
         }
+        sums = run.sums;
         i += 1;
     }
     true
 }
 
-fn answer_argument(i: usize) -> bool {
-    let mut name = io::buffer();
-    let n = os::arg(i, &mut name);
-    answer_file(&name[..n])
+fn answer_argument(i: usize, sums: bool) -> Run {
+    let mut word = io::buffer();
+    let n = os::arg(i, &mut word);
+    if case::same(&word[..n], b"--sums") {
+        return Run {
+            sums: true,
+            written: true,
+        };
+    }
+    Run {
+        sums: sums,
+        written: answer_file(&word[..n], sums),
+    }
 }
 
-fn answer_file(name: &[u8]) -> bool {
+fn answer_file(name: &[u8], sums: bool) -> bool {
     if !print::line(name) {
         return false;
     }
     let fd = os::open_read(name);
     if fd < 0 {
-        return print_unread();
+        return print::unread();
     }
-    let written = answer_open(fd);
+    let written = answer_cases(fd, sums);
     libc::close(fd);
     written
 }
 
-fn print_unread() -> bool {
-    print::line(b"cannot be read")
+// What stands next in a file: a case, whose answer was written or not, or nothing more that can be read.
+struct Next {
+    written: bool,
+    ended: bool,
 }
 
-// Room for a call: a bundle that is too long is refused, and still a call.
-fn case_room() -> [u8; 131072]
-    ensures { λ r. ⌜ 131072 ≡ length r ⌝ }
+fn ended(written: bool) -> Next {
+    Next {
+        written: written,
+        ended: true,
+    }
+}
+
+// A proved loop has to end, and nothing says that a file does: a million cases are more than a file has.
+fn answer_cases(fd: i32, sums: bool) -> bool {
+    let mut number: u32 = 0;
+    while number < 1000000 {
+        let next = answer_next(fd, number, sums);
+        if !next.written {
+            return false;
+        }
+        if next.ended {
+            return true;
+        }
+        number += 1;
+    }
+    true
+}
+
+// Room for the buffers of a case: a bundle that is too long is refused, and still a call.
+fn room() -> [u8; 262144]
+    ensures { λ r. ⌜ 262144 ≡ length r ⌝ }
 {
-    [0u8; 131072]
+    [0u8; 262144]
 }
 
-fn answer_open(fd: i32) -> bool {
-    let mut case = case_room();
-    let got = io::read_full(fd, &mut case);
-    answer(&mut case[..got])
-}
-
-fn answer(case: &mut [u8]) -> bool {
-    if !case::is_whole(case) {
-        return print_unread();
+// Reads one case and answers it.
+fn answer_next(fd: i32, number: u32, sums: bool) -> Next {
+    let mut head = [0u8; 104];
+    let mut body = room();
+    let got = io::read_full(fd, &mut head);
+    if got < 104 {
+        return ended_at(number, got);
     }
-    if case::operation(case) == case::SHEET {
-        return print_sheet(case);
+    if !case::is_whole(&head) {
+        return ended(print::unread());
     }
-    if case::operation(case) == case::PAGE {
-        return answer_page(case);
+    let size = case::body_size(&head);
+    if 262144 < size {
+        return ended(print::unread());
     }
-    answer_call(case)
+    answer_body(fd, &head, &mut body[..size], number, sums)
 }
 
-fn print_sheet(case: &mut [u8]) -> bool {
-    let mut text = io::buffer();
-    let bundle = case::first_input(case);
-    let long = sheet::sheet(bundle, &mut text);
-    print::bytes(&text[..long])
-}
-
-// Lends a page; of the second input only the length matters, since its bytes past the lines are not printed.
-fn answer_page(case: &mut [u8]) -> bool {
-    let mut page = io::large_buffer();
-    let bytes = octets::u32_at(case, 52) as usize;
-    if 65536 < bytes {
-        return print_unread();
+// A file ends behind its last case; one without a case, or with part of a head, cannot be read.
+fn ended_at(number: u32, got: usize) -> Next {
+    if got != 0 {
+        return ended(print::unread());
     }
-    let image = case::first_input(case);
-    print_page(image, &mut page[..bytes])
-}
-
-fn print_page(image: &[u8], page: &mut [u8]) -> bool {
-    let fault = path_page::page(image, page);
-    if fault.number != 0 {
-        return print::refused(fault.number, fault.place);
+    if number == 0 {
+        return ended(print::unread());
     }
-    let long = 40 * (codec::path_count(image) as usize);
-    print::bytes(&page[..long])
+    ended(true)
 }
 
-fn trains_room() -> [u16; 8192]
-    ensures { λ r. ⌜ 8192 ≡ length r ⌝ }
-{
-    [0u16; 8192]
-}
-
-fn links_room() -> [u32; 8192]
-    ensures { λ r. ⌜ 8192 ≡ length r ⌝ }
-{
-    [0u32; 8192]
-}
-
-// Lends the occupancy, the blocking links and the report of a call.
-fn answer_call(case: &mut [u8]) -> bool {
-    let mut occupancy = trains_room();
-    let mut blocking = links_room();
-    let mut report = io::buffer();
-    let trains = octets::u32_at(case, 52) as usize / 2;
-    let links = octets::u32_at(case, 56) as usize / 4;
-    let bytes = octets::u32_at(case, 60) as usize;
-    if 8192 < trains {
-        return print_unread();
+fn answer_body(fd: i32, head: &[u8], body: &mut [u8], number: u32, sums: bool) -> Next {
+    if io::read_full(fd, body) != body.len() {
+        return ended(print::unread());
     }
-    if 8192 < links {
-        return print_unread();
+    Next {
+        written: answer_numbered(head, body, number, sums),
+        ended: false,
     }
-    if 4096 < bytes {
-        return print_unread();
-    }
-    answer_lent(
-        case,
-        &mut occupancy[..trains],
-        &mut blocking[..links],
-        &mut report[..bytes],
-    )
 }
 
-fn answer_lent(
-    case: &mut [u8],
-    occupancy: &mut [u16],
-    blocking: &mut [u32],
-    report: &mut [u8],
-) -> bool {
-    case::read_u16s(occupancy, case, case::first_end(case));
-    case::read_u32s(blocking, case, case::second_end(case));
-    let operation = case::operation(case);
+fn answer_numbered(head: &[u8], body: &[u8], number: u32, sums: bool) -> bool {
+    if !sums {
+        return answer(head, body, false);
+    }
+    if !print::number(b"", number as u64) {
+        return false;
+    }
+    if !print::number(b" op ", case::operation(head) as u64) {
+        return false;
+    }
+    if !print::bytes(b" ") {
+        return false;
+    }
+    answer(head, body, true)
+}
+
+fn answer(head: &[u8], body: &[u8], sums: bool) -> bool {
+    let operation = case::operation(head);
     if operation == case::MARK {
-        return call::mark(case, occupancy);
+        return mark::answer(head, body, sums);
+    }
+    if operation == case::LAY_OUT {
+        return lay_out::answer(head, body, sums);
     }
     if operation == case::UPDATE {
-        return call::update(case, occupancy, blocking);
+        return update::answer(head, body, sums);
     }
     if operation == case::CHECK {
-        return call::check(case, occupancy, blocking, report);
+        return check::answer(head, body, sums);
+    }
+    if operation == case::SHEET {
+        return sheet::answer(head, body, sums);
+    }
+    if operation == case::PAGE {
+        return page::answer(head, body, sums);
     }
     if operation == case::PROFILE {
-        return call::profile(case);
+        return answer_profile(head, body);
     }
-    print_unread()
+    if operation == case::LIST {
+        return list::answer(head, body, sums);
+    }
+    leaf::answer(head, body, sums)
+}
+
+// The training track profile, of which nothing is left but its answer.
+fn answer_profile(head: &[u8], body: &[u8]) -> bool {
+    let f = track_profile::profile_fault(case::first_input(head, body));
+    if print::fault(f.number, f.place) {
+        return print::end();
+    }
+    false
 }

@@ -1,18 +1,28 @@
 // Answers on standard output. Each function says whether all of it was written.
+ghost use Prim.Native.Nat.{_<_};
 use libc::STDOUT_FILENO;
 
 pub(crate) fn bytes(bytes: &[u8]) -> bool {
     io::write_all(STDOUT_FILENO, bytes)
 }
 
+pub(crate) fn end() -> bool {
+    bytes(b"\n")
+}
+
 pub(crate) fn line(words: &[u8]) -> bool {
     if bytes(words) {
-        return bytes(b"\n");
+        return end();
     }
     false
 }
 
-fn number(words: &[u8], n: u64) -> bool {
+// A file or a case that cannot be read.
+pub(crate) fn unread() -> bool {
+    line(b"cannot be read")
+}
+
+pub(crate) fn number(words: &[u8], n: u64) -> bool {
     if bytes(words) {
         return io::print_decimal(STDOUT_FILENO, n);
     }
@@ -22,45 +32,61 @@ fn number(words: &[u8], n: u64) -> bool {
 // A line that ends in a number.
 pub(crate) fn number_line(words: &[u8], n: u64) -> bool {
     if number(words, n) {
-        return bytes(b"\n");
+        return end();
     }
     false
 }
 
 pub(crate) fn refused(n: u16, place: u16) -> bool {
     if number(b"refused ", n as u64) {
-        return number_line(b" at ", place as u64);
+        return number(b" at ", place as u64);
     }
     false
 }
 
-// What a check answers that is done.
-pub(crate) fn deadlock(is_one: bool, next: u16) -> bool {
-    if is_one {
-        return number_line(b"deadlock yes next ", next as u64);
+// Done where the number is 0.
+pub(crate) fn fault(n: u16, place: u16) -> bool {
+    if n == 0 {
+        return bytes(b"done");
     }
-    number_line(b"deadlock no next ", next as u64)
+    refused(n, place)
 }
 
-// The links that trains hold.
-pub(crate) fn occupancy(trains: &[u16]) -> bool {
+// ---- checksums: from 1 on, each byte is added to the sum by 16,777,619, modulo the prime 4,294,967,291
+
+pub(crate) fn with(sum: u64, byte: u8) -> u64
+    requires { ⌜ sum < 4294967291 ⌝ }
+    ensures { λ r. ⌜ r < 4294967291 ⌝ }
+{
+    (sum * 16777619 + (byte as u64)) % 4294967291
+}
+
+pub(crate) fn sum_of(bytes: &[u8]) -> u64 {
+    let mut sum: u64 = 1;
     let mut i = 0;
-    while i < trains.len() {
-        if !held(i, trains[i]) {
-            return false;
-        }
+    while i < bytes.len() {
+        sum = with(sum, bytes[i]);
         i += 1;
     }
-    true
+    sum
 }
 
-// A link that no train holds has no line.
-fn held(link: usize, train: u16) -> bool {
-    if train == 0 {
-        return true;
+// Of the bytes of numbers of 16 bits, the lower one first.
+pub(crate) fn sum_of_u16s(col: &[u16], n: usize) -> u64 {
+    let mut sum: u64 = 1;
+    let mut i = 0;
+    while i < n {
+        if col.len() <= i {
+            return sum;
+        }
+        let low = with(sum, (col[i] % 256) as u8);
+        sum = with(low, (col[i] / 256 % 256) as u8);
+        i += 1;
     }
-    if number(b"", link as u64) {
-        return number_line(b" by ", train as u64);
-    }
-    false
+    sum
+}
+
+// The checksum of a buffer at the end of a line.
+pub(crate) fn sum_line(words: &[u8], bytes: &[u8]) -> bool {
+    number_line(words, sum_of(bytes))
 }

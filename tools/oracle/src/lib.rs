@@ -16,5 +16,6 @@ pub mod record;
 pub mod rng;
 pub mod selftest;
 pub mod shims;
+pub mod sums;
 pub mod text;
 pub mod yards;

@@ -3,7 +3,7 @@
 use oracle::cases::{read_all, Case, PAGE, SHEET};
 use oracle::demand3::{self, Premises, ALL};
 use oracle::rng::Rng;
-use oracle::{calls, figures, model, record, selftest};
+use oracle::{calls, figures, model, record, selftest, sums};
 use std::io::{Read, Write};
 use std::process::exit;
 
@@ -12,6 +12,7 @@ const USAGE: &str = "usage:
   oracle answer  < CASES > CASES          the same cases with the oracle's answers
   oracle compare < CASES                  the oracle's answers against those in the cases
   oracle show    < CASES                  one line for each case
+  oracle sums    < CASES                  what the program answers prints of them behind --sums
   oracle summary < CASES                  counts of answers, sites and branches
   oracle generate KIND SEED COUNT > CASES KIND: mark, layout, update, large, check, tidy, sheet, list, leaf, page, profile, any
   oracle record SEED > CASES              the recorded list
@@ -90,6 +91,10 @@ fn main() {
         ["compare"] => compare(input()),
         ["show"] => {
             show(input());
+            true
+        }
+        ["sums"] => {
+            sums::print(&input());
             true
         }
         ["summary"] => figures::summary(input()).print(),

@@ -4,10 +4,10 @@ use Rattle.answers.proofs.answer_arguments.Statement.{statement}
 use Rattle.answers.proofs.answer_arguments.Tie as tie
 
 abbrev Inv-loop : tie.InvT-loop
-Inv-loop count i₀ i = Unit {0}
+Inv-loop count sums₀ i₀ sums i = Unit {0}
 
 abbrev μ-loop : tie.MeasureT-loop
-μ-loop count i₀ i = count - i
+μ-loop count sums₀ i₀ sums i = count - i
 
 arg-count-requires : tie.Need-arg-count-requires Inv-loop μ-loop
 arg-count-requires c κs = search needs

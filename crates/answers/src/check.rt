@@ -1,0 +1,119 @@
+// A check of a yard. Arguments: moved, begin, local, limit.
+use crate::case;
+use crate::print;
+use link_rules::link_idx::TrainIdx;
+use yard_check::check;
+use yard_check::check::Answer;
+
+pub(crate) fn answer(head: &[u8], body: &[u8], sums: bool) -> bool {
+    let mut room = case::no_bytes();
+    let n = case::first_input(head, body).len();
+    if 65536 < n {
+        return print::unread();
+    }
+    answer_on(head, body, &mut room[..n], sums)
+}
+
+fn answer_on(head: &[u8], body: &[u8], yard: &mut [u8], sums: bool) -> bool {
+    case::copy(yard, case::first_input(head, body));
+    let mut room = case::no_trains();
+    let n = case::second_input(head, body).len() / 2;
+    if 8192 < n {
+        return print::unread();
+    }
+    answer_over(head, body, yard, &mut room[..n], sums)
+}
+
+fn answer_over(head: &[u8], body: &[u8], yard: &mut [u8], occ: &mut [u16], sums: bool) -> bool {
+    case::u16s(occ, case::second_input(head, body), 0, 2);
+    answer_from(head, body, yard, occ, sums)
+}
+
+// From a yard and an occupancy that are there.
+pub(crate) fn answer_from(
+    head: &[u8],
+    body: &[u8],
+    yard: &mut [u8],
+    occ: &[u16],
+    sums: bool,
+) -> bool {
+    let mut room = case::no_links();
+    let n = case::third_input(head, body).len() / 4;
+    if 8192 < n {
+        return print::unread();
+    }
+    answer_by(head, body, yard, occ, &mut room[..n], sums)
+}
+
+fn answer_by(
+    head: &[u8],
+    body: &[u8],
+    yard: &mut [u8],
+    occ: &[u16],
+    blocking: &mut [u32],
+    sums: bool,
+) -> bool {
+    case::u32s(blocking, case::third_input(head, body));
+    let mut room = case::no_bytes();
+    let n = case::fourth_input(head, body).len();
+    if 65536 < n {
+        return print::unread();
+    }
+    answer_with(head, body, yard, occ, blocking, &mut room[..n], sums)
+}
+
+fn answer_with(
+    head: &[u8],
+    body: &[u8],
+    yard: &mut [u8],
+    occ: &[u16],
+    blocking: &[u32],
+    report: &mut [u8],
+    sums: bool,
+) -> bool {
+    case::copy(report, case::fourth_input(head, body));
+    if !print_answer(head, yard, occ, blocking, report) {
+        return false;
+    }
+    if !sums {
+        return print::end();
+    }
+    if print::number(b" yard ", print::sum_of(yard)) {
+        return print::sum_line(b" report ", report);
+    }
+    false
+}
+
+// Makes the call and prints its answer.
+fn print_answer(
+    head: &[u8],
+    yard: &mut [u8],
+    occ: &[u16],
+    blocking: &[u32],
+    report: &mut [u8],
+) -> bool {
+    let moved = TrainIdx((case::argument(head, 0) % 65536) as u16);
+    let begin = begin_of(case::argument(head, 1));
+    let local = 0 < case::argument(head, 2);
+    let limit = (case::argument(head, 3) % 65536) as u16;
+    match check::check_deadlock(yard, occ, blocking, moved, begin, local, limit, report) {
+        Answer::Refused(r) => print::refused(r.number, r.place),
+        Answer::Erred(n) => print::number(b"erred ", n as u64),
+        Answer::Done { deadlock, next } => print_done(deadlock, next),
+    }
+}
+
+// A begin that is no u16 becomes the largest, which 15 refuses as well.
+fn begin_of(n: u32) -> u16 {
+    if 65535 < n {
+        return 65535;
+    }
+    n as u16
+}
+
+fn print_done(deadlock: bool, next: u16) -> bool {
+    if deadlock {
+        return print::number(b"deadlock yes next ", next as u64);
+    }
+    print::number(b"deadlock no next ", next as u64)
+}

@@ -1,0 +1,51 @@
+// A lay out. Arguments: train, room for diverge nodes, links, and the halves of the two distance settings.
+use crate::case;
+use crate::print;
+use disp_structs::Metres;
+use disp_structs::floats;
+use link_rules::link_idx::TrainIdx;
+use link_rules::refusal::Answer;
+use train_disp::Order;
+
+pub(crate) fn answer(head: &[u8], body: &[u8], sums: bool) -> bool {
+    let mut room = case::no_bytes();
+    let n = case::second_input(head, body).len();
+    if 65536 < n {
+        return print::unread();
+    }
+    answer_in(head, body, &mut room[..n], sums)
+}
+
+fn answer_in(head: &[u8], body: &[u8], image: &mut [u8], sums: bool) -> bool {
+    case::copy(image, case::second_input(head, body));
+    let order = Order {
+        train_idx: TrainIdx((case::argument(head, 0) % 65536) as u16),
+        dist_disp_path_search: Metres(setting(case::argument(head, 3), case::argument(head, 4))),
+        dist_fixed_max: Metres(setting(case::argument(head, 5), case::argument(head, 6))),
+        diverge_room: case::argument(head, 1),
+        links: case::argument(head, 2),
+    };
+    match train_disp::lay_out(case::first_input(head, body), order, image) {
+        Answer::Done => print_laid(0, 0, image, sums),
+        Answer::Refused(r) => print_laid(r.number, r.place, image, sums),
+    }
+}
+
+fn print_laid(number: u16, place: u16, image: &[u8], sums: bool) -> bool {
+    if !print::fault(number, place) {
+        return false;
+    }
+    if sums {
+        return print::sum_line(b" image ", image);
+    }
+    print::end()
+}
+
+// A float from the halves of its pattern; a NaN's becomes one that is not finite, which 7 refuses as well.
+fn setting(low: u32, high: u32) -> f64 {
+    let b = (low as u64) + 4294967296 * (high as u64);
+    if b % 0x8000_0000_0000_0000 <= 0x7ff0_0000_0000_0000 {
+        return floats::real_of(b);
+    }
+    floats::real_of(0x7ff0_0000_0000_0000)
+}

@@ -1,0 +1,99 @@
+// An update. Arguments: moved, local, limit.
+use crate::case;
+use crate::print;
+use image_fault;
+use link_rules::link_idx::TrainIdx;
+use update_free_path;
+use update_free_path::answer::Status;
+use update_free_path::answer::Updated;
+
+pub(crate) fn answer(head: &[u8], body: &[u8], sums: bool) -> bool {
+    let mut room = case::no_bytes();
+    let n = case::first_input(head, body).len();
+    if 65536 < n {
+        return print::unread();
+    }
+    answer_on(head, body, &mut room[..n], sums)
+}
+
+fn answer_on(head: &[u8], body: &[u8], image: &mut [u8], sums: bool) -> bool {
+    let mut room = case::no_trains();
+    let n = case::second_input(head, body).len() / 2;
+    if 8192 < n {
+        return print::unread();
+    }
+    answer_over(head, body, image, &mut room[..n], sums)
+}
+
+fn answer_over(head: &[u8], body: &[u8], image: &mut [u8], occ: &mut [u16], sums: bool) -> bool {
+    case::u16s(occ, case::second_input(head, body), 0, 2);
+    let mut room = case::no_links();
+    let n = case::third_input(head, body).len() / 4;
+    if 8192 < n {
+        return print::unread();
+    }
+    answer_by(head, body, image, occ, &mut room[..n], sums)
+}
+
+fn answer_by(
+    head: &[u8],
+    body: &[u8],
+    image: &mut [u8],
+    occ: &[u16],
+    blocking: &mut [u32],
+    sums: bool,
+) -> bool {
+    case::u32s(blocking, case::third_input(head, body));
+    case::copy(image, case::first_input(head, body));
+    let moved = TrainIdx((case::argument(head, 0) % 65536) as u16);
+    let local = 0 < case::argument(head, 1);
+    let limit = (case::argument(head, 2) % 65536) as u16;
+    let x = update_free_path::update_free_path(image, occ, blocking, moved, local, limit);
+    if !print_status(x) {
+        return false;
+    }
+    if sums {
+        return print_left(head, body, x, image);
+    }
+    print::end()
+}
+
+fn print_status(x: Updated) -> bool {
+    let status = x.status;
+    match status {
+        Status::Success => print::bytes(b"success"),
+        Status::Blocked => print::bytes(b"blocked"),
+        Status::Faulty(n) => print::number(b"faulty ", n),
+        Status::Refused(r) => print::refused(r.number, r.place),
+    }
+}
+
+// What is counted, the image that is left, and what 6 to 9 say of the image that was there.
+fn print_left(head: &[u8], body: &[u8], x: Updated, image: &[u8]) -> bool {
+    if !print::number(b" rounds ", x.rounds as u64) {
+        return false;
+    }
+    if !print::number(b" strays ", x.strays) {
+        return false;
+    }
+    if !print::number(b" image ", print::sum_of(image)) {
+        return false;
+    }
+    if print_image_fault(head, body) {
+        return print::end();
+    }
+    false
+}
+
+// Over an occupancy of the length that 2 lets pass.
+fn print_image_fault(head: &[u8], body: &[u8]) -> bool {
+    let links = case::second_input(head, body).len() / 2;
+    if 4000 < links {
+        return true;
+    }
+    let f = image_fault::image_fault(case::first_input(head, body), links as u32);
+    if print::bytes(b" by itself ") {
+        return print::fault(f.number, f.place);
+    }
+    false
+}

@@ -1,0 +1,86 @@
+//! The answers of cases in words, with a checksum of each buffer that a call left: what the program `answers` prints behind `--sums`.
+
+use crate::cases::*;
+use crate::layout::read_image;
+
+/// From 1 on, each byte is added to the sum by 16,777,619, modulo the prime 4,294,967,291.
+pub fn sum_of(bytes: &[u8]) -> u64 {
+    bytes.iter().fold(1, |sum, &b| (sum * 16_777_619 + b as u64) % 4_294_967_291)
+}
+
+fn refused(number: u32, place: u32) -> String {
+    format!("refused {number} at {place}")
+}
+
+fn fault(number: u32, place: u32) -> String {
+    if number == 0 {
+        "done".into()
+    } else {
+        refused(number, place)
+    }
+}
+
+/// What 6 to 9 say of an update's image by itself, over an occupancy of at most 4,000 entries; 2 where it has fewer than 2.
+fn image_fault(c: &Case) -> String {
+    let links = c.ins[1].len() / 2;
+    let words = match links {
+        0 | 1 => refused(2, 0),
+        2..=4000 => match read_image(&c.ins[0], links) {
+            Ok(_) => "done".into(),
+            Err(r) => refused(r.number as u32, r.place),
+        },
+        _ => return String::new(),
+    };
+    format!(" by itself {words}")
+}
+
+fn update(c: &Case) -> String {
+    let [kind, number, place, faults, rounds, strays, ..] = c.answer;
+    let status = match kind {
+        0 => "success".into(),
+        1 => "blocked".into(),
+        2 => format!("faulty {faults}"),
+        _ => refused(number, place),
+    };
+    format!("{status} rounds {rounds} strays {strays} image {}{}", sum_of(&c.outs[0]), image_fault(c))
+}
+
+fn check(c: &Case) -> String {
+    let [kind, number, place, erred, deadlock, next, ..] = c.answer;
+    let answer = match kind {
+        0 => format!("deadlock {} next {next}", if deadlock == 1 { "yes" } else { "no" }),
+        1 => format!("erred {erred}"),
+        _ => refused(number, place),
+    };
+    format!("{answer} yard {} report {}", sum_of(&c.outs[0]), sum_of(&c.outs[1]))
+}
+
+fn leaf(c: &Case) -> String {
+    let [x, y, z, ..] = c.answer;
+    if c.op == UNION && x == 0 {
+        return format!("{x} {y} {z} pool {}", sum_of(&c.outs[0]));
+    }
+    format!("{x} {y} {z}")
+}
+
+/// The line of a case, without its number.
+pub fn words(c: &Case) -> String {
+    let [number, place, ..] = c.answer;
+    match c.op {
+        MARK => format!("{} occupancy {}", fault(number, place), sum_of(&c.outs[0])),
+        LAY_OUT => format!("{} image {}", fault(number, place), sum_of(&c.outs[0])),
+        UPDATE => update(c),
+        CHECK => check(c),
+        SHEET => format!("sheet {}", sum_of(&c.outs[0])),
+        PAGE => format!("{} page {}", fault(number, place), sum_of(&c.outs[0])),
+        PROFILE => fault(number, place),
+        LIST => c.calls().iter().fold("list".into(), |s, call| format!("{s}\n{}", words(call))),
+        _ => leaf(c),
+    }
+}
+
+pub fn print(cases: &[Case]) {
+    for (i, c) in cases.iter().enumerate() {
+        println!("{i} op {} {}", c.op, words(c));
+    }
+}
