@@ -251,10 +251,5 @@ fn answer_step(head: &[u8], body: &[u8]) -> bool {
     let est = case::second_input(head, body);
     let a = node(case::argument(head, 0), octets::u64_at(offsets, 0));
     let b = node(case::argument(head, 1), octets::u64_at(offsets, 8));
-    print_flag(counts::bad_step(
-        a,
-        b,
-        codec::est_in(est, 0),
-        codec::est_in(est, 1),
-    ))
+    print_flag(counts::bad_step(a, b, codec::est_in(est, 0), codec::est_in(est, 1)))
 }
