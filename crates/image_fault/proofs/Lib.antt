@@ -1,8 +1,10 @@
 pub mod ScanLaws
 pub mod ZeroLaws
+pub mod ReachLaws
 pub mod ArrivalLaws
 pub mod AcceptLaws
 pub mod CycleArrays
 pub mod Ascent
 pub mod MatchLaws
 pub mod RouteLaws
+pub mod PassLaws

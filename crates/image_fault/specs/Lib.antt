@@ -1,1 +1,2 @@
 pub mod ImageFault
+pub mod AllFit

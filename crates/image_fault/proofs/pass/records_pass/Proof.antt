@@ -1,0 +1,48 @@
+use Rattle.image_fault.specs.AllFit.{recordsPass}
+use borrow.Author.Needs.{needs}
+use Rattle.image_fault.proofs.pass.records_pass.Statement.{statement}
+use Rattle.image_fault.proofs.pass.records_pass.Tie as tie
+
+est-count-requires : tie.Need-est-count-requires
+est-count-requires c κs = search needs
+
+ests-pass-requires : tie.Need-ests-pass-requires
+ests-pass-requires c κs = search needs
+
+path-count-requires : tie.Need-path-count-requires
+path-count-requires c κs = search needs
+
+path-passes-requires : tie.Need-path-passes-requires
+path-passes-requires c κs = search needs
+
+diverge-count-requires : tie.Need-diverge-count-requires
+diverge-count-requires c κs = search needs
+
+diverges-fit-requires : tie.Need-diverges-fit-requires
+diverges-fit-requires c κs = search needs
+
+returns : tie.Need-returns
+unfolding recordsPass
+returns c = rw (← c .before .before .before .before .before .before .before .est-count .ensures, ← c .before .before .before .before .before .before .ests-pass .ensures, c .before .before .before .before .before .if1 .taken, ← c .before .before .before .before .path-count .ensures, ← c .before .before .before .path-passes .ensures, c .before .before .if2 .taken, ← c .before .diverge-count .ensures, ← c .diverges-fit .ensures)
+
+returns-2 : tie.Need-returns-2
+unfolding recordsPass
+returns-2 c = rw (← c .before .before .before .before .before .est-count .ensures, ← c .before .before .before .before .ests-pass .ensures, c .before .before .before .if1 .taken, ← c .before .before .path-count .ensures, ← c .before .path-passes .ensures, c .if2 .left)
+
+returns-3 : tie.Need-returns-3
+unfolding recordsPass
+returns-3 c = rw (← c .before .before .est-count .ensures, ← c .before .ests-pass .ensures, c .if1 .left)
+
+pub records-pass-spec : {M : Type 1} → statement M
+records-pass-spec =
+    tie.close
+    (tie.spec
+    est-count-requires
+    ests-pass-requires
+    path-count-requires
+    path-passes-requires
+    diverge-count-requires
+    diverges-fit-requires
+    returns
+    returns-2
+    returns-3)

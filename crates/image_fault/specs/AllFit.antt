@@ -1,0 +1,56 @@
+-- One pass over an image: 6 to 9 asked of a record together, by its numbers. Where all pass there is no refusal; where not, ImageFault says which comes
+-- first. Assumes nothing.
+use Prim.Native.Nat.{ℕ, _+_}
+use mathlib.Core.Bool.{Bool, not, _&&_, _||_}
+use mathlib.Core.List.{List}
+use lib.Dec.{leb, ltb, eqb}
+use lib.ListN.{length}
+use Rattle.link_rules.specs.Octets.{leAt}
+use Rattle.link_rules.specs.Network.{allBelow}
+use Rattle.image.specs.Image.{estCount, pathCount, divergeCount, estPlace, nodePlace}
+use Rattle.image_fault.specs.ImageFault.{countsFit, partsFit, trainFits, unusedZero, floatFits, timeFits, headerFits, onRoute, divergeFits}
+
+-- an event: the type is at most 2, the link below L, and not 0 at an Arrive
+unfoldable pub eventPasses : ℕ → ℕ → ℕ → Bool
+eventPasses l link kind = leb kind 2 && (ltb link l && not (eqb kind 0 && eqb link 0))
+
+-- next or alt of est record i: below E, and none or a later record
+unfoldable pub stepPasses : ℕ → ℕ → ℕ → Bool
+stepPasses e i t = ltb t e && (eqb t 0 || ltb i t)
+
+-- an est record lies within the image, and passes; it leads to later ones alone
+unfoldable pub estPasses : List ℕ → ℕ → ℕ → Bool
+estPasses bs l i =
+    leb (estPlace i + 32) (length bs)
+    && (floatFits (leAt 8 bs (estPlace i))
+    && (eventPasses l (leAt 4 bs (estPlace i + 24)) (leAt 4 bs (estPlace i + 28))
+    && (stepPasses (estCount bs) i (leAt 4 bs (estPlace i + 8))
+    && (stepPasses (estCount bs) i (leAt 4 bs (estPlace i + 12))
+    && (ltb (leAt 4 bs (estPlace i + 16)) (estCount bs)
+    && ltb (leAt 4 bs (estPlace i + 20)) (estCount bs))))))
+
+-- a path record lies within the image, and passes 6 and 7
+unfoldable pub nodePasses : List ℕ → ℕ → ℕ → Bool
+nodePasses bs l i =
+    leb (nodePlace (estCount bs) i + 32) (length bs)
+    && (floatFits (leAt 8 bs (nodePlace (estCount bs) i))
+    && (timeFits (leAt 8 bs (nodePlace (estCount bs) i + 8))
+    && (eventPasses l (leAt 4 bs (nodePlace (estCount bs) i + 16)) (leAt 2 bs (nodePlace (estCount bs) i + 26))
+    && (ltb (leAt 4 bs (nodePlace (estCount bs) i + 20)) (estCount bs)
+    && eqb (leAt 4 bs (nodePlace (estCount bs) i + 28)) 0))))
+
+-- and 9
+unfoldable pub pathPasses : List ℕ → ℕ → ℕ → Bool
+pathPasses bs l i = nodePasses bs l i && onRoute bs i
+
+unfoldable pub headPasses : List ℕ → Bool
+headPasses bs = countsFit bs && (partsFit bs && (trainFits bs && (headerFits bs && unusedZero bs)))
+
+unfoldable pub recordsPass : List ℕ → ℕ → Bool
+recordsPass bs l =
+    allBelow (estCount bs) (estPasses bs l)
+    && (allBelow (pathCount bs) (pathPasses bs l)
+    && allBelow (divergeCount bs) (divergeFits bs))
+
+unfoldable pub allFit : List ℕ → ℕ → Bool
+allFit bs l = leb 2 l && (leb l 4000 && (headPasses bs && recordsPass bs l))
