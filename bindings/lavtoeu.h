@@ -2,7 +2,8 @@
  *
  * Link with libfree_path_c.a (`rt staticlib free_path_c`). Every call is total: any bytes, lengths and numbers get an
  * answer. A pointer goes with the length that follows it, counted in elements; with length 0 it is not read. No buffer that a
- * call writes may overlap another of its buffers. A refused call changes no buffer but the words of `answer`.
+ * call writes may overlap another of its buffers. A refused call changes no buffer but the words of an update's `answer`; a
+ * refused check leaves `answer` as it was.
  *
  * No call keeps anything, allocates, prints or locks: any thread may call at any time. Bytes may lie at any address, numbers at
  * one that fits their type. A sheet takes 320 KB of stack at most, any other call 96 KB; README.md beside this file has each.
@@ -94,7 +95,7 @@ enum { LAVTOEU_UNVISITED = 0, LAVTOEU_FINISHED = 1, LAVTOEU_MOVED = 2, LAVTOEU_S
 
 /* Updates the train of an image: the occupancy, the blocking list, the moved train, local (0 is no), the round limit. The first
  * four words of the answer get the code, the number of errors where it is FAULTY, the rounds entered and the strays counted;
- * words past answer_len are left out. Refused by 2 and 4 to 13. */
+ * words past answer_len are left out. Refused by 2 and 4 to 13; the words are written then too. */
 uint32_t lavtoeu_update(uint8_t *image, size_t image_len, const uint16_t *occupancy, size_t occupancy_len, const uint32_t *blocking, size_t blocking_len, uint16_t moved, uint32_t local, uint16_t limit, uint64_t *answer, size_t answer_len);
 
 /* The words of a check's answer. */
@@ -102,7 +103,7 @@ enum { LAVTOEU_ERRED = 0, LAVTOEU_DEADLOCK = 1, LAVTOEU_NEXT = 2, LAVTOEU_CHECK_
 
 /* Checks a yard from slot begin on; the report gets 16 bytes for each slot: u16 code, place, rounds, holder; u32 strays, faults. The
  * first three words of the answer get the number of slots that erred; where it is 0, 1 for a deadlock, and the next begin. Refused by
- * 2, 4, 5, 14, 15, 16. */
+ * 2, 4, 5, 14, 15, 16; a refused check leaves `answer` as it was. */
 uint32_t lavtoeu_check(uint8_t *yard, size_t yard_len, const uint16_t *occupancy, size_t occupancy_len, const uint32_t *blocking, size_t blocking_len, uint16_t moved, uint16_t begin, uint32_t local, uint16_t limit, uint8_t *report, size_t report_len, uint64_t *answer, size_t answer_len);
 
 /* Writes the sheet of a bundle to the text, as many bytes as it has room for, and returns how many; no byte 0 behind them. */

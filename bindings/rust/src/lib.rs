@@ -202,7 +202,8 @@ pub fn update(image: &mut [u8], m: Move) -> Updated {
     Updated { status, rounds: words[2] as u16, strays: words[3] }
 }
 
-/// [`update`] with its answer in words, as many as there is room for: the code, the errors, the rounds and the strays.
+/// [`update`] with its answer in words, as many as there is room for: the code, the errors, the rounds and the strays, of a
+/// refused update too.
 pub fn update_into(image: &mut [u8], m: Move, answer: &mut [u64]) -> Result<(), Refusal> {
     // SAFETY: each pointer goes with its own length, and the function keeps to them.
     Refusal::of(unsafe {
@@ -300,7 +301,7 @@ pub fn check(yard: &mut [u8], m: Move, begin: u16, report: &mut [u8]) -> Result<
 }
 
 /// [`check`] with its answer in words, as many as there is room for: the number of slots that erred and, where it is 0, 1 for a
-/// deadlock and the next begin.
+/// deadlock and the next begin. A refused check leaves `answer` as it was.
 pub fn check_into(yard: &mut [u8], m: Move, begin: u16, report: &mut [u8], answer: &mut [u64]) -> Result<(), Refusal> {
     // SAFETY: each pointer goes with its own length, and the function keeps to them.
     Refusal::of(unsafe {

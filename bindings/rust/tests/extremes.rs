@@ -243,7 +243,10 @@ fn an_answer_gets_as_many_words_as_it_has_room_for() {
 fn check_refuses_wrong_moves_slots_and_lengths() {
     let yard = two_trains();
     let asked = |yard: &[u8], m, begin, rows: usize| {
-        leaves(yard, |yard| leaves(&vec![0xaa; rows], |report| check_into(yard, m, begin, report, &mut [])))
+        let mut answer = [9; 3];
+        let told = leaves(yard, |yard| leaves(&vec![0xaa; rows], |report| check_into(yard, m, begin, report, &mut answer)));
+        assert_eq!(answer, [9; 3]);
+        told
     };
     for (m, number) in wrong_moves() {
         assert_eq!(asked(&yard, m, 1, 32), refused(number));

@@ -78,26 +78,19 @@ checkWord (Check.Refused n place) = n + 65536 * place
 checkWord (Check.Erred n) = 0
 checkWord (Check.Done deadlock next) = 0
 
--- how many slots erred
-abbrev pub erredOf : Check.Answer → ℕ
-erredOf (Check.Refused n place) = 0
-erredOf (Check.Erred n) = n
-erredOf (Check.Done deadlock next) = 0
+-- 1 where the flag is set
+abbrev pub bitOf : Bool → ℕ
+bitOf b = cond b 1 0
 
--- 1 where there is a deadlock
-abbrev pub deadlockOf : Check.Answer → ℕ
-deadlockOf (Check.Refused n place) = 0
-deadlockOf (Check.Erred n) = 0
-deadlockOf (Check.Done deadlock next) = cond deadlock 1 0
+-- the first three words; a word past the end stays out
+abbrev pub threeWords : ℕ → ℕ → ℕ → List ℕ → List ℕ
+threeWords a b c ws = set (set (set ws 0 a) 1 b) 2 c
 
-abbrev pub nextOf : Check.Answer → ℕ
-nextOf (Check.Refused n place) = 0
-nextOf (Check.Erred n) = 0
-nextOf (Check.Done deadlock next) = next
-
--- slots that erred, deadlock and next begin in the first three words; a word past the end stays out
+-- slots that erred, deadlock and next begin; a refused check leaves the words as they were
 abbrev pub checkWords : Check.Answer → List ℕ → List ℕ
-checkWords a ws = set (set (set ws 0 (erredOf a)) 1 (deadlockOf a)) 2 (nextOf a)
+checkWords (Check.Refused n place) ws = ws
+checkWords (Check.Erred n) ws = threeWords n 0 0 ws
+checkWords (Check.Done deadlock next) ws = threeWords 0 (bitOf deadlock) next ws
 
 -- the check k as C sees it: the number that is returned, the yard, the report and the words that are left
 pub record ToldCheck (k : Check.Checked) (r : ℕ) (yard report ws₀ ws : List ℕ) : Type 0 where

@@ -3,7 +3,6 @@
 pub mod version;
 
 ghost use mathlib.Core.Path.{_≡_};
-ghost use mathlib.Core.Bool.{cond};
 ghost use Rattle.link_rules.specs.AdvanceRewind.{markOf};
 ghost use Rattle.image_fault.specs.ImageFault.{imageFault};
 ghost use Rattle.track_profile.specs.Profile.{profileFault};
@@ -16,7 +15,7 @@ ghost use Rattle.yard_check.specs.Checks.{answeredOf};
 ghost use Rattle.yard_check.specs.Sheet.{sheetText};
 ghost use Rattle.text.specs.Text.{textOf, written};
 ghost use Rattle.path_page.specs.Page.{drawingRule, pageFault, pageAfter};
-ghost use Rattle.free_path_c.specs.Words.{answerWord, faultWord, orderOf, flagOf, statusWord, codeOf, errorsOf, Told, checkWord, erredOf, deadlockOf, nextOf, ToldCheck};
+ghost use Rattle.free_path_c.specs.Words.{answerWord, faultWord, orderOf, flagOf, statusWord, codeOf, errorsOf, Told, checkWord, bitOf, threeWords, checkWords, ToldCheck};
 use disp_structs::Metres;
 use image_fault;
 use image_fault::Fault;
@@ -179,7 +178,8 @@ fn errors_of(s: Status) -> u64
 }
 
 // Checks a yard: the occupancy, the blocking list, the moved train, the slot to begin with, local (0 is no), the round limit; the report gets 16 bytes for each slot. Of the
-// answer's words the first gets the number of slots that erred, the second 1 where there is a deadlock, the third the next begin. Answers 0, or the refusal as lavtoeu_mark does.
+// answer's words the first gets the number of slots that erred, the second 1 where there is a deadlock, the third the next begin. Answers 0, or the refusal as lavtoeu_mark does;
+// a refused check leaves the answer's words as they were.
 #[no_mangle]
 pub extern "C" fn lavtoeu_check(
     yard: &mut [u8],
@@ -204,9 +204,7 @@ pub extern "C" fn lavtoeu_check(
         limit,
         report,
     );
-    put_word(answer, 0, erred_of(x));
-    put_word(answer, 1, deadlock_of(x));
-    put_word(answer, 2, next_of(x));
+    put_check(answer, x);
     check_word(x)
 }
 
@@ -220,18 +218,8 @@ fn check_word(x: check::Answer) -> u32
     }
 }
 
-fn erred_of(x: check::Answer) -> u64
-    ensures { λ r. ⌜ r ≡ erredOf (answeredOf x) ⌝ }
-{
-    match x {
-        check::Answer::Refused(r) => 0,
-        check::Answer::Erred(n) => n as u64,
-        check::Answer::Done { deadlock, next } => 0,
-    }
-}
-
 fn bit_of(b: bool) -> u64
-    ensures { λ r. ⌜ r ≡ cond b 1 0 ⌝ }
+    ensures { λ r. ⌜ r ≡ bitOf b ⌝ }
 {
     if b {
         return 1;
@@ -239,23 +227,21 @@ fn bit_of(b: bool) -> u64
     0
 }
 
-fn deadlock_of(x: check::Answer) -> u64
-    ensures { λ r. ⌜ r ≡ deadlockOf (answeredOf x) ⌝ }
+fn put_words(answer: &mut [u64], a: u64, b: u64, c: u64)
+    ensures { λ _. ⌜ now (answer .exit) ≡ threeWords a b c (now (answer .entry)) ⌝ }
 {
-    match x {
-        check::Answer::Refused(r) => 0,
-        check::Answer::Erred(n) => 0,
-        check::Answer::Done { deadlock, next } => bit_of(deadlock),
-    }
+    put_word(answer, 0, a);
+    put_word(answer, 1, b);
+    put_word(answer, 2, c);
 }
 
-fn next_of(x: check::Answer) -> u64
-    ensures { λ r. ⌜ r ≡ nextOf (answeredOf x) ⌝ }
+fn put_check(answer: &mut [u64], x: check::Answer)
+    ensures { λ _. ⌜ now (answer .exit) ≡ checkWords (answeredOf x) (now (answer .entry)) ⌝ }
 {
     match x {
-        check::Answer::Refused(r) => 0,
-        check::Answer::Erred(n) => 0,
-        check::Answer::Done { deadlock, next } => next as u64,
+        check::Answer::Refused(r) => {}
+        check::Answer::Erred(n) => put_words(answer, n as u64, 0, 0),
+        check::Answer::Done { deadlock, next } => put_words(answer, 0, bit_of(deadlock), next as u64),
     }
 }
 

@@ -96,8 +96,12 @@ fn check(case: &mut Case) {
     let (mut yard, mut report) = (case.ins[0].clone(), case.ins[3].clone());
     let (occ, blocking) = (u16s(&case.ins[1]), u32s(&case.ins[2]));
     let (told, begin) = told_check(&case.check_args(&occ, &blocking));
-    let mut answer = vec![0; 3];
+    let mut answer = vec![u64::MAX; 3];
     let (number, place) = numbers(lavtoeu::check_into(&mut yard, told, begin, &mut report, &mut answer));
+    // A refused check leaves the words as they were, and the oracle writes 0 for them.
+    if number != 0 && answer == [u64::MAX; 3] {
+        answer.fill(0);
+    }
     let kind = match (number, answer[0]) {
         (0, 0) => 0,
         (0, _) => 1,
