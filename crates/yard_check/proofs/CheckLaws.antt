@@ -16,10 +16,10 @@ use Rattle.image_fault.proofs.AcceptLaws.{or-else-clean}
 use Rattle.update_image.specs.UpdateImage.{UpdatedImage, callFault, updatedImage}
 use Rattle.update_image.proofs.UpdateLeaves.{Trains16, left-accepted}
 use Rattle.yard_check.specs.Yard.{slotCount, partBegin, partEnd, partOf, withPart, yardFits, yardFault}
-use Rattle.yard_check.specs.Check.{CheckArgs, slotsFault, reportFault, checkFault, Row, unvisitedRow, refusedRow, finishedRow, movedRow, updatedRow, isErredRow, isFinished, visit, visitBy, visited, slotVisit, yardAfter, reportAfter, howMany, firstNot, Refused, answerBy, answerOf, Checked, check, checkedBy, checkedWith}
-use Rattle.yard_check.proofs.VisitLaws.{slot-keeps}
+use Rattle.yard_check.specs.Check.{CheckArgs, slotsFault, reportFault, checkFault, Row, unvisitedRow, refusedRow, finishedRow, movedRow, updatedRow, isErredRow, rowAt, isFinished, visit, visitBy, visited, slotVisit, yardAfter, reportAfter, howMany, firstNot, Refused, answerBy, answerOf, Checked, check, checkedBy, checkedWith}
+use Rattle.yard_check.proofs.VisitLaws.{slot-keeps, slot-refused}
 use Rattle.yard_check.proofs.YardLaws.{Fits, fits, part-long, part-bytes, left, same-slots, part-done, part-later, after-fits, after-bytes}
-use Rattle.yard_check.proofs.ReportLaws.{report-length}
+use Rattle.yard_check.proofs.ReportLaws.{report-length, report-row}
 
 -- ---- refusals
 
@@ -184,6 +184,17 @@ pub accepted-kept : (yard occ : List ℕ) (a : CheckArgs) (report : List ℕ) �
 accepted-kept yard occ a report ok b w h =
     by yard occ a report (λ (c : Checked). (t : ℕ) → 1 ≤ t → t ≤ slotCount yard → imageFault (partOf (c .yard) t) (length occ) .number ≡ 0) (λ k e. h)
     (λ e. accepted-after yard occ a (fits yard ok) b w (omega (arith, taken yard occ a (length report) e .moved, fits yard ok .few)) h)
+
+-- a train refused within a check keeps its image: a slot whose record says refused has the part that it had, after a refused check too
+pub refused-slot-keeps : (yard occ : List ℕ) (a : CheckArgs) (report : List ℕ) (t : ℕ) → 1 ≤ t → t ≤ slotCount yard
+    → 16 ≤ rowAt (checkedWith yard occ a report .report) t .code → partOf (checkedWith yard occ a report .yard) t ≡ partOf yard t
+refused-slot-keeps yard occ a report t l m =
+    by yard occ a report (λ (c : Checked). 16 ≤ rowAt (c .report) t .code → partOf (c .yard) t ≡ partOf yard t) (λ k e h. refl)
+    (λ e h.
+    let k = taken yard occ a (length report) e in
+    let row = report-row yard occ a report (slotCount yard) (omega (arith, k .report-long)) t l m in
+    let low : 16 ≤ slotVisit yard occ a t .row .code = omega (arith, h, ap (λ (r : Row). r .code) row) in
+    part-done yard occ a (fits yard (k .yard-fits)) (slotCount yard) (omega arith) t l m m ∙ slot-refused yard occ a t low)
 
 -- ---- the next begin, slot by slot: it moves on where it stands at a finished slot (dispatch.rs 78-80)
 

@@ -1,9 +1,9 @@
--- What a visit leaves: an image of the same length and train, and bytes. Assumes nothing.
+-- What a visit leaves: an image of the same length and train, and bytes; the same image where the row says refused. Assumes nothing.
 use mathlib.Core.Path.{_≡_, refl, _∙_}
 use mathlib.Core.Logic.{inl, inr}
 use mathlib.Core.Bool.{Bool, true, false, cond}
 use mathlib.Core.List.{List}
-use Prim.Native.Nat.{ℕ, zero, suc, _*_, _-_}
+use Prim.Native.Nat.{ℕ, zero, suc, _*_, _-_, _≤_}
 use native.Mathlib.Omega.{arith}
 use lib.Dec.{ltb, eqb}
 use lib.ListN.{length}
@@ -18,9 +18,9 @@ use Rattle.image.proofs.Parts.{putPath, clearPath, putDiverges, putCounts, coun
 use Rattle.image_fault.specs.ImageFault.{imageFault}
 use Rattle.train_update.specs.Update.{Status, Success, Blocked, Faulty, Refused, Updated}
 use Rattle.update_image.specs.UpdateImage.{UpdatedImage, leftImage, answerBy, updateFault, updatedImage}
-use Rattle.update_image.proofs.UpdateLeaves.{length-kept, bytes-kept}
+use Rattle.update_image.proofs.UpdateLeaves.{length-kept, bytes-kept, refused-leaves}
 use Rattle.yard_check.specs.Yard.{partOf}
-use Rattle.yard_check.specs.Check.{CheckArgs, unvisitedRow, visit, visitBy, visited, isFinished, slotVisit}
+use Rattle.yard_check.specs.Check.{CheckArgs, Row, unvisitedRow, finishedRow, movedRow, refusedRow, updatedRow, visit, visitBy, visited, isFinished, slotVisit}
 
 -- ---- the train in the header of an image stays
 
@@ -58,50 +58,77 @@ module _ (occ blocking : List ℕ) (moved : ℕ) (local : Bool) (limit : ℕ) (i
 
 -- ---- by what the visit does
 
-module _ (P : List ℕ → Type 0) (img : List ℕ) (u : UpdatedImage) (same : P img) (after : P (u .image)) where
-  visit-by : (n place : ℕ) (isDone isMoved : Bool) (moved : ℕ) → P (visitBy n place isDone isMoved moved u img .image)
-  visit-by (suc n) place isDone isMoved moved = same
-  visit-by zero place true isMoved moved = same
-  visit-by zero place false true moved = same
-  visit-by zero place false false moved = after
+module _ (P : Row → List ℕ → Type 0) (img : List ℕ) (u : UpdatedImage) (moved : ℕ) (same : (r : Row) → P r img)
+    (after : P (updatedRow (u .status) moved (u .rounds) (u .strays)) (u .image)) where
+  visit-by : (n place : ℕ) (isDone isMoved : Bool) → let v = visitBy n place isDone isMoved moved u img in P (v .row) (v .image)
+  visit-by (suc n) place isDone isMoved = same (refusedRow (suc n) place 0 0)
+  visit-by zero place true isMoved = same finishedRow
+  visit-by zero place false true = same movedRow
+  visit-by zero place false false = after
+
+-- an update whose row says refused is refused
+refused-row : (X : Type 0) (s : Status) (moved rounds strays : ℕ) → ((n place : ℕ) → s ≡ Refused n place → X) → 16 ≤ updatedRow s moved rounds strays .code → X
+refused-row X Success moved rounds strays f h = absurd (omega arith)
+refused-row X Blocked moved rounds strays f h = absurd (omega arith)
+refused-row X (Faulty n) moved rounds strays f h = absurd (omega arith)
+refused-row X (Refused n place) moved rounds strays f h = f n place refl
 
 module _ (occ : List ℕ) (a : CheckArgs) (t : ℕ) (img : List ℕ) where
   abbrev u : UpdatedImage
   u = updatedImage img occ (a .blocking) (a .moved) (a .local) (a .limit)
 
-  by : (P : List ℕ → Type 0) → P img → P (u .image) → P (visited occ a t img .image)
+  -- what holds of its image with any row, and of that image updated with its row, holds of the visit
+  by : (P : Row → List ℕ → Type 0) → ((r : Row) → P r img) → P (updatedRow (u .status) (a .moved) (u .rounds) (u .strays)) (u .image)
+      → P (visited occ a t img .row) (visited occ a t img .image)
   unfolding visited
-  by P same after = visit-by P img u same after (imageFault img (length occ) .number) (imageFault img (length occ) .place) (isFinished img) (eqb t (a .moved)) (a .moved)
+  by P same after = visit-by P img u (a .moved) same after (imageFault img (length occ) .number) (imageFault img (length occ) .place) (isFinished img) (eqb t (a .moved))
+
+  visit-keeps : (P : List ℕ → Type 0) → P img → P (u .image) → P (visited occ a t img .image)
+  visit-keeps P same after = by (λ r x. P x) (λ r. same) after
 
   pub visit-length : length (visited occ a t img .image) ≡ length img
-  visit-length = by (λ (x : List ℕ). length x ≡ length img) refl (length-kept img occ (a .blocking) (a .moved) (a .local) (a .limit))
+  visit-length = visit-keeps (λ (x : List ℕ). length x ≡ length img) refl (length-kept img occ (a .blocking) (a .moved) (a .local) (a .limit))
 
   pub visit-bytes : Bytes img → Bytes (visited occ a t img .image)
-  visit-bytes b = by (λ (x : List ℕ). Bytes x) b (bytes-kept img occ (a .blocking) (a .moved) (a .local) (a .limit) b)
+  visit-bytes b = visit-keeps (λ (x : List ℕ). Bytes x) b (bytes-kept img occ (a .blocking) (a .moved) (a .local) (a .limit) b)
 
   pub visit-train : leAt 2 (visited occ a t img .image) 32 ≡ leAt 2 img 32
-  visit-train = by (λ (x : List ℕ). leAt 2 x 32 ≡ leAt 2 img 32) refl (train-kept occ (a .blocking) (a .moved) (a .local) (a .limit) img)
+  visit-train = visit-keeps (λ (x : List ℕ). leAt 2 x 32 ≡ leAt 2 img 32) refl (train-kept occ (a .blocking) (a .moved) (a .local) (a .limit) img)
+
+  -- a train whose row says refused keeps its image
+  visit-refused : 16 ≤ visited occ a t img .row .code → visited occ a t img .image ≡ img
+  visit-refused =
+      by (λ r x. 16 ≤ r .code → x ≡ img) (λ r h. refl)
+      (refused-row (u .image ≡ img) (u .status) (a .moved) (u .rounds) (u .strays) (refused-leaves img occ (a .blocking) (a .moved) (a .local) (a .limit)))
 
 -- ---- of a slot, visited or not
 
 module _ (yard occ : List ℕ) (a : CheckArgs) (t : ℕ) where
-  at-slot : (P : List ℕ → Type 0) → P (partOf yard t) → P (visited occ a t (partOf yard t) .image) → P (slotVisit yard occ a t .image)
+  at-slot : (P : Row → List ℕ → Type 0) → ((r : Row) → P r (partOf yard t)) → P (visited occ a t (partOf yard t) .row) (visited occ a t (partOf yard t) .image)
+      → P (slotVisit yard occ a t .row) (slotVisit yard occ a t .image)
   unfolding slotVisit
   at-slot P same after = go (ltb t (a .begin))
     where
-      go : (b : Bool) → P (cond b (visit unvisitedRow (partOf yard t)) (visited occ a t (partOf yard t)) .image)
-      go true = same
+      go : (b : Bool) → let v = cond b (visit unvisitedRow (partOf yard t)) (visited occ a t (partOf yard t)) in P (v .row) (v .image)
+      go true = same unvisitedRow
       go false = after
+
+  slot-has : (P : List ℕ → Type 0) → P (partOf yard t) → P (visited occ a t (partOf yard t) .image) → P (slotVisit yard occ a t .image)
+  slot-has P same after = at-slot (λ r x. P x) (λ r. same) after
 
   -- what holds of its image, and of that image updated, holds of what the visit leaves
   pub slot-keeps : (P : List ℕ → Type 0) → P (partOf yard t) → P (updatedImage (partOf yard t) occ (a .blocking) (a .moved) (a .local) (a .limit) .image) → P (slotVisit yard occ a t .image)
-  slot-keeps P same after = at-slot P same (by occ a t (partOf yard t) P same after)
+  slot-keeps P same after = slot-has P same (visit-keeps occ a t (partOf yard t) P same after)
 
   pub slot-length : length (slotVisit yard occ a t .image) ≡ length (partOf yard t)
-  slot-length = at-slot (λ (x : List ℕ). length x ≡ length (partOf yard t)) refl (visit-length occ a t (partOf yard t))
+  slot-length = slot-has (λ (x : List ℕ). length x ≡ length (partOf yard t)) refl (visit-length occ a t (partOf yard t))
 
   pub slot-bytes : Bytes (partOf yard t) → Bytes (slotVisit yard occ a t .image)
-  slot-bytes b = at-slot (λ (x : List ℕ). Bytes x) b (visit-bytes occ a t (partOf yard t) b)
+  slot-bytes b = slot-has (λ (x : List ℕ). Bytes x) b (visit-bytes occ a t (partOf yard t) b)
 
   pub slot-train : leAt 2 (slotVisit yard occ a t .image) 32 ≡ leAt 2 (partOf yard t) 32
-  slot-train = at-slot (λ (x : List ℕ). leAt 2 x 32 ≡ leAt 2 (partOf yard t) 32) refl (visit-train occ a t (partOf yard t))
+  slot-train = slot-has (λ (x : List ℕ). leAt 2 x 32 ≡ leAt 2 (partOf yard t) 32) refl (visit-train occ a t (partOf yard t))
+
+  -- a slot whose row says refused keeps its image
+  pub slot-refused : 16 ≤ slotVisit yard occ a t .row .code → slotVisit yard occ a t .image ≡ partOf yard t
+  slot-refused = at-slot (λ r x. 16 ≤ r .code → x ≡ partOf yard t) (λ r h. refl) (visit-refused occ a t (partOf yard t))
