@@ -8,7 +8,7 @@ use lib.ListN.{length, take, drop, replicate, length-drop, drop-of-length-le}
 use lib.Seq.{take-all}
 use borrow.Rule.Slice.PartMut.{midOf, postOf, putMid}
 use Rattle.link_rules.specs.Octets.{leAt}
-use Rattle.yard_check.specs.Check.{Answer, Checked, Refused}
+use Rattle.yard_check.specs.Check.{rowSize, Answer, Checked, Refused}
 use Rattle.yard_check.specs.Checks.{checkedOf}
 use Rattle.yard_check.specs.declared.check.Answer as Code
 use Rattle.yard_check.specs.Yard.{yardFits}
@@ -25,7 +25,7 @@ report-empty = refl
 
 -- the yard of a bundle whose yard begins past its end is empty
 pub report-none : (b : List ℕ) → length b < yardOffset b → reportLength b ≡ 0
-report-none b h = let e : bundleYard b ≡ [] = drop-of-length-le b {i = yardOffset b} (omega arith) in ap (λ (y : List ℕ). 16 * reportSlots y) e ∙ ap (λ (n : ℕ). 16 * n) report-empty
+report-none b h = let e : bundleYard b ≡ [] = drop-of-length-le b {i = yardOffset b} (omega arith) in ap (λ (y : List ℕ). rowSize * reportSlots y) e ∙ ap (λ (n : ℕ). rowSize * n) report-empty
 
 pub report-from : (b : List ℕ) (at : ℕ) → at ≡ yardOffset b → reportSlots (take (length b - at) (drop at b)) ≡ reportSlots (bundleYard b)
 report-from b at e = ap reportSlots (take-all (length b - at) (drop at b) (omega (arith, length-drop at b)) ∙ ap (λ (n : ℕ). drop n b) e)

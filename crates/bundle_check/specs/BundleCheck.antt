@@ -6,7 +6,7 @@ use mathlib.Core.List.{List, _++_}
 use lib.Dec.{eqb}
 use lib.ListN.{length, take, drop}
 use Rattle.link_rules.specs.Octets.{leAt}
-use Rattle.yard_check.specs.Check.{Answer, Refused, Checked, checked}
+use Rattle.yard_check.specs.Check.{rowSize, Answer, Refused, Checked, checked}
 use Rattle.yard_check.specs.Checks.{answeredOf}
 use Rattle.yard_check.specs.declared.check.Answer as Code
 use Rattle.yard_check.specs.Sheet.{bundleFits, occupancyCount, blockingCount, bundleOccupancy, bundleBlocking, bundleYard, yardOffset, reportSlots}
@@ -19,7 +19,7 @@ pub record BundleChecked : Type 0 where
 
 -- how long the report of a bundle's yard is; 0 for a yard that 14 refuses
 abbrev pub reportLength : List ℕ → ℕ
-reportLength b = 16 * reportSlots (bundleYard b)
+reportLength b = rowSize * reportSlots (bundleYard b)
 
 abbrev pub numbersOf : List ℕ → Numbers
 numbersOf b = record { moved = record { 0 = leAt 2 b 24 }; begin = leAt 2 b 26; local = eqb (leAt 2 b 30) 1; limit = leAt 2 b 28 }

@@ -16,9 +16,9 @@ use Rattle.image_fault.proofs.AcceptLaws.{or-else-clean}
 use Rattle.update_image.specs.UpdateImage.{UpdatedImage, callFault, updatedImage}
 use Rattle.update_image.proofs.UpdateLeaves.{Trains16, left-accepted}
 use Rattle.yard_check.specs.Yard.{slotCount, partBegin, partEnd, partOf, withPart, yardFits, yardFault}
-use Rattle.yard_check.specs.Check.{CheckArgs, slotsFault, reportFault, checkFault, Row, unvisitedRow, refusedRow, finishedRow, movedRow, updatedRow, isErredRow, rowAt, isFinished, visit, visitBy, visited, slotVisit, yardAfter, reportAfter, howMany, firstNot, Refused, answerBy, answerOf, Checked, check, checkedBy, checkedWith}
-use Rattle.yard_check.proofs.VisitLaws.{slot-keeps, slot-refused}
-use Rattle.yard_check.proofs.YardLaws.{Fits, fits, part-long, part-bytes, left, same-slots, part-done, part-later, after-fits, after-bytes}
+use Rattle.yard_check.specs.Check.{CheckArgs, rowSize, slotsFault, reportFault, checkFault, Row, unvisitedRow, refusedRow, finishedRow, movedRow, updatedRow, isErredRow, rowAt, isFinished, visit, visitBy, visited, slotVisit, slotRow, slotImage, yardAfter, howMany, firstNot, Refused, answerBy, answerOf, Checked, check, checkDone, checkedBy, checkedWith}
+use Rattle.yard_check.proofs.VisitLaws.{slot-keeps, slot-refused, images-fit, trains-stay, images-bytes}
+use Rattle.yard_check.proofs.YardLaws.{Fits, fits, part-long, part-bytes, left, slots-after, part-done, part-later, after-fits, after-bytes}
 use Rattle.yard_check.proofs.ReportLaws.{report-length, report-row}
 
 -- ---- refusals
@@ -30,7 +30,7 @@ pub record Taken (yard occ : List ℕ) (a : CheckArgs) (long : ℕ) : Type 0 whe
   pub moved : a .moved ≤ slotCount yard
   pub begin-low : 1 ≤ a .begin
   pub begin-high : a .begin ≤ slotCount yard + 1
-  pub report-long : long ≡ 16 * slotCount yard
+  pub report-long : long ≡ rowSize * slotCount yard
 
 clean-test : (n : ℕ) (x : Bool) → cond x noFault (refused (suc n) 0) .number ≡ 0 → x ≡ true
 clean-test n true k = refl
@@ -51,7 +51,7 @@ taken yard occ a long h =
       moved = leb-true (a .moved) S (s .0);
       begin-low = leb-true 1 (a .begin) (b .0);
       begin-high = leb-true (a .begin) (S + 1) (b .1);
-      report-long = eqb-true long (16 * S) (clean-test 15 (eqb long (16 * S)) (z .1));
+      report-long = eqb-true long (rowSize * S) (clean-test 15 (eqb long (rowSize * S)) (z .1));
     }
 
 -- the answer of a check that is not refused
@@ -71,7 +71,7 @@ module _ (yard occ : List ℕ) (a : CheckArgs) (report : List ℕ) where
   after = checkedWith yard occ a report
 
   abbrev done : Checked
-  done = check (answerOf (λ t. slotVisit yard occ a t .row) (slotCount yard) (a .begin)) (yardAfter yard occ a (slotCount yard)) (reportAfter yard occ a report (slotCount yard))
+  done = checkDone yard occ a report
 
   by : (P : Checked → Type 0) → ((n : ℕ) → f .number ≡ suc n → P (check (Refused (suc n) (f .place)) yard report)) → (f .number ≡ 0 → P done) → P after
   unfolding checkedWith
@@ -91,29 +91,36 @@ module _ (yard occ : List ℕ) (a : CheckArgs) (report : List ℕ) where
   refused-leaves n place =
       by (λ (c : Checked). c .answer ≡ Refused n place → (c .yard ≡ yard) × (c .report ≡ report))
       (λ k e h. (refl, refl))
-      (λ e h. absurd (never (λ t. slotVisit yard occ a t .row) (slotCount yard) (a .begin) n place h))
+      (λ e h. absurd (never (slotRow yard occ a) (slotCount yard) (a .begin) n place h))
 
   -- the lengths are kept
   pub yard-length : length (after .yard) ≡ length yard
   yard-length =
       by (λ (c : Checked). length (c .yard) ≡ length yard) (λ k e. refl)
-      (λ e. left yard occ a (fits yard (taken yard occ a (length report) e .yard-fits)) (slotCount yard) (omega arith) .long)
+      (λ e. left yard (fits yard (taken yard occ a (length report) e .yard-fits)) (slotImage yard occ a) (images-fit yard occ a) (slotCount yard) (omega arith) .long)
 
   pub report-kept : length (after .report) ≡ length report
-  report-kept = by (λ (c : Checked). length (c .report) ≡ length report) (λ k e. refl) (λ e. report-length yard occ a report (slotCount yard))
+  report-kept = by (λ (c : Checked). length (c .report) ≡ length report) (λ k e. refl) (λ e. report-length (slotRow yard occ a) report (slotCount yard))
 
   -- a yard past 14 stays past it, with as many slots, and of bytes
   module _ (ok : yardFits yard ≡ true) where
+    abbrev F : Fits yard
+    F = fits yard ok
+
     pub fits-kept : yardFits (after .yard) ≡ true
-    fits-kept = by (λ (c : Checked). yardFits (c .yard) ≡ true) (λ k e. ok) (λ e. after-fits yard occ a (fits yard ok) (slotCount yard) (omega arith) ∙ ok)
+    fits-kept =
+        by (λ (c : Checked). yardFits (c .yard) ≡ true) (λ k e. ok)
+        (λ e. after-fits yard F (slotImage yard occ a) (images-fit yard occ a) (trains-stay yard occ a) (slotCount yard) (omega arith) ∙ ok)
 
     pub slots-kept : slotCount (after .yard) ≡ slotCount yard
     slots-kept =
         by (λ (c : Checked). slotCount (c .yard) ≡ slotCount yard) (λ k e. refl)
-        (λ e. same-slots yard occ a (fits yard ok) (slotCount yard) (left yard occ a (fits yard ok) (slotCount yard) (omega arith)))
+        (λ e. slots-after yard F (slotImage yard occ a) (images-fit yard occ a) (slotCount yard) (omega arith))
 
     pub bytes-kept : Bytes yard → Bytes (after .yard)
-    bytes-kept b = by (λ (c : Checked). Bytes (c .yard)) (λ k e. b) (λ e. after-bytes yard occ a (fits yard ok) (slotCount yard) (omega arith) b)
+    bytes-kept b =
+        by (λ (c : Checked). Bytes (c .yard)) (λ k e. b)
+        (λ e. after-bytes yard F (slotImage yard occ a) (images-fit yard occ a) (images-bytes yard occ a F b) b (slotCount yard) (omega arith))
 
 -- ---- a visit, case by case
 
@@ -137,7 +144,7 @@ module _ (occ : List ℕ) (a : CheckArgs) (t : ℕ) (img : List ℕ) where
   visit-moved e d m = rw (e, d, eq-eqb t (a .moved) m)
 
   pub visit-updated : fault .number ≡ 0 → isFinished img ≡ false → (t ≡ a .moved → ⊥)
-      → visited occ a t img ≡ visit (updatedRow (u .status) (a .moved) (u .rounds) (u .strays)) (u .image)
+      → visited occ a t img ≡ visit (updatedRow u (a .moved)) (u .image)
   unfolding visited
   visit-updated e d m = rw (e, d, ne-eqb t (a .moved) m)
 
@@ -159,22 +166,22 @@ module _ (yard occ : List ℕ) (a : CheckArgs) (f : Fits yard) where
   unfolding slotVisit
   slot-unvisited t h = ap (λ (b : Bool). cond b (visit unvisitedRow (partOf yard t)) (visited occ a t (partOf yard t))) (lt-ltb t (a .begin) h)
 
-  pub slot-turn : (n : ℕ) → n < slotCount yard → a .begin ≤ suc n → slotVisit yard occ a (suc n) ≡ visited occ a (suc n) (partOf (yardAfter yard occ a n) (suc n))
+  pub slot-turn : (n : ℕ) → n < slotCount yard → a .begin ≤ suc n → slotVisit yard occ a (suc n) ≡ visited occ a (suc n) (partOf (yardAfter yard (slotImage yard occ a) n) (suc n))
   unfolding slotVisit
   slot-turn n h l =
       ap (λ (b : Bool). cond b (visit unvisitedRow (partOf yard (suc n))) (visited occ a (suc n) (partOf yard (suc n)))) (le-ltb (suc n) (a .begin) l)
-      ∙ ap (visited occ a (suc n)) (sym (part-later yard occ a f n (omega arith) (suc n) (omega arith) (omega arith) (omega arith)))
+      ∙ ap (visited occ a (suc n)) (sym (part-later yard f (slotImage yard occ a) (images-fit yard occ a) n (omega arith) (suc n) (omega arith) (omega arith) (omega arith)))
 
-  pub yard-before : (n : ℕ) → n < a .begin → n ≤ slotCount yard → yardAfter yard occ a n ≡ yard
+  pub yard-before : (n : ℕ) → n < a .begin → n ≤ slotCount yard → yardAfter yard (slotImage yard occ a) n ≡ yard
   unfolding yardAfter
   yard-before zero h l = refl
-  yard-before (suc n) h l = rw (yard-before n (omega arith) (omega arith), slot-unvisited (suc n) h) (part-back (suc n) (omega arith) l)
+  yard-before (suc n) h l = rw (yard-before n (omega arith) (omega arith), slotImage, slot-unvisited (suc n) h) (part-back (suc n) (omega arith) l)
 
   -- an image that passes 6 to 9 passes them again
   pub accepted-after : Bytes yard → Trains16 occ → a .moved < 65536 → ((t : ℕ) → 1 ≤ t → t ≤ slotCount yard → imageFault (partOf yard t) (length occ) .number ≡ 0)
-      → (t : ℕ) → 1 ≤ t → t ≤ slotCount yard → imageFault (partOf (yardAfter yard occ a (slotCount yard)) t) (length occ) .number ≡ 0
+      → (t : ℕ) → 1 ≤ t → t ≤ slotCount yard → imageFault (partOf (yardAfter yard (slotImage yard occ a) (slotCount yard)) t) (length occ) .number ≡ 0
   accepted-after b w few ok t l m =
-      rw (part-done yard occ a f (slotCount yard) (omega arith) t l m m)
+      rw (part-done yard f (slotImage yard occ a) (images-fit yard occ a) (slotCount yard) (omega arith) t l m m)
       (slot-keeps yard occ a t (λ (x : List ℕ). imageFault x (length occ) .number ≡ 0) (ok t l m)
       (left-accepted (partOf yard t) occ (a .blocking) (a .moved) (a .local) (a .limit) (part-bytes yard f t l m b) w few (ok t l m)))
 
@@ -192,9 +199,9 @@ refused-slot-keeps yard occ a report t l m =
     by yard occ a report (λ (c : Checked). 16 ≤ rowAt (c .report) t .code → partOf (c .yard) t ≡ partOf yard t) (λ k e h. refl)
     (λ e h.
     let k = taken yard occ a (length report) e in
-    let row = report-row yard occ a report (slotCount yard) (omega (arith, k .report-long)) t l m in
-    let low : 16 ≤ slotVisit yard occ a t .row .code = omega (arith, h, ap (λ (r : Row). r .code) row) in
-    part-done yard occ a (fits yard (k .yard-fits)) (slotCount yard) (omega arith) t l m m ∙ slot-refused yard occ a t low)
+    let row = report-row (slotRow yard occ a) report (slotCount yard) (omega (arith, k .report-long)) t l m in
+    let low : 16 ≤ slotRow yard occ a t .code = omega (arith, h, ap (λ (r : Row). r .code) row) in
+    part-done yard (fits yard (k .yard-fits)) (slotImage yard occ a) (images-fit yard occ a) (slotCount yard) (omega arith) t l m m ∙ slot-refused yard occ a t low)
 
 -- ---- the next begin, slot by slot: it moves on where it stands at a finished slot (dispatch.rs 78-80)
 

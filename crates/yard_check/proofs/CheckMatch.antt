@@ -21,18 +21,19 @@ use Rattle.update_image.proofs.UpdateLeaves.{Trains16}
 use Rattle.update_image.proofs.UpdateCounts.{image-counts}
 use Rattle.update_image.proofs.ImageRenumbering.{call-fault-match}
 use Rattle.yard_check.specs.Yard.{slotCount, partOf, yardFits}
-use Rattle.yard_check.specs.Check.{CheckArgs, slotsFault, reportFault, checkFault, Row, rowAt, updatedRow, isBlockedRow, isErredRow, isFinished, Visit, visitBy, visited, slotVisit, yardAfter, reportAfter, howMany, answerBy, answerOf, Checked, check, checkedBy, checkedWith}
+use Rattle.yard_check.specs.Check.{CheckArgs, rowSize, slotsFault, reportFault, checkFault, Row, rowAt, statusRow, isBlockedRow, isErredRow, isFinished, Visit, visitBy, visited, slotVisit, slotRow, slotImage, yardAfter, reportAfter, howMany, answerBy, answerOf, Checked, checkDone, checkedBy, checkedWith}
 use Rattle.yard_check.specs.YardMatch.{YardsMatch, rRow, ReportsMatch, AnswersMatch, NotRefused, ArgsMatch}
 use Rattle.yard_check.specs.DemandThree.{Plain}
 use Rattle.yard_check.proofs.SlotLaws.{some, many-same, many-renumbered, leb-slots}
-use Rattle.yard_check.proofs.YardLaws.{fits, left, same-slots, part-bytes, part-done}
+use Rattle.yard_check.proofs.YardLaws.{fits, slots-after, part-bytes, part-done}
+use Rattle.yard_check.proofs.VisitLaws.{images-fit}
 use Rattle.yard_check.proofs.CheckLaws.{taken, taken-done}
 use Rattle.yard_check.proofs.ReportLaws.{keptRow, report-length, report-row}
 use Rattle.yard_check.proofs.VisitMatch.{VisitsMatch, visit-match, visited-slot}
 
 -- ---- the holder of a row is 0 or the moved train
 
-holder-row : (s : Status) (moved rounds strays : ℕ) → updatedRow s moved rounds strays .holder ≤ moved
+holder-row : (s : Status) (moved rounds strays : ℕ) → statusRow s moved rounds strays .holder ≤ moved
 holder-row Success moved rounds strays = omega arith
 holder-row Blocked moved rounds strays = omega arith
 holder-row (Faulty n) moved rounds strays = omega arith
@@ -52,7 +53,7 @@ holder-few occ a t img =
 
 -- ---- the strays of a row fit the report
 
-strays-row : (s : Status) (moved rounds strays : ℕ) → updatedRow s moved rounds strays .strays ≤ strays
+strays-row : (s : Status) (moved rounds strays : ℕ) → statusRow s moved rounds strays .strays ≤ strays
 strays-row Success moved rounds strays = omega arith
 strays-row Blocked moved rounds strays = omega arith
 strays-row (Faulty n) moved rounds strays = omega arith
@@ -126,15 +127,15 @@ module _ (p q : ℕ → ℕ) (yard yard′ occ occ′ : List ℕ) (a a′ : Chec
     moved-few : a .moved < 65536
     moved-few = omega (arith, fits yard ok .few, taken yard occ a (length report) clean .moved)
 
-    report-long : length report ≡ 16 * S
+    report-long : length report ≡ rowSize * S
     report-long = taken yard occ a (length report) clean .report-long
 
-    module _ (begins : a .begin ≡ 1) (empty : getD occ 0 0 ≡ 0) (strays : (t : ℕ) → 1 ≤ t → t ≤ S → slotVisit yard occ a t .row .strays ≡ 0) where
+    module _ (begins : a .begin ≡ 1) (empty : getD occ 0 0 ≡ 0) (strays : (t : ℕ) → 1 ≤ t → t ≤ S → slotRow yard occ a t .strays ≡ 0) where
       abbrev row : ℕ → Row
-      row t = slotVisit yard occ a t .row
+      row t = slotRow yard occ a t
 
       abbrev row′ : ℕ → Row
-      row′ t = slotVisit yard′ occ′ a′ t .row
+      row′ t = slotRow yard′ occ′ a′ t
 
       zero-empty : occupied occ noLink ≡ false
       unfolding occupied
@@ -151,7 +152,7 @@ module _ (p q : ℕ → ℕ) (yard yard′ occ occ′ : List ℕ) (a a′ : Chec
           rw (here, there)
           (visit-match p q occ occ′ a a′ g calls w moved-few zero-empty t (partOf yard t) (partOf yard′ (q t)) (m .images t l k)
           (part-bytes yard (fits yard ok) t l k b) (part-bytes yard′ (fits yard′ ok′) (q t) (slot t l k .0) (slot t l k .1) b′)
-          (rw here at (strays t l k)))
+          (rw (here, slotRow) at (strays t l k)))
 
       -- as many rows of a kind that does not see the numbering
       many : (test : Row → Bool) → ((r : Row) → test (rRow q r) ≡ test r) → howMany (λ t. test (row′ t)) S ≡ howMany (λ t. test (row t)) S
@@ -162,34 +163,41 @@ module _ (p q : ℕ → ℕ) (yard yard′ occ occ′ : List ℕ) (a a′ : Chec
       holder-fits : (t : ℕ) → 1 ≤ t → row t .holder < 65536
       holder-fits t l = omega (arith, ap (λ (v : Visit). v .row .holder) (visited-slot yard occ a t begins l), holder-few occ a t (partOf yard t), moved-few)
 
-      reports : ReportsMatch q S (reportAfter yard occ a report S) (reportAfter yard′ occ′ a′ report′ (slotCount yard′))
+      reports : ReportsMatch q S (reportAfter row report S) (reportAfter row′ report′ (slotCount yard′))
       reports =
           record {
-            long = report-length yard′ occ′ a′ report′ (slotCount yard′) ∙ (long ∙ sym (report-length yard occ a report S));
+            long = report-length row′ report′ (slotCount yard′) ∙ (long ∙ sym (report-length row report S));
             rows = λ t l k.
                 let few = holder-fits t l in
-                report-row yard′ occ′ a′ report′ (slotCount yard′) (omega (arith, m .slots, long, report-long)) (q t) (slot t l k .0) (slot t l k .1)
+                report-row row′ report′ (slotCount yard′) (omega (arith, m .slots, long, report-long)) (q t) (slot t l k .0) (slot t l k .1)
                 ∙ (ap keptRow (slots-match t l k .row)
                 ∙ (kept-renumbered q (row t) few (omega (arith, within 65535 q trains (row t .holder) (omega arith)))
-                ∙ ap (rRow q) (sym (report-row yard occ a report S (omega (arith, report-long)) t l k))));
+                ∙ ap (rRow q) (sym (report-row row report S (omega (arith, report-long)) t l k))));
           }
 
-      yards : YardsMatch p q (yardAfter yard occ a S) (yardAfter yard′ occ′ a′ (slotCount yard′))
+      abbrev img : ℕ → List ℕ
+      img t = slotImage yard occ a t
+
+      abbrev img′ : ℕ → List ℕ
+      img′ t = slotImage yard′ occ′ a′ t
+
+      yards : YardsMatch p q (yardAfter yard img S) (yardAfter yard′ img′ (slotCount yard′))
       yards =
           let ft = fits yard ok in
           let ft′ = fits yard′ ok′ in
-          let same = same-slots yard occ a ft S (left yard occ a ft S (omega arith)) in
-          let same′ = same-slots yard′ occ′ a′ ft′ (slotCount yard′) (left yard′ occ′ a′ ft′ (slotCount yard′) (omega arith)) in
+          let fit = images-fit yard occ a in
+          let fit′ = images-fit yard′ occ′ a′ in
+          let same = slots-after yard ft img fit S (omega arith) in
+          let same′ = slots-after yard′ ft′ img′ fit′ (slotCount yard′) (omega arith) in
           record {
             slots = same′ ∙ (m .slots ∙ sym same);
             images = λ t l k.
                 let n : t ≤ S = omega (arith, same) in
-                rw (part-done yard occ a ft S (omega arith) t l n n, part-done yard′ occ′ a′ ft′ (slotCount yard′) (omega arith) (q t) (slot t l n .0) (slot t l n .1) (slot t l n .1))
+                rw (part-done yard ft img fit S (omega arith) t l n n, part-done yard′ ft′ img′ fit′ (slotCount yard′) (omega arith) (q t) (slot t l n .0) (slot t l n .1) (slot t l n .1))
                 (slots-match t l n .image);
           }
 
-      done-match : ChecksMatch p q S (check (answerOf row S (a .begin)) (yardAfter yard occ a S) (reportAfter yard occ a report S))
-          (check (answerOf row′ (slotCount yard′) (a′ .begin)) (yardAfter yard′ occ′ a′ (slotCount yard′)) (reportAfter yard′ occ′ a′ report′ (slotCount yard′)))
+      done-match : ChecksMatch p q S (checkDone yard occ a report) (checkDone yard′ occ′ a′ report′)
       unfolding answerOf
       done-match =
           record {
@@ -200,18 +208,18 @@ module _ (p q : ℕ → ℕ) (yard yard′ occ occ′ : List ℕ) (a a′ : Chec
 
   -- a report that shows no stray has counted none
   none-counted : a .limit < 65536 → f .number ≡ 0 → a .begin ≡ 1 → ((t : ℕ) → 1 ≤ t → t ≤ S → rowAt (checkedWith yard occ a report .report) t .strays ≡ 0)
-      → (t : ℕ) → 1 ≤ t → t ≤ S → slotVisit yard occ a t .row .strays ≡ 0
+      → (t : ℕ) → 1 ≤ t → t ≤ S → slotRow yard occ a t .strays ≡ 0
   none-counted few clean begins shown t l k =
-      let shows : keptRow (slotVisit yard occ a t .row) .strays ≡ 0 =
-      ap (λ (r : Row). r .strays) (sym (report-row yard occ a report S (omega (arith, report-long clean)) t l k) ∙ ap (λ (c : Checked). rowAt (c .report) t) (sym (taken-done yard occ a report clean))) ∙ shown t l k in
+      let shows : keptRow (slotRow yard occ a t) .strays ≡ 0 =
+      ap (λ (r : Row). r .strays) (sym (report-row (slotRow yard occ a) report S (omega (arith, report-long clean)) t l k) ∙ ap (λ (c : Checked). rowAt (c .report) t) (sym (taken-done yard occ a report clean))) ∙ shown t l k in
       omega (arith, shows, ap (λ (v : Visit). v .row .strays) (visited-slot yard occ a t begins l), strays-few occ a t (partOf yard t) (part-bytes yard (fits yard ok) t l k b) few)
 
   module _ (few : a .limit < 65536) (plain : f .number ≡ 0 → Plain yard occ a report) where
     abbrev done : Checked
-    done = check (answerOf (λ t. slotVisit yard occ a t .row) S (a .begin)) (yardAfter yard occ a S) (reportAfter yard occ a report S)
+    done = checkDone yard occ a report
 
     abbrev done′ : Checked
-    done′ = check (answerOf (λ t. slotVisit yard′ occ′ a′ t .row) (slotCount yard′) (a′ .begin)) (yardAfter yard′ occ′ a′ (slotCount yard′)) (reportAfter yard′ occ′ a′ report′ (slotCount yard′))
+    done′ = checkDone yard′ occ′ a′ report′
 
     by : (n place : ℕ) → (n ≡ 0 → ChecksMatch p q S done done′) → ChecksMatch p q S (checkedBy n place done yard report) (checkedBy n place done′ yard′ report′)
     by zero place h = h refl

@@ -2,8 +2,8 @@ pub mod Siding
 pub mod Examples
 pub mod SlotLaws
 pub mod PatchLaws
-pub mod VisitLaws
 pub mod YardLaws
+pub mod VisitLaws
 pub mod PartLaws
 pub mod ReportLaws
 pub mod CheckLaws

@@ -9,7 +9,7 @@ use lib.ListN.{length, getD}
 use Rattle.link_rules.specs.Octets.{leAt, putLe}
 use Rattle.link_rules.proofs.OctetLaws.{le-cong, le-put-same, le-put-other, length-put, put-mod}
 use Rattle.image.proofs.Writers.{Writes, then, put-to}
-use Rattle.yard_check.specs.Check.{CheckArgs, Row, putRow, rowFrom, rowAt, slotVisit, reportAfter}
+use Rattle.yard_check.specs.Check.{rowSize, rowPlace, Row, putRow, rowFrom, rowAt, reportAfter}
 
 -- ---- one record
 
@@ -31,7 +31,7 @@ two-kept x k bs h = ap (λ (c : List ℕ). leAt 2 c k) (sym (put-mod 2 x k bs)) 
 four-kept : (x k : ℕ) (bs : List ℕ) → k + 4 ≤ length bs → leAt 4 (putLe 4 x k bs) k ≡ x % 4294967296
 four-kept x k bs h = ap (λ (c : List ℕ). leAt 4 c k) (sym (put-mod 4 x k bs)) ∙ le-put-same 4 (x % 4294967296) k bs h (omega arith)
 
-row-writes : (r : Row) (k : ℕ) → Writes k (k + 16) (putRow r k)
+row-writes : (r : Row) (k : ℕ) → Writes k (k + rowSize) (putRow r k)
 unfolding putRow
 row-writes r k =
     then (then (then (then (then (put-to 2 (r .code) k (k + 2) refl)
@@ -41,7 +41,7 @@ row-writes r k =
     (put-to 4 (r .strays) (k + 8) (k + 12) (omega arith)) (omega arith) (omega arith))
     (put-to 4 (r .faults) (k + 12) (k + 16) (omega arith)) (omega arith) (omega arith)
 
-row-cong : (bs cs : List ℕ) (k : ℕ) → ((i : ℕ) → k ≤ i → i < k + 16 → getD bs i 0 ≡ getD cs i 0) → rowFrom bs k ≡ rowFrom cs k
+row-cong : (bs cs : List ℕ) (k : ℕ) → ((i : ℕ) → k ≤ i → i < k + rowSize → getD bs i 0 ≡ getD cs i 0) → rowFrom bs k ≡ rowFrom cs k
 unfolding rowFrom
 row-cong bs cs k h =
     rw (
@@ -53,7 +53,7 @@ row-cong bs cs k h =
       le-cong 4 bs cs (k + 12) (λ i l m. h i (omega arith) (omega arith)),
     )
 
-row-read : (r : Row) (k : ℕ) (bs : List ℕ) → k + 16 ≤ length bs → rowFrom (putRow r k bs) k ≡ keptRow r
+row-read : (r : Row) (k : ℕ) (bs : List ℕ) → k + rowSize ≤ length bs → rowFrom (putRow r k bs) k ≡ keptRow r
 unfolding rowFrom putRow
 row-read r k bs h =
     let b1 = putLe 2 (r .code) k bs in
@@ -80,30 +80,29 @@ row-read r k bs h =
       four-kept (r .faults) (k + 12) b5 (omega arith),
     )
 
--- ---- the report after slots 1 to n
+-- ---- the report with the rows of slots 1 to n
 
-module _ (yard occ : List ℕ) (a : CheckArgs) (report : List ℕ) where
+-- where the record of the next slot stands
+pub next-place : (n : ℕ) → rowPlace (suc n) ≡ rowSize * n
+next-place n = omega arith
+
+module _ (rows : ℕ → Row) (report : List ℕ) where
   abbrev z : ℕ → List ℕ
-  z n = reportAfter yard occ a report n
-
-  abbrev row : ℕ → Row
-  row t = slotVisit yard occ a t .row
+  z n = reportAfter rows report n
 
   pub report-length : (n : ℕ) → length (z n) ≡ length report
   unfolding reportAfter
   report-length zero = refl
-  report-length (suc n) = row-writes (row (suc n)) (16 * n) .long (z n) ∙ report-length n
+  report-length (suc n) = row-writes (rows (suc n)) (rowPlace (suc n)) .long (z n) ∙ report-length n
 
-  -- the record of slot t holds the row of its visit
-  pub report-row : (n : ℕ) → 16 * n ≤ length report → (t : ℕ) → 1 ≤ t → t ≤ n → rowAt (z n) t ≡ keptRow (row t)
+  -- the record of slot t holds its row
+  pub report-row : (n : ℕ) → rowSize * n ≤ length report → (t : ℕ) → 1 ≤ t → t ≤ n → rowAt (z n) t ≡ keptRow (rows t)
   unfolding reportAfter
   report-row zero h t l m = absurd (omega arith)
   report-row (suc n) h t l m = ⊎-elim last (λ k. lower k (report-row n (omega arith) t l (omega arith))) (eq-or-lt-of-le m)
     where
-      last : t ≡ suc n → rowAt (putRow (row (suc n)) (16 * n) (z n)) t ≡ keptRow (row t)
-      last e =
-          let k : 16 * (suc n - 1) ≡ 16 * n = omega arith in
-          rw e (rw k (row-read (row (suc n)) (16 * n) (z n) (omega (arith, report-length n))))
+      last : t ≡ suc n → rowAt (putRow (rows (suc n)) (rowPlace (suc n)) (z n)) t ≡ keptRow (rows t)
+      last e = rw e (row-read (rows (suc n)) (rowPlace (suc n)) (z n) (omega (arith, report-length n)))
 
-      lower : t < suc n → rowAt (z n) t ≡ keptRow (row t) → rowAt (putRow (row (suc n)) (16 * n) (z n)) t ≡ keptRow (row t)
-      lower k i = row-cong (putRow (row (suc n)) (16 * n) (z n)) (z n) (16 * (t - 1)) (λ j x y. row-writes (row (suc n)) (16 * n) .outside (z n) j (inl (omega arith))) ∙ i
+      lower : t < suc n → rowAt (z n) t ≡ keptRow (rows t) → rowAt (putRow (rows (suc n)) (rowPlace (suc n)) (z n)) t ≡ keptRow (rows t)
+      lower k i = row-cong (putRow (rows (suc n)) (rowPlace (suc n)) (z n)) (z n) (rowPlace t) (λ j x y. row-writes (rows (suc n)) (rowPlace (suc n)) .outside (z n) j (inl (omega arith))) ∙ i

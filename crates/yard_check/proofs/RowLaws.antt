@@ -162,11 +162,11 @@ module _ (occ : List ℕ) (a : CheckArgs) (t : ℕ) (img : List ℕ) where
 
   -- every other one is updated at once
   pub updated-at-once : callFault occ (a .blocking) (a .moved) (a .limit) .number ≡ 0 → isFinished img ≡ false → (t ≡ a .moved → ⊥)
-      → visited occ a t img ≡ visit (updatedRow (w .status) (a .moved) (w .rounds) (w .strays)) (w .image)
+      → visited occ a t img ≡ visit (updatedRow w (a .moved)) (w .image)
   updated-at-once c d m = go (v .number) refl
     where
-      go : (k : ℕ) → v .number ≡ k → visited occ a t img ≡ visit (updatedRow (w .status) (a .moved) (w .rounds) (w .strays)) (w .image)
+      go : (k : ℕ) → v .number ≡ k → visited occ a t img ≡ visit (updatedRow w (a .moved)) (w .image)
       go zero e = visit-updated occ a t img e d m
       go (suc n) e =
           visit-refused occ a t img n e
-          ∙ ap (λ (x : UpdatedImage). visit (updatedRow (x .status) (a .moved) (x .rounds) (x .strays)) (x .image)) (sym (refused-update img occ (a .blocking) (a .moved) (a .local) (a .limit) c n e))
+          ∙ ap (λ (x : UpdatedImage). visit (updatedRow x (a .moved)) (x .image)) (sym (refused-update img occ (a .blocking) (a .moved) (a .local) (a .limit) c n e))

@@ -14,7 +14,7 @@ use Rattle.image_fault.specs.ImageFault.{imageFault}
 use Rattle.image_fault.specs.declared.Fault.{Fault}
 use Rattle.link_rules.specs.declared.refusal.Refusal.{Refusal}
 use Rattle.yard_check.specs.Yard.{slotCount, partOf}
-use Rattle.yard_check.specs.Check.{CheckArgs, checkFault, Row, isFinishedRow, isBlockedRow, isErredRow, rowFrom, howMany, firstNot, slotVisit, yardAfter, reportAfter, Erred, Done, answerBy, answerOf, Checked, check, checkedBy, checkedWith, checked}
+use Rattle.yard_check.specs.Check.{CheckArgs, rowSize, checkFault, Row, isFinishedRow, isBlockedRow, isErredRow, rowFrom, howMany, firstNot, slotRow, Erred, Done, answerBy, answerOf, Checked, checkDone, checkedBy, checkedWith, checked}
 use Rattle.yard_check.specs.Checks.{answeredOf, checkedOf}
 use Rattle.yard_check.specs.YardMatch.{NotRefused}
 use Rattle.yard_check.specs.declared.check.Answer as Code
@@ -48,12 +48,12 @@ module _ (yard report : List ℕ) (links : ℕ) where
   lines-none = nothing
 
   one-more : (i free : ℕ) → free ≡ freeColumn (partOf yard (i + 1)) links
-      → slotLines yard report links (i + 1) ≡ slotLines yard report links i ++ slotLine (i + 1) (rowFrom report (16 * i)) free
+      → slotLines yard report links (i + 1) ≡ slotLines yard report links i ++ slotLine (i + 1) (rowFrom report (rowSize * i)) free
   unfolding slotLines
   one-more i free e = let k : suc i - 1 ≡ i = omega arith in rw (e, add-one i, slotLines, k)
 
   pub lines-turn : (i free : ℕ) {t u v : Text} → free ≡ freeColumn (partOf yard (i + 1)) links → Put (slotLines yard report links i) t u
-      → Put (slotLine (i + 1) (rowFrom report (16 * i)) free) u v → Put (slotLines yard report links (i + 1)) t v
+      → Put (slotLine (i + 1) (rowFrom report (rowSize * i)) free) u v → Put (slotLines yard report links (i + 1)) t v
   lines-turn i free e p q = put-is (one-more i free e) (then p q)
 
 -- ---- the lines of a check
@@ -100,7 +100,7 @@ module _ (yard occ : List ℕ) (a : CheckArgs) (report : List ℕ) where
   abbrev f : Fault
   f = checkFault yard occ a (length report)
 
-  few : f .number ≡ 0 → slotCount (yardAfter yard occ a (slotCount yard)) ≤ 63
+  few : f .number ≡ 0 → slotCount (checkDone yard occ a report .yard) ≤ 63
   few e =
       let ok = taken yard occ a (length report) e .yard-fits in
       let same = ap (λ (c : Checked). slotCount (c .yard)) (sym (taken-done yard occ a report e)) ∙ slots-kept yard occ a report ok in
@@ -113,18 +113,15 @@ module _ (yard occ : List ℕ) (a : CheckArgs) (report : List ℕ) where
   unfolding checkedWith
   slots-few c is = subst⁻¹ Few is (go (f .number) refl)
     where
-      go : (n : ℕ) → f .number ≡ n
-          → Few (checkedBy n (f .place)
-          (check (answerOf (λ t. slotVisit yard occ a t .row) (slotCount yard) (a .begin)) (yardAfter yard occ a (slotCount yard)) (reportAfter yard occ a report (slotCount yard))) yard
-          report)
-      go zero e = answered (slotCount (yardAfter yard occ a (slotCount yard)) ≤ 63) (λ t. slotVisit yard occ a t .row) (slotCount yard) (a .begin) (few e)
+      go : (n : ℕ) → f .number ≡ n → Few (checkedBy n (f .place) (checkDone yard occ a report) yard report)
+      go zero e = answered (slotCount (checkDone yard occ a report .yard) ≤ 63) (slotRow yard occ a) (slotCount yard) (a .begin) (few e)
       go (suc n) e = tt
 
 -- ---- the check of a bundle's parts
 
 module _ (b occ blocking yard report : List ℕ) where
   pub bundle-checked : (moved begin limit flag : ℕ) → occ ≡ bundleOccupancy b → blocking ≡ bundleBlocking b → yard ≡ bundleYard b → moved ≡ leAt 2 b 24 → begin ≡ leAt 2 b 26
-      → flag ≡ leAt 2 b 30 → limit ≡ leAt 2 b 28 → report ≡ replicate (16 * reportSlots (bundleYard b)) 0
+      → flag ≡ leAt 2 b 30 → limit ≡ leAt 2 b 28 → report ≡ replicate (rowSize * reportSlots (bundleYard b)) 0
       → checked yard occ blocking moved begin (eqb flag 1) limit report ≡ checkedBundle b
   unfolding checkedBundle
   bundle-checked moved begin limit flag e1 e2 e3 e4 e5 e6 e7 e8 = rw (e1, e2, e3, e4, e5, e6, e7, e8)

@@ -17,7 +17,7 @@ use Rattle.image_fault.proofs.ScanLaws.{both}
 use Rattle.image_fault.proofs.AcceptLaws.{accepted, fits-counts, clean-header}
 use Rattle.update_image.specs.UpdateImage.{linksBelow, callFault}
 use Rattle.yard_check.specs.Yard.{slotCount, partOf, yardFits, yardFault}
-use Rattle.yard_check.specs.Check.{CheckArgs, slotsFault, reportFault, checkFault, Row, isFinishedRow, isBlockedRow, isErredRow, rowAt, slotVisit, yardAfter, reportAfter, howMany, firstNot, answerBy, answerOf, Checked, check, checkedBy, checkedWith}
+use Rattle.yard_check.specs.Check.{CheckArgs, rowSize, slotsFault, reportFault, checkFault, Row, isFinishedRow, isBlockedRow, isErredRow, rowAt, slotRow, howMany, firstNot, answerBy, answerOf, Checked, checkDone, checkedBy, checkedWith}
 use Rattle.yard_check.specs.Sheet.{bundleFits, checkedBundle, occupancyCount, codeWord, refusedWord, refusedLine, firstLine, freeColumn, slotLine, slotLines, checkText, checkLines, sheetText}
 use Rattle.text.specs.Ascii.{ascii, column}
 use Rattle.yard_check.proofs.YardLaws.{fits}
@@ -157,21 +157,21 @@ fault-few yard occ a long =
     or-few (callFault occ (a .blocking) (a .moved) (a .limit)) _ (call-few occ (a .blocking) (a .moved) (a .limit))
     (or-few (yardFault yard) _ (one-of (yardFits yard) noFault (refused 14 0) (omega arith) (omega arith))
     (or-few (slotsFault S a) (reportFault S long) (one-of (leb (a .moved) S && (leb 1 (a .begin) && leb (a .begin) (S + 1))) noFault (refused 15 0) (omega arith) (omega arith))
-    (one-of (eqb long (16 * S)) noFault (refused 16 0) (omega arith) (omega arith))))
+    (one-of (eqb long (rowSize * S)) noFault (refused 16 0) (omega arith) (omega arith))))
 
 module _ (yard occ : List ℕ) (a : CheckArgs) (report : List ℕ) (links : ℕ) where
   abbrev f : Fault
   f = checkFault yard occ a (length report)
 
   abbrev rows : ℕ → Row
-  rows t = slotVisit yard occ a t .row
+  rows t = slotRow yard occ a t
 
   abbrev done : Checked
-  done = check (answerOf rows (slotCount yard) (a .begin)) (yardAfter yard occ a (slotCount yard)) (reportAfter yard occ a report (slotCount yard))
+  done = checkDone yard occ a report
 
-  row-small : (t : ℕ) → 16 * slotCount yard ≤ length report → 1 ≤ t → t ≤ slotCount yard → Small (rowAt (done .report) t)
+  row-small : (t : ℕ) → rowSize * slotCount yard ≤ length report → 1 ≤ t → t ≤ slotCount yard → Small (rowAt (done .report) t)
   row-small t h l k =
-      subst⁻¹ Small (report-row yard occ a report (slotCount yard) h t l k)
+      subst⁻¹ Small (report-row rows report (slotCount yard) h t l k)
       (record { code = omega arith; rounds = omega arith; holder = omega arith; strays = omega arith; faults = omega arith })
 
   done-long : f .number ≡ 0 → length (checkLines done links) ≤ 4096

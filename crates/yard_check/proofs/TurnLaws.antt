@@ -13,11 +13,13 @@ use borrow.Author.Tests.{le-ltb}
 use Rattle.image.proofs.Writers.{side}
 use Rattle.image_fault.specs.declared.Fault.{Fault}
 use Rattle.yard_check.specs.Yard.{slotCount, partFrom, partUntil, partOf, withPart}
-use Rattle.yard_check.specs.Check.{CheckArgs, checkFault, Row, unvisitedRow, isFinishedRow, isBlockedRow, isErredRow, putRow, Visit, visit, visited, slotVisit, yardAfter, reportAfter, howMany, firstNot, Refused, Erred, answerBy, answerOf, check, checkedBy, checkedWith}
+use Rattle.yard_check.specs.Check.{CheckArgs, rowSize, checkFault, Row, unvisitedRow, isFinishedRow, isBlockedRow, isErredRow, putRow, Visit, visit, visited, slotVisit, slotRow, slotImage, yardAfter, reportAfter, howMany, firstNot, Refused, Erred, answerBy, answerOf, check, checkDone, checkedBy, checkedWith}
 use Rattle.yard_check.specs.Checks.{rowOf, talliedOf, tallyAfter, NextTurn, Visits, SlotVisited, AllVisited}
 use Rattle.yard_check.specs.declared.check.Row as Columns
 use Rattle.yard_check.specs.declared.check.Tally.{Tally}
-use Rattle.yard_check.proofs.YardLaws.{Fits, fits, left, same-slots, part-later, after-fits}
+use Rattle.yard_check.proofs.YardLaws.{Fits, fits, left, slots-after, part-later, after-fits}
+use Rattle.yard_check.proofs.VisitLaws.{images-fit, trains-stay}
+use Rattle.yard_check.proofs.ReportLaws.{next-place}
 use Rattle.yard_check.proofs.PartLaws.{from-until, until-inside, part-span, fits-from, fits-until}
 use Rattle.yard_check.proofs.CheckLaws.{Taken, taken, taken-done, part-back, slot-unvisited, next-turn}
 
@@ -107,10 +109,10 @@ module _ (rows : ℕ → Row) (begin : ℕ) where
 
 module _ (yard occ : List ℕ) (a : CheckArgs) (report : List ℕ) (clean : checkFault yard occ a (length report) .number ≡ 0) where
   abbrev z : ℕ → List ℕ
-  z n = yardAfter yard occ a n
+  z n = yardAfter yard (slotImage yard occ a) n
 
   abbrev row : ℕ → Row
-  row t = slotVisit yard occ a t .row
+  row t = slotRow yard occ a t
 
   T : Taken yard occ a (length report)
   T = taken yard occ a (length report) clean
@@ -126,7 +128,7 @@ module _ (yard occ : List ℕ) (a : CheckArgs) (report : List ℕ) (clean : chec
   turn-start = let k : 0 + 1 - a .begin ≡ 0 = omega (arith, T .begin-low) in rw k
 
   pub turn-length : (n : ℕ) → n ≤ slotCount yard → length (z n) ≡ length yard
-  turn-length n h = left yard occ a F n h .long
+  turn-length n h = left yard F (slotImage yard occ a) (images-fit yard occ a) n h .long
 
   low-rows : (t : ℕ) → t < a .begin → isFinishedRow (row t) ≡ false
   low-rows t h = ap (λ (x : Visit). isFinishedRow (x .row)) (slot-unvisited yard occ a F t h)
@@ -135,16 +137,16 @@ module _ (yard occ : List ℕ) (a : CheckArgs) (report : List ℕ) (clean : chec
     pub turn-visits : Visits (z n) occ a (n + 1)
     turn-visits =
         record {
-          yard-fits = after-fits yard occ a F n (omega arith) ∙ T .yard-fits;
+          yard-fits = after-fits yard F (slotImage yard occ a) (images-fit yard occ a) (trains-stay yard occ a) n (omega arith) ∙ T .yard-fits;
           low = omega arith;
-          high = omega (arith, same-slots yard occ a F n (left yard occ a F n (omega arith)));
+          high = omega (arith, slots-after yard F (slotImage yard occ a) (images-fit yard occ a) n (omega arith));
           call = T .call;
         }
 
     -- each slot is visited as the visits before it left it
     same-visit : slotVisit (z n) occ a (suc n) ≡ slotVisit yard occ a (suc n)
     unfolding slotVisit
-    same-visit = rw (part-later yard occ a F n (omega arith) (suc n) (omega arith) (omega arith) (omega arith))
+    same-visit = rw (part-later yard F (slotImage yard occ a) (images-fit yard occ a) n (omega arith) (suc n) (omega arith) (omega arith) (omega arith))
 
     module _ (r : Columns.Row) (yard′ : List ℕ) (s : SlotVisited (z n) occ a (n + 1) r yard′) where
       s′ : SlotVisited (z n) occ a (suc n) r yard′
@@ -157,9 +159,11 @@ module _ (yard occ : List ℕ) (a : CheckArgs) (report : List ℕ) (clean : chec
       unfolding yardAfter
       turn-yard = rw (add-one n) (s′ .yard-left ∙ ap (λ (x : Visit). withPart (z n) (suc n) (x .image)) same-visit)
 
-      pub turn-report : putRow (rowOf r) (16 * n) (reportAfter yard occ a report n) ≡ reportAfter yard occ a report (n + 1)
+      pub turn-report : putRow (rowOf r) (rowSize * n) (reportAfter row report n) ≡ reportAfter row report (n + 1)
       unfolding reportAfter
-      turn-report = rw (add-one n) (ap (λ (x : Row). putRow x (16 * n) (reportAfter yard occ a report n)) row-is)
+      turn-report =
+          rw (add-one n)
+          (ap (λ (x : Row). putRow x (rowSize * n) (reportAfter row report n)) row-is ∙ ap (λ (k : ℕ). putRow (row (suc n)) k (reportAfter row report n)) (sym (next-place n)))
 
       pub turn-tally : talliedOf (tallyAfter row (a .begin) n) (rowOf r) (n + 1) ≡ tallyAfter row (a .begin) (n + 1)
       turn-tally =
@@ -178,7 +182,7 @@ pub check-refused : (yard occ : List ℕ) (a : CheckArgs) (report : List ℕ) (f
 unfolding checkedWith
 check-refused yard occ a report f e h = rw (← e) (go (f .number) h)
   where
-    go : (n : ℕ) → (n ≡ 0 → ⊥) → check (Refused n (f .place)) yard report ≡ checkedBy n (f .place) (check (answerOf (λ t. slotVisit yard occ a t .row) (slotCount yard) (a .begin)) (yardAfter yard occ a (slotCount yard)) (reportAfter yard occ a report (slotCount yard))) yard report
+    go : (n : ℕ) → (n ≡ 0 → ⊥) → check (Refused n (f .place)) yard report ≡ checkedBy n (f .place) (checkDone yard occ a report) yard report
     go zero k = absurd (k refl)
     go (suc n) k = refl
 

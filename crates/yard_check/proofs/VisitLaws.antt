@@ -19,8 +19,9 @@ use Rattle.image_fault.specs.ImageFault.{imageFault}
 use Rattle.train_update.specs.Update.{Status, Success, Blocked, Faulty, Refused, Updated}
 use Rattle.update_image.specs.UpdateImage.{UpdatedImage, leftImage, answerBy, updateFault, updatedImage}
 use Rattle.update_image.proofs.UpdateLeaves.{length-kept, bytes-kept, refused-leaves}
-use Rattle.yard_check.specs.Yard.{partOf}
-use Rattle.yard_check.specs.Check.{CheckArgs, Row, unvisitedRow, finishedRow, movedRow, refusedRow, updatedRow, visit, visitBy, visited, isFinished, slotVisit}
+use Rattle.yard_check.specs.Yard.{slotCount, partOf}
+use Rattle.yard_check.specs.Check.{CheckArgs, Row, unvisitedRow, finishedRow, movedRow, refusedRow, statusRow, updatedRow, visit, visitBy, visited, isFinished, slotVisit, slotRow, slotImage}
+use Rattle.yard_check.proofs.YardLaws.{Fits, ImagesFit, TrainsStay, part-bytes}
 
 -- ---- the train in the header of an image stays
 
@@ -59,7 +60,7 @@ module _ (occ blocking : List ℕ) (moved : ℕ) (local : Bool) (limit : ℕ) (i
 -- ---- by what the visit does
 
 module _ (P : Row → List ℕ → Type 0) (img : List ℕ) (u : UpdatedImage) (moved : ℕ) (same : (r : Row) → P r img)
-    (after : P (updatedRow (u .status) moved (u .rounds) (u .strays)) (u .image)) where
+    (after : P (updatedRow u moved) (u .image)) where
   visit-by : (n place : ℕ) (isDone isMoved : Bool) → let v = visitBy n place isDone isMoved moved u img in P (v .row) (v .image)
   visit-by (suc n) place isDone isMoved = same (refusedRow (suc n) place 0 0)
   visit-by zero place true isMoved = same finishedRow
@@ -67,7 +68,7 @@ module _ (P : Row → List ℕ → Type 0) (img : List ℕ) (u : UpdatedImage) (
   visit-by zero place false false = after
 
 -- an update whose row says refused is refused
-refused-row : (X : Type 0) (s : Status) (moved rounds strays : ℕ) → ((n place : ℕ) → s ≡ Refused n place → X) → 16 ≤ updatedRow s moved rounds strays .code → X
+refused-row : (X : Type 0) (s : Status) (moved rounds strays : ℕ) → ((n place : ℕ) → s ≡ Refused n place → X) → 16 ≤ statusRow s moved rounds strays .code → X
 refused-row X Success moved rounds strays f h = absurd (omega arith)
 refused-row X Blocked moved rounds strays f h = absurd (omega arith)
 refused-row X (Faulty n) moved rounds strays f h = absurd (omega arith)
@@ -78,7 +79,7 @@ module _ (occ : List ℕ) (a : CheckArgs) (t : ℕ) (img : List ℕ) where
   u = updatedImage img occ (a .blocking) (a .moved) (a .local) (a .limit)
 
   -- what holds of its image with any row, and of that image updated with its row, holds of the visit
-  by : (P : Row → List ℕ → Type 0) → ((r : Row) → P r img) → P (updatedRow (u .status) (a .moved) (u .rounds) (u .strays)) (u .image)
+  by : (P : Row → List ℕ → Type 0) → ((r : Row) → P r img) → P (updatedRow u (a .moved)) (u .image)
       → P (visited occ a t img .row) (visited occ a t img .image)
   unfolding visited
   by P same after = visit-by P img u (a .moved) same after (imageFault img (length occ) .number) (imageFault img (length occ) .place) (isFinished img) (eqb t (a .moved))
@@ -105,7 +106,7 @@ module _ (occ : List ℕ) (a : CheckArgs) (t : ℕ) (img : List ℕ) where
 
 module _ (yard occ : List ℕ) (a : CheckArgs) (t : ℕ) where
   at-slot : (P : Row → List ℕ → Type 0) → ((r : Row) → P r (partOf yard t)) → P (visited occ a t (partOf yard t) .row) (visited occ a t (partOf yard t) .image)
-      → P (slotVisit yard occ a t .row) (slotVisit yard occ a t .image)
+      → P (slotRow yard occ a t) (slotImage yard occ a t)
   unfolding slotVisit
   at-slot P same after = go (ltb t (a .begin))
     where
@@ -113,22 +114,34 @@ module _ (yard occ : List ℕ) (a : CheckArgs) (t : ℕ) where
       go true = same unvisitedRow
       go false = after
 
-  slot-has : (P : List ℕ → Type 0) → P (partOf yard t) → P (visited occ a t (partOf yard t) .image) → P (slotVisit yard occ a t .image)
+  slot-has : (P : List ℕ → Type 0) → P (partOf yard t) → P (visited occ a t (partOf yard t) .image) → P (slotImage yard occ a t)
   slot-has P same after = at-slot (λ r x. P x) (λ r. same) after
 
   -- what holds of its image, and of that image updated, holds of what the visit leaves
-  pub slot-keeps : (P : List ℕ → Type 0) → P (partOf yard t) → P (updatedImage (partOf yard t) occ (a .blocking) (a .moved) (a .local) (a .limit) .image) → P (slotVisit yard occ a t .image)
+  pub slot-keeps : (P : List ℕ → Type 0) → P (partOf yard t) → P (updatedImage (partOf yard t) occ (a .blocking) (a .moved) (a .local) (a .limit) .image) → P (slotImage yard occ a t)
   slot-keeps P same after = slot-has P same (visit-keeps occ a t (partOf yard t) P same after)
 
-  pub slot-length : length (slotVisit yard occ a t .image) ≡ length (partOf yard t)
+  pub slot-length : length (slotImage yard occ a t) ≡ length (partOf yard t)
   slot-length = slot-has (λ (x : List ℕ). length x ≡ length (partOf yard t)) refl (visit-length occ a t (partOf yard t))
 
-  pub slot-bytes : Bytes (partOf yard t) → Bytes (slotVisit yard occ a t .image)
+  pub slot-bytes : Bytes (partOf yard t) → Bytes (slotImage yard occ a t)
   slot-bytes b = slot-has (λ (x : List ℕ). Bytes x) b (visit-bytes occ a t (partOf yard t) b)
 
-  pub slot-train : leAt 2 (slotVisit yard occ a t .image) 32 ≡ leAt 2 (partOf yard t) 32
+  pub slot-train : leAt 2 (slotImage yard occ a t) 32 ≡ leAt 2 (partOf yard t) 32
   slot-train = slot-has (λ (x : List ℕ). leAt 2 x 32 ≡ leAt 2 (partOf yard t) 32) refl (visit-train occ a t (partOf yard t))
 
   -- a slot whose row says refused keeps its image
-  pub slot-refused : 16 ≤ slotVisit yard occ a t .row .code → slotVisit yard occ a t .image ≡ partOf yard t
+  pub slot-refused : 16 ≤ slotRow yard occ a t .code → slotImage yard occ a t ≡ partOf yard t
   slot-refused = at-slot (λ r x. 16 ≤ r .code → x ≡ partOf yard t) (λ r h. refl) (visit-refused occ a t (partOf yard t))
+
+-- ---- of all slots
+
+module _ (yard occ : List ℕ) (a : CheckArgs) where
+  pub images-fit : ImagesFit yard (slotImage yard occ a)
+  images-fit t l m = slot-length yard occ a t
+
+  pub trains-stay : TrainsStay yard (slotImage yard occ a)
+  trains-stay t l m = slot-train yard occ a t
+
+  pub images-bytes : Fits yard → Bytes yard → (t : ℕ) → 1 ≤ t → t ≤ slotCount yard → Bytes (slotImage yard occ a t)
+  images-bytes f b t l m = slot-bytes yard occ a t (part-bytes yard f t l m b)

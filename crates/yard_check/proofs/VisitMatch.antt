@@ -21,7 +21,7 @@ use Rattle.update_image.specs.UpdateMatch.{CallsMatch, UpdatesMatch}
 use Rattle.update_image.proofs.UpdateLeaves.{Trains16}
 use Rattle.update_image.proofs.ImageRenumbering.{update-match}
 use Rattle.yard_check.specs.Yard.{partOf}
-use Rattle.yard_check.specs.Check.{CheckArgs, Row, unvisitedRow, updatedRow, isFinished, Visit, visit, visitBy, visited, slotVisit}
+use Rattle.yard_check.specs.Check.{CheckArgs, Row, unvisitedRow, statusRow, isFinished, Visit, visit, visitBy, visited, slotVisit}
 use Rattle.yard_check.specs.YardMatch.{rRow, ArgsMatch}
 
 -- the renumbered row, and images that match
@@ -36,13 +36,13 @@ no-holder : (q : ℕ → ℕ) → q 0 ≡ 0 → (code place rounds strays faults
 no-holder q e code place rounds strays faults =
     ap (λ (h : ℕ). record { code = code; place = place; rounds = rounds; holder = h; strays = strays; faults = faults }) (sym e)
 
-row-match : (q : ℕ → ℕ) → q 0 ≡ 0 → (s : Status) (moved rounds strays : ℕ) → updatedRow s (q moved) rounds strays ≡ rRow q (updatedRow s moved rounds strays)
+row-match : (q : ℕ → ℕ) → q 0 ≡ 0 → (s : Status) (moved rounds strays : ℕ) → statusRow s (q moved) rounds strays ≡ rRow q (statusRow s moved rounds strays)
 row-match q e Success moved rounds strays = no-holder q e 3 0 rounds strays 0
 row-match q e Blocked moved rounds strays = refl
 row-match q e (Faulty n) moved rounds strays = no-holder q e 5 0 rounds strays n
 row-match q e (Refused n i) moved rounds strays = no-holder q e _ i rounds strays 0
 
-row-strays : (s : Status) (moved rounds strays : ℕ) → updatedRow s moved rounds strays .strays ≡ strays
+row-strays : (s : Status) (moved rounds strays : ℕ) → statusRow s moved rounds strays .strays ≡ strays
 row-strays Success moved rounds strays = refl
 row-strays Blocked moved rounds strays = refl
 row-strays (Faulty n) moved rounds strays = refl

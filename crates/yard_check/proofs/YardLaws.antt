@@ -1,4 +1,4 @@
--- A yard past 14: where its parts lie, and what stands in them after the slots were visited. Assumes nothing.
+-- A yard past 14: where its parts lie, and what stands in them once each slot got an image. Assumes nothing.
 use mathlib.Core.Path.{_≡_, refl, sym, ap, subst, _∙_}
 use mathlib.Core.Logic.{⊎-elim}
 use mathlib.Core.Bool.{Bool, true, false, cond}
@@ -18,9 +18,8 @@ use Rattle.image.proofs.Writers.{side}
 use Rattle.image_fault.proofs.ScanLaws.{both}
 use Rattle.image_fault.proofs.MatchLaws.{all-same}
 use Rattle.yard_check.specs.Yard.{yardSize, slotCount, partBegin, partEnd, partOf, withPart, partFits, yardFits}
-use Rattle.yard_check.specs.Check.{CheckArgs, slotVisit, yardAfter}
+use Rattle.yard_check.specs.Check.{yardAfter}
 use Rattle.yard_check.proofs.PatchLaws.{le-moved, patched, patch-length, patch-low, patch-mid, patch-high, patch-bytes}
-use Rattle.yard_check.proofs.VisitLaws.{slot-length, slot-bytes, slot-train}
 
 -- ---- what 14 says
 
@@ -122,17 +121,22 @@ module _ (yard : List ℕ) (f : Fits yard) where
         past : (i : ℕ) → partEnd yard t - partBegin yard t ≤ i → length (partOf yard t) ≤ i
         past i h = omega (arith, part-length)
 
--- ---- the yard after slots 1 to n
+-- ---- the yard with the images of slots 1 to n
 
-module _ (yard occ : List ℕ) (a : CheckArgs) (f : Fits yard) where
+-- each image is as long as the part of its slot
+abbrev pub ImagesFit : List ℕ → (ℕ → List ℕ) → Type 0
+ImagesFit yard images = (t : ℕ) → 1 ≤ t → t ≤ slotCount yard → length (images t) ≡ length (partOf yard t)
+
+-- and has the train of its slot
+abbrev pub TrainsStay : List ℕ → (ℕ → List ℕ) → Type 0
+TrainsStay yard images = (t : ℕ) → 1 ≤ t → t ≤ slotCount yard → leAt 2 (images t) 32 ≡ leAt 2 (partOf yard t) 32
+
+module _ (yard : List ℕ) (f : Fits yard) (img : ℕ → List ℕ) (fit : ImagesFit yard img) where
   abbrev S′ : ℕ
   S′ = slotCount yard
 
   abbrev z : ℕ → List ℕ
-  z n = yardAfter yard occ a n
-
-  abbrev img : ℕ → List ℕ
-  img t = slotVisit yard occ a t .image
+  z n = yardAfter yard img n
 
   pub record Left (n : ℕ) : Type 0 where
     pub long : length (z n) ≡ length yard
@@ -141,7 +145,7 @@ module _ (yard occ : List ℕ) (a : CheckArgs) (f : Fits yard) where
     pub later : (t : ℕ) → n < t → t ≤ S′ → (i : ℕ) → partBegin yard t ≤ i → i < partEnd yard t → getD (z n) i 0 ≡ getD yard i 0
 
   module _ (n : ℕ) (w : Left n) where
-    pub same-slots : slotCount (z n) ≡ slotCount yard
+    same-slots : slotCount (z n) ≡ slotCount yard
     same-slots = le-cong 4 (z n) yard 4 (λ i l m. w .head i (omega arith))
 
     pub same-begin : (t : ℕ) → t ≤ S′ → partBegin (z n) t ≡ partBegin yard t
@@ -156,7 +160,7 @@ module _ (yard occ : List ℕ) (a : CheckArgs) (f : Fits yard) where
         go false e = refl
 
   image-long : (t : ℕ) → 1 ≤ t → t ≤ S′ → length (img t) ≡ partEnd yard t - partBegin yard t
-  image-long t l m = slot-length yard occ a t ∙ part-length yard f t l m
+  image-long t l m = fit t l m ∙ part-length yard f t l m
 
   module _ (n : ℕ) (h : suc n ≤ S′) (w : Left n) where
     abbrev b : ℕ
@@ -211,6 +215,9 @@ module _ (yard occ : List ℕ) (a : CheckArgs) (f : Fits yard) where
   left zero h = record { long = refl; head = λ i l. refl; done = λ t l m. absurd (omega arith); later = λ t k m i x y. refl }
   left (suc n) h = step n h (left n (omega arith))
 
+  pub slots-after : (n : ℕ) → n ≤ S′ → slotCount (z n) ≡ slotCount yard
+  slots-after n h = same-slots n (left n h)
+
   -- ---- the parts after slots 1 to n
 
   module _ (n : ℕ) (h : n ≤ S′) (t : ℕ) (l : 1 ≤ t) (m : t ≤ S′) where
@@ -245,8 +252,8 @@ module _ (yard occ : List ℕ) (a : CheckArgs) (f : Fits yard) where
         ext-getD 0 (partOf (z n) t) (partOf yard t) (cut-long ∙ sym (part-length yard f t l m)) (λ i j.
         cut-at i (omega (arith, cut-long)) ∙ (w .later t k m (b′ + i) (omega arith) (omega (arith, cut-long)) ∙ sym (part-at yard f t l m i (omega (arith, cut-long)))))
 
-    part-kept : leAt 2 (partOf (z n) t) 32 ≡ leAt 2 (partOf yard t) 32
-    part-kept = ⊎-elim (λ (k : n < t). ap (λ (x : List ℕ). leAt 2 x 32) (part-later k)) (λ (k : t ≤ n). ap (λ (x : List ℕ). leAt 2 x 32) (part-done k) ∙ slot-train yard occ a t) (side n t)
+    part-kept : TrainsStay yard img → leAt 2 (partOf (z n) t) 32 ≡ leAt 2 (partOf yard t) 32
+    part-kept s = ⊎-elim (λ (k : n < t). ap (λ (x : List ℕ). leAt 2 x 32) (part-later k)) (λ (k : t ≤ n). ap (λ (x : List ℕ). leAt 2 x 32) (part-done k) ∙ s t l m) (side n t)
 
     train-read : leAt 2 (z n) (b′ + 32) ≡ leAt 2 (partOf (z n) t) 32
     train-read =
@@ -254,25 +261,24 @@ module _ (yard occ : List ℕ) (a : CheckArgs) (f : Fits yard) where
         let x : b′ + 32 + i ≡ b′ + (32 + i) = omega arith in
         ap (λ (y : ℕ). getD (z n) y 0) x ∙ sym (cut-at (32 + i) (omega (arith, part-long yard f t l m))))
 
-    part-fits : partFits (z n) t ≡ partFits yard t
+    part-fits : TrainsStay yard img → partFits (z n) t ≡ partFits yard t
     unfolding partFits
-    part-fits =
-        rw (same-begin n w t m, same-end n w t m, train-read, part-kept, ← part-le yard f t l m 2 32 (omega (arith, part-long yard f t l m)))
+    part-fits s =
+        rw (same-begin n w t m, same-end n w t m, train-read, part-kept s, ← part-le yard f t l m 2 32 (omega (arith, part-long yard f t l m)))
 
   -- ---- the yard after slots 1 to n passes 14, and is of bytes
 
-  pub after-fits : (n : ℕ) → n ≤ S′ → yardFits (z n) ≡ yardFits yard
+  pub after-fits : TrainsStay yard img → (n : ℕ) → n ≤ S′ → yardFits (z n) ≡ yardFits yard
   unfolding yardFits
-  after-fits n h =
+  after-fits s n h =
       let w = left n h in
       let size : yardSize (z n) ≡ yardSize yard = le-cong 4 (z n) yard 0 (λ i l m. w .head i (omega arith)) in
-      rw (size, w .long, same-slots n w, same-begin n w 1 (f .some), all-same S′ (λ i. partFits (z n) (i + 1)) (λ i. partFits yard (i + 1)) (λ i l. part-fits n h (i + 1) (omega arith) (omega arith)))
+      rw (size, w .long, same-slots n w, same-begin n w 1 (f .some), all-same S′ (λ i. partFits (z n) (i + 1)) (λ i. partFits yard (i + 1)) (λ i l. part-fits n h (i + 1) (omega arith) (omega arith) s))
 
-  pub after-bytes : (n : ℕ) → n ≤ S′ → Bytes yard → Bytes (z n)
+  pub after-bytes : ((t : ℕ) → 1 ≤ t → t ≤ S′ → Bytes (img t)) → Bytes yard → (n : ℕ) → n ≤ S′ → Bytes (z n)
   unfolding yardAfter
-  after-bytes zero h c = c
-  after-bytes (suc n) h c =
+  after-bytes i c zero h = c
+  after-bytes i c (suc n) h =
       let w = left n (omega arith) in
       rw (next n h w)
-      (patch-bytes (b n h w) (e n h w) (img (suc n)) (z n) (up n h w) (inside n h w) (long n h w) (after-bytes n (omega arith) c)
-      (slot-bytes yard occ a (suc n) (part-bytes yard f (suc n) (omega arith) h c)))
+      (patch-bytes (b n h w) (e n h w) (img (suc n)) (z n) (up n h w) (inside n h w) (long n h w) (after-bytes i c n (omega arith)) (i (suc n) (omega arith) h))

@@ -21,15 +21,44 @@ pub record CheckArgs : Type 0 where
   pub local : Bool
   pub limit : ℕ
 
+-- ---- where a report's records and their columns stand (document 01): u16 code, u16 place, rounds, holder; u32 strays, faults
+
+-- bytes of a record
+abbrev pub rowSize : ℕ
+rowSize = 16
+
+-- of the record of slot t
+abbrev pub rowPlace : ℕ → ℕ
+rowPlace t = rowSize * (t - 1)
+
+-- of each column, in a record from k on
+abbrev pub codeAt : ℕ → ℕ
+codeAt k = k
+
+abbrev pub placeAt : ℕ → ℕ
+placeAt k = k + 2
+
+abbrev pub roundsAt : ℕ → ℕ
+roundsAt k = k + 4
+
+abbrev pub holderAt : ℕ → ℕ
+holderAt k = k + 6
+
+abbrev pub straysAt : ℕ → ℕ
+straysAt k = k + 8
+
+abbrev pub faultsAt : ℕ → ℕ
+faultsAt k = k + 12
+
 -- ---- refusals 2, 4, 5, 14, 15 and 16, in this order, with place 0
 
 -- 15: moved above S, or begin outside 1 to S + 1
 unfoldable pub slotsFault : ℕ → CheckArgs → Fault
 slotsFault slots a = cond (leb (a .moved) slots && (leb 1 (a .begin) && leb (a .begin) (slots + 1))) noFault (refused 15 0)
 
--- 16: the report has not 16 bytes for each slot
+-- 16: the report has not a record for each slot
 unfoldable pub reportFault : ℕ → ℕ → Fault
-reportFault slots long = cond (eqb long (16 * slots)) noFault (refused 16 0)
+reportFault slots long = cond (eqb long (rowSize * slots)) noFault (refused 16 0)
 
 -- long is the length of the report
 unfoldable pub checkFault : List ℕ → List ℕ → CheckArgs → ℕ → Fault
@@ -39,9 +68,8 @@ checkFault yard occ a long =
     (orElse (slotsFault (slotCount yard) a)
     (reportFault (slotCount yard) long)))
 
--- ---- report (document 01): a record of 16 bytes for each slot
+-- ---- report (document 01): a record for each slot
 
--- u16 code, u16 place, rounds, holder; u32 strays, faults
 pub record Row : Type 0 where
   pub code : ℕ
   pub place : ℕ
@@ -67,11 +95,15 @@ abbrev pub refusedRow : ℕ → ℕ → ℕ → ℕ → Row
 refusedRow n place rounds strays = record { code = 16 + n; place = place; rounds = rounds; holder = 0; strays = strays; faults = 0 }
 
 -- holder (document 01): of a blocked slot the moved train, else 0
-abbrev pub updatedRow : Status → ℕ → ℕ → ℕ → Row
-updatedRow Success moved rounds strays = record { code = 3; place = 0; rounds = rounds; holder = 0; strays = strays; faults = 0 }
-updatedRow Blocked moved rounds strays = record { code = 4; place = 0; rounds = rounds; holder = moved; strays = strays; faults = 0 }
-updatedRow (Faulty n) moved rounds strays = record { code = 5; place = 0; rounds = rounds; holder = 0; strays = strays; faults = n }
-updatedRow (UpdateRefused n place) moved rounds strays = refusedRow n place rounds strays
+abbrev pub statusRow : Status → ℕ → ℕ → ℕ → Row
+statusRow Success moved rounds strays = record { code = 3; place = 0; rounds = rounds; holder = 0; strays = strays; faults = 0 }
+statusRow Blocked moved rounds strays = record { code = 4; place = 0; rounds = rounds; holder = moved; strays = strays; faults = 0 }
+statusRow (Faulty n) moved rounds strays = record { code = 5; place = 0; rounds = rounds; holder = 0; strays = strays; faults = n }
+statusRow (UpdateRefused n place) moved rounds strays = refusedRow n place rounds strays
+
+-- of a slot that was updated, from the update's answer
+abbrev pub updatedRow : UpdatedImage → ℕ → Row
+updatedRow u moved = statusRow (u .status) moved (u .rounds) (u .strays)
 
 abbrev pub isFinishedRow : Row → Bool
 isFinishedRow r = eqb (r .code) 1
@@ -83,30 +115,30 @@ isBlockedRow r = eqb (r .code) 4
 abbrev pub isErredRow : Row → Bool
 isErredRow r = leb 5 (r .code)
 
--- a row in the 16 bytes from place on, written and read
+-- a row in the record from k on, written and read
 unfoldable pub putRow : Row → ℕ → List ℕ → List ℕ
-putRow r at bs =
-    putLe 4 (r .faults) (at + 12)
-    (putLe 4 (r .strays) (at + 8)
-    (putLe 2 (r .holder) (at + 6)
-    (putLe 2 (r .rounds) (at + 4)
-    (putLe 2 (r .place) (at + 2)
-    (putLe 2 (r .code) at bs)))))
+putRow r k bs =
+    putLe 4 (r .faults) (faultsAt k)
+    (putLe 4 (r .strays) (straysAt k)
+    (putLe 2 (r .holder) (holderAt k)
+    (putLe 2 (r .rounds) (roundsAt k)
+    (putLe 2 (r .place) (placeAt k)
+    (putLe 2 (r .code) (codeAt k) bs)))))
 
 unfoldable pub rowFrom : List ℕ → ℕ → Row
-rowFrom bs at =
+rowFrom bs k =
     record {
-      code = leAt 2 bs at;
-      place = leAt 2 bs (at + 2);
-      rounds = leAt 2 bs (at + 4);
-      holder = leAt 2 bs (at + 6);
-      strays = leAt 4 bs (at + 8);
-      faults = leAt 4 bs (at + 12);
+      code = leAt 2 bs (codeAt k);
+      place = leAt 2 bs (placeAt k);
+      rounds = leAt 2 bs (roundsAt k);
+      holder = leAt 2 bs (holderAt k);
+      strays = leAt 4 bs (straysAt k);
+      faults = leAt 4 bs (faultsAt k);
     }
 
 -- the report's record of slot t
 abbrev pub rowAt : List ℕ → ℕ → Row
-rowAt report t = rowFrom report (16 * (t - 1))
+rowAt report t = rowFrom report (rowPlace t)
 
 -- ---- the visit to a slot (dispatch.rs 61-81)
 
@@ -127,7 +159,7 @@ abbrev pub visitBy : ℕ → ℕ → Bool → Bool → ℕ → UpdatedImage → 
 visitBy (suc n) place isDone isMoved moved u img = visit (refusedRow (suc n) place 0 0) img
 visitBy zero place true isMoved moved u img = visit finishedRow img
 visitBy zero place false true moved u img = visit movedRow img
-visitBy zero place false false moved u img = visit (updatedRow (u .status) moved (u .rounds) (u .strays)) (u .image)
+visitBy zero place false false moved u img = visit (updatedRow u moved) (u .image)
 
 -- of slot t with this image
 unfoldable pub visited : List ℕ → CheckArgs → ℕ → List ℕ → Visit
@@ -143,16 +175,23 @@ slotVisit yard occ a t =
     let v = visited occ a t img in
     cond (ltb t (a .begin)) (visit unvisitedRow img) v
 
--- ---- all slots
+abbrev pub slotRow : List ℕ → List ℕ → CheckArgs → ℕ → Row
+slotRow yard occ a t = slotVisit yard occ a t .row
 
--- the yard and the report after slots 1 to n
-unfoldable pub yardAfter : List ℕ → List ℕ → CheckArgs → ℕ → List ℕ
-yardAfter yard occ a zero = yard
-yardAfter yard occ a (suc n) = withPart (yardAfter yard occ a n) (suc n) (slotVisit yard occ a (suc n) .image)
+abbrev pub slotImage : List ℕ → List ℕ → CheckArgs → ℕ → List ℕ
+slotImage yard occ a t = slotVisit yard occ a t .image
 
-unfoldable pub reportAfter : List ℕ → List ℕ → CheckArgs → List ℕ → ℕ → List ℕ
-reportAfter yard occ a report zero = report
-reportAfter yard occ a report (suc n) = putRow (slotVisit yard occ a (suc n) .row) (16 * n) (reportAfter yard occ a report n)
+-- ---- all slots, from the image and the row of each
+
+-- the yard with the images of slots 1 to n
+unfoldable pub yardAfter : List ℕ → (ℕ → List ℕ) → ℕ → List ℕ
+yardAfter yard images zero = yard
+yardAfter yard images (suc n) = withPart (yardAfter yard images n) (suc n) (images (suc n))
+
+-- the report with the rows of slots 1 to n
+unfoldable pub reportAfter : (ℕ → Row) → List ℕ → ℕ → List ℕ
+reportAfter rows report zero = report
+reportAfter rows report (suc n) = putRow (rows (suc n)) (rowPlace (suc n)) (reportAfter rows report n)
 
 -- how many of the slots 1 to n pass
 unfoldable pub howMany : (ℕ → Bool) → ℕ → ℕ
@@ -191,6 +230,16 @@ pub record Checked : Type 0 where
 abbrev pub check : Answer → List ℕ → List ℕ → Checked
 check answer yard report = record { answer = answer; yard = yard; report = report }
 
+-- a check that is not refused, from the image and the row of each slot
+abbrev pub checkOver : List ℕ → (ℕ → List ℕ) → (ℕ → Row) → ℕ → List ℕ → Checked
+checkOver yard images rows begin report =
+    let slots = slotCount yard in
+    check (answerOf rows slots begin) (yardAfter yard images slots) (reportAfter rows report slots)
+
+-- from the visits
+abbrev pub checkDone : List ℕ → List ℕ → CheckArgs → List ℕ → Checked
+checkDone yard occ a report = checkOver yard (slotImage yard occ a) (slotRow yard occ a) (a .begin) report
+
 -- a refusal leaves the yard and the report
 abbrev pub checkedBy : ℕ → ℕ → Checked → List ℕ → List ℕ → Checked
 checkedBy zero place done yard report = done
@@ -199,8 +248,7 @@ checkedBy (suc n) place done yard report = check (Refused (suc n) place) yard re
 unfoldable pub checkedWith : List ℕ → List ℕ → CheckArgs → List ℕ → Checked
 checkedWith yard occ a report =
     let f = checkFault yard occ a (length report) in
-    let slots = slotCount yard in
-    let done = check (answerOf (λ t. slotVisit yard occ a t .row) slots (a .begin)) (yardAfter yard occ a slots) (reportAfter yard occ a report slots) in
+    let done = checkDone yard occ a report in
     checkedBy (f .number) (f .place) done yard report
 
 -- the yard, the occupancy, the blocking list, the moved train, begin, local, the round limit, the report

@@ -7,7 +7,7 @@ use lib.Dec.{eqb}
 use Rattle.train_update.specs.Update as Update
 use Rattle.update_image.specs.UpdateImage.{callFault}
 use Rattle.yard_check.specs.Yard.{slotCount, withPart, yardFits}
-use Rattle.yard_check.specs.Check.{CheckArgs, Row, plainRow, refusedRow, isFinishedRow, isBlockedRow, isErredRow, slotVisit, yardAfter, reportAfter, howMany, firstNot, Answer, Refused, Erred, Done, Checked, check}
+use Rattle.yard_check.specs.Check.{CheckArgs, Row, plainRow, refusedRow, isFinishedRow, isBlockedRow, isErredRow, slotRow, slotImage, yardAfter, reportAfter, howMany, firstNot, Answer, Refused, Erred, Done, Checked, check}
 use Rattle.yard_check.specs.declared.check.Answer as Code
 use Rattle.yard_check.specs.declared.check.Answer.the-variants as Answers
 use Rattle.yard_check.specs.declared.check.Args.{Args}
@@ -83,11 +83,11 @@ pub record Visits (yard occ : List ℕ) (a : CheckArgs) (t : ℕ) : Type 0 where
 
 -- the row of the visit to slot t, and the yard that it leaves
 pub record SlotVisited (yard occ : List ℕ) (a : CheckArgs) (t : ℕ) (r : Columns.Row) (left : List ℕ) : Type 0 where
-  pub row : rowOf r ≡ slotVisit yard occ a t .row
-  pub yard-left : left ≡ withPart yard t (slotVisit yard occ a t .image)
+  pub row : rowOf r ≡ slotRow yard occ a t
+  pub yard-left : left ≡ withPart yard t (slotImage yard occ a t)
 
 -- every slot was visited
 pub record AllVisited (yard occ : List ℕ) (a : CheckArgs) (report : List ℕ) (x : Tally) (yard′ report′ : List ℕ) : Type 0 where
-  pub tally : x ≡ tallyAfter (λ t. slotVisit yard occ a t .row) (a .begin) (slotCount yard)
-  pub yard-left : yard′ ≡ yardAfter yard occ a (slotCount yard)
-  pub report-left : report′ ≡ reportAfter yard occ a report (slotCount yard)
+  pub tally : x ≡ tallyAfter (slotRow yard occ a) (a .begin) (slotCount yard)
+  pub yard-left : yard′ ≡ yardAfter yard (slotImage yard occ a) (slotCount yard)
+  pub report-left : report′ ≡ reportAfter (slotRow yard occ a) report (slotCount yard)

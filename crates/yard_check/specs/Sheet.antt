@@ -10,7 +10,7 @@ use Rattle.image_reader.specs.Reader.{freeOf}
 use Rattle.image_fault.specs.ImageFault.{imageFault}
 use Rattle.text.specs.Ascii.{ascii, decimal, column, lineEnd}
 use Rattle.yard_check.specs.Yard.{slotCount, partOf, yardFits}
-use Rattle.yard_check.specs.Check.{Row, rowAt, Answer, Refused, Erred, Done, Checked, checked}
+use Rattle.yard_check.specs.Check.{rowSize, Row, rowAt, Answer, Refused, Erred, Done, Checked, checked}
 
 -- ---- bundle: u32 size, occupancy offset, count, blocking offset, count, yard offset; u16 moved, begin, limit, local; u16 occupancy, u32 blocking, yard
 
@@ -52,7 +52,7 @@ reportSlots yard = cond (yardFits yard) (slotCount yard) 0
 -- the check of a bundle's yard
 unfoldable pub checkedBundle : List ℕ → Checked
 checkedBundle b =
-    checked (bundleYard b) (bundleOccupancy b) (bundleBlocking b) (leAt 2 b 24) (leAt 2 b 26) (eqb (leAt 2 b 30) 1) (leAt 2 b 28) (replicate (16 * reportSlots (bundleYard b)) 0)
+    checked (bundleYard b) (bundleOccupancy b) (bundleBlocking b) (leAt 2 b 24) (leAt 2 b 26) (eqb (leAt 2 b 30) 1) (leAt 2 b 28) (replicate (rowSize * reportSlots (bundleYard b)) 0)
 
 -- ---- the sheet
 

@@ -3,6 +3,7 @@ use Prim.Native.Nat.{ℕ, _+_, _*_}
 use mathlib.Core.Path.{_≡_}
 use mathlib.Core.List.{List}
 use lib.ListN.{length, replicate}
+use Rattle.yard_check.specs.Check.{rowSize}
 use Rattle.yard_check.specs.Sheet.{occupancyCount, blockingCount, yardOffset, bundleYard, reportSlots}
 
 -- each part has its length, and the report is blank
@@ -10,4 +11,4 @@ pub record Lent (b occ blocking yard report : List ℕ) : Type 0 where
   pub occupancy : length occ ≡ occupancyCount b
   pub blocking-links : length blocking ≡ blockingCount b
   pub yard-end : yardOffset b + length yard ≡ length b
-  pub blank : report ≡ replicate (16 * reportSlots (bundleYard b)) 0
+  pub blank : report ≡ replicate (rowSize * reportSlots (bundleYard b)) 0

@@ -144,7 +144,7 @@ fn worked_row(code: u16, u: Updated, holder: TrainIdx, faults: u32) -> Row
 
 fn updated_row(u: Updated, moved: TrainIdx) -> Row
     requires { ⌜ ColumnsFit (Updates.statusOf (u .status)) (u .strays) ⌝ }
-    ensures { λ r. ⌜ rowOf r ≡ Check.updatedRow (Updates.statusOf (u .status)) (moved .0) (u .rounds) (u .strays) ⌝ }
+    ensures { λ r. ⌜ rowOf r ≡ Check.updatedRow (Updates.updatedOf u []) (moved .0) ⌝ }
 {
     let s = u.status;
     match s {

@@ -10,7 +10,7 @@ ghost use mathlib.Core.Path.{_≡_};
 ghost use Prim.Native.Nat.{_+_, _*_, _-_, _≤_};
 ghost use mathlib.Core.Bool.{true};
 ghost use lib.ListN.{length, replicate};
-ghost use Rattle.yard_check.specs.Check.{rowFrom, Erred, Done};
+ghost use Rattle.yard_check.specs.Check.{rowSize, rowFrom, Erred, Done};
 ghost use Rattle.yard_check.specs.Yard.{slotCount};
 ghost use Rattle.yard_check.specs.YardMatch.{NotRefused};
 ghost use Rattle.yard_check.specs.Checks.{answeredOf, checkedOf};
@@ -87,7 +87,7 @@ fn put_columns(text: &mut [u8], count: usize, report: &[u8], at: usize, free: u1
 
 // The line of slot i + 1.
 fn put_slot_line(text: &mut [u8], count: usize, i: u16, report: &[u8], free: u16) -> usize
-    ensures { λ r. ⌜ Put (slotLine (i + 1) (rowFrom (now (report .entry)) (16 * i)) free) (textOf count (now (text .entry))) (textOf r (now (text .exit))) ⌝ }
+    ensures { λ r. ⌜ Put (slotLine (i + 1) (rowFrom (now (report .entry)) (rowSize * i)) free) (textOf count (now (text .entry))) (textOf r (now (text .exit))) ⌝ }
 {
     let at = 16 * (i as usize);
     let a = text::put_decimal(text, count, (i as u32) + 1);

@@ -3,6 +3,7 @@ use Prim.Native.Nat.{ℕ, _*_, _-_}
 use native.Mathlib.Omega.{arith}
 use denote.Ref.{now}
 use lib.ListN.{length, take, drop}
+use Rattle.yard_check.specs.Check.{rowSize}
 use Rattle.yard_check.proofs.BundleLaws.{report-few}
 use Rattle.bundle_check.proofs.PlaceLaws.{report-none, report-from}
 use borrow.Author.Needs.{needs}
@@ -53,7 +54,7 @@ returns-2 c =
     let b = now (c .before .before .before .before .before .args .bundle) in
     let at = c .before .before .before .u32-at .result in
     let e = report-from b at (c .before .before .before .u32-at .ensures) in
-    (ap (λ (n : ℕ). 16 * n) (c .report-slots .ensures ∙ e), omega (arith, c .report-slots .ensures, report-few (take (length b - at) (drop at b))))
+    (ap (λ (n : ℕ). rowSize * n) (c .report-slots .ensures ∙ e), omega (arith, c .report-slots .ensures, report-few (take (length b - at) (drop at b))))
 
 pub report-length-spec : {M : Type 1} → statement M
 report-length-spec =

@@ -1,7 +1,7 @@
 use Prim.Native.Nat.{_+_, _*_}
 use native.Mathlib.Omega.{arith}
 use borrow.Author.Tests.{eq-eqb, ne-eqb, le-leb, lt-leb}
-use Rattle.yard_check.specs.Check.{slotsFault, reportFault}
+use Rattle.yard_check.specs.Check.{rowSize, slotsFault, reportFault}
 use borrow.Author.Needs.{needs}
 use Rattle.yard_check.proofs.check.slots_fault.Statement.{statement}
 use Rattle.yard_check.proofs.check.slots_fault.Tie as tie
@@ -49,7 +49,7 @@ returns-4 : tie.Need-returns-4
 unfolding slotsFault reportFault
 returns-4 c =
     let a = c .before .before .before .before .before .before .before .before .args in
-    rw (le-leb (a .a .moved .0) (a .slots) (omega arith), le-leb 1 (a .a .begin) (omega arith), le-leb (a .a .begin) (a .slots + 1) (omega arith), ne-eqb (a .long) (16 * a .slots) (c .before .if4 .taken)) (c .fault4 .ensures)
+    rw (le-leb (a .a .moved .0) (a .slots) (omega arith), le-leb 1 (a .a .begin) (omega arith), le-leb (a .a .begin) (a .slots + 1) (omega arith), ne-eqb (a .long) (rowSize * a .slots) (c .before .if4 .taken)) (c .fault4 .ensures)
 
 fault-requires-5 : tie.Need-fault-requires-5
 fault-requires-5 c κs = search needs
@@ -58,7 +58,7 @@ returns-5 : tie.Need-returns-5
 unfolding slotsFault reportFault
 returns-5 c =
     let a = c .before .before .before .before .before .before .before .before .args in
-    rw (le-leb (a .a .moved .0) (a .slots) (omega arith), le-leb 1 (a .a .begin) (omega arith), le-leb (a .a .begin) (a .slots + 1) (omega arith), eq-eqb (a .long) (16 * a .slots) (c .before .if4 .left)) (c .fault5 .ensures)
+    rw (le-leb (a .a .moved .0) (a .slots) (omega arith), le-leb 1 (a .a .begin) (omega arith), le-leb (a .a .begin) (a .slots + 1) (omega arith), eq-eqb (a .long) (rowSize * a .slots) (c .before .if4 .left)) (c .fault5 .ensures)
 
 pub slots-fault-spec : {M : Type 1} → statement M
 slots-fault-spec =

@@ -6,7 +6,7 @@ use denote.Ref.{now}
 use lib.ListN.{length}
 use borrow.Author.Needs.{needs}
 use Rattle.yard_check.specs.Yard.{slotCount}
-use Rattle.yard_check.specs.Check.{putRow, slotVisit, yardAfter, reportAfter}
+use Rattle.yard_check.specs.Check.{rowSize, putRow, slotRow, slotImage, yardAfter, reportAfter}
 use Rattle.yard_check.specs.Checks.{argsOf, rowOf, talliedOf, tallyAfter, NextTurn, Visits, SlotVisited}
 use Rattle.yard_check.specs.declared.check.Tally.{Tally}
 use Rattle.yard_check.proofs.ReportLaws.{report-length}
@@ -17,7 +17,7 @@ use Rattle.yard_check.proofs.check.visits.Tie as tie
 abbrev Inv-loop : tie.InvT-loop
 Inv-loop yard₀ occ blocking a report₀ slots y₀ n₀ yard report y n =
     let A = argsOf blocking a in
-    (n ≤ slots) × (yard ≡ yardAfter yard₀ occ A n) × (report ≡ reportAfter yard₀ occ A report₀ n) × (y ≡ tallyAfter (λ t. slotVisit yard₀ occ A t .row) (A .begin) n)
+    (n ≤ slots) × (yard ≡ yardAfter yard₀ (slotImage yard₀ occ A) n) × (report ≡ reportAfter (slotRow yard₀ occ A) report₀ n) × (y ≡ tallyAfter (slotRow yard₀ occ A) (A .begin) n)
 
 abbrev μ-loop : tie.MeasureT-loop
 μ-loop yard₀ occ blocking a report₀ slots y₀ n₀ yard report y n = slots - n
@@ -73,7 +73,7 @@ tallied-requires c κs =
     let A = argsOf (now (a .blocking)) (a .a) in
     let n = c .before .before .before .before .before .before .before .before .before .loop .n in
     let h : n < 63 = omega (arith, c .before .before .before .before .before .before .before .before .before .before .slot-count .ensures, few-slots (now (a .yard)) (now (a .occ)) A (now (a .report)) (c .before .before .before .before .before .before .before .before .before .before .before .before .before .before .before .before .pre), c .before .before .before .before .before .before .before .before .loop-test .taken) in
-    subst (λ (x : Tally). NextTurn x (n + 1)) (sym (c .before .before .before .before .before .before .before .before .before .loop .inv .3)) (next-slot (λ t. slotVisit (now (a .yard)) (now (a .occ)) A t .row) (A .begin) n h)
+    subst (λ (x : Tally). NextTurn x (n + 1)) (sym (c .before .before .before .before .before .before .before .before .before .loop .inv .3)) (next-slot (slotRow (now (a .yard)) (now (a .occ)) A) (A .begin) n h)
 
 add-n : tie.Need-add-n Inv-loop μ-loop
 add-n c =
@@ -95,7 +95,7 @@ loop-again c =
     let s = subst (λ (x : List ℕ). SlotVisited x (now (a .occ)) A (n + 1) r left) (i .1) (c .before .before .before .before .before .before .before .slot-visit .ensures) in (
       omega (arith, c .before .before .before .before .before .before .before .before .before .loop-test .taken),
       turn-yard (now (a .yard)) (now (a .occ)) A (now (a .report)) (c .before .before .before .before .before .before .before .before .before .before .before .before .before .before .before .before .before .pre) n h r left s,
-      c .before .before .before .put-row .ensures ∙ (ap (λ (x : List ℕ). putRow (rowOf r) (16 * n) x) (i .2) ∙ turn-report (now (a .yard)) (now (a .occ)) A (now (a .report)) (c .before .before .before .before .before .before .before .before .before .before .before .before .before .before .before .before .before .pre) n h r left s),
+      c .before .before .before .put-row .ensures ∙ (ap (λ (x : List ℕ). putRow (rowOf r) (rowSize * n) x) (i .2) ∙ turn-report (now (a .yard)) (now (a .occ)) A (now (a .report)) (c .before .before .before .before .before .before .before .before .before .before .before .before .before .before .before .before .before .pre) n h r left s),
       c .tallied .ensures ∙ (ap (λ (x : Tally). talliedOf x (rowOf r) (n + 1)) (i .3) ∙ turn-tally (now (a .yard)) (now (a .occ)) A (now (a .report)) (c .before .before .before .before .before .before .before .before .before .before .before .before .before .before .before .before .before .pre) n h r left s),
     )
 
@@ -108,7 +108,7 @@ same-length c =
 same-length-2 : tie.Need-same-length-2 Inv-loop μ-loop
 same-length-2 c =
     let a = c .before .before .before .before .before .before .before .before .args in
-    ap (λ (x : List ℕ). length x) (c .before .loop .inv .2) ∙ report-length (now (a .yard)) (now (a .occ)) (argsOf (now (a .blocking)) (a .a)) (now (a .report)) (c .before .loop .n)
+    ap (λ (x : List ℕ). length x) (c .before .loop .inv .2) ∙ report-length (slotRow (now (a .yard)) (now (a .occ)) (argsOf (now (a .blocking)) (a .a))) (now (a .report)) (c .before .loop .n)
 
 returns : tie.Need-returns Inv-loop μ-loop
 returns c =
@@ -117,9 +117,9 @@ returns c =
     let i = c .before .loop .inv in
     let e : c .before .loop .n ≡ slotCount (now (a .yard)) = omega (arith, i .0, c .loop-test .left, c .before .before .slot-count .ensures) in
     record {
-      tally = i .3 ∙ ap (tallyAfter (λ t. slotVisit (now (a .yard)) (now (a .occ)) A t .row) (A .begin)) e;
-      yard-left = i .1 ∙ ap (yardAfter (now (a .yard)) (now (a .occ)) A) e;
-      report-left = i .2 ∙ ap (reportAfter (now (a .yard)) (now (a .occ)) A (now (a .report))) e;
+      tally = i .3 ∙ ap (tallyAfter (slotRow (now (a .yard)) (now (a .occ)) A) (A .begin)) e;
+      yard-left = i .1 ∙ ap (yardAfter (now (a .yard)) (slotImage (now (a .yard)) (now (a .occ)) A)) e;
+      report-left = i .2 ∙ ap (reportAfter (slotRow (now (a .yard)) (now (a .occ)) A) (now (a .report))) e;
     }
 
 pub visits-spec : {M : Type 1} → statement M
