@@ -70,10 +70,10 @@ fn print_status(x: Updated) -> bool {
 
 // What is counted, the image that is left, and what 6 to 9 say of the image that was there.
 fn print_left(head: &[u8], body: &[u8], x: Updated, image: &[u8]) -> bool {
-    if !print::number(b" rounds ", x.rounds as u64) {
+    if !print::number(b" rounds ", x.tally.rounds as u64) {
         return false;
     }
-    if !print::number(b" strays ", x.strays) {
+    if !print::number(b" strays ", x.tally.strays) {
         return false;
     }
     if !print::number(b" image ", print::sum_of(image)) {

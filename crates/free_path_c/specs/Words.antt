@@ -62,11 +62,11 @@ errorsOf (RefusedBy n place) = 0
 
 -- code, errors, rounds and strays in the first four words; a word past the end stays out
 abbrev pub updateWords : UpdatedImage → List ℕ → List ℕ
-updateWords u ws = set (set (set (set ws 0 (codeOf (u .status))) 1 (errorsOf (u .status))) 2 (u .rounds)) 3 (u .strays)
+updateWords u ws = set (set (set (set ws 0 (codeOf (u .answer .status))) 1 (errorsOf (u .answer .status))) 2 (u .answer .tally .rounds)) 3 (u .answer .tally .strays)
 
 -- the update u as C sees it: the number that is returned, the image and the words that are left
 pub record Told (u : UpdatedImage) (r : ℕ) (image ws₀ ws : List ℕ) : Type 0 where
-  pub word : r ≡ statusWord (u .status)
+  pub word : r ≡ statusWord (u .answer .status)
   pub bytes : image ≡ u .image
   pub words : ws ≡ updateWords u ws₀
 

@@ -125,8 +125,8 @@ pub extern "C" fn lavtoeu_update(
     let s = x.status;
     put_word(answer, 0, code_of(s));
     put_word(answer, 1, errors_of(s));
-    put_word(answer, 2, x.rounds as u64);
-    put_word(answer, 3, x.strays);
+    put_word(answer, 2, x.tally.rounds as u64);
+    put_word(answer, 3, x.tally.strays);
     status_word(s)
 }
 

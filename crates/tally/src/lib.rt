@@ -2,7 +2,7 @@
 // `count_round` and `counted` are proved by walks of their MIR, by hand; whoever calls `counted`, which takes the tally by value, needs none.
 // The crate assumes nothing of its own, and no public function has a `requires`.
 ghost use mathlib.Core.Path.{_≡_};
-ghost use Rattle.tally.specs.Tally.{roundsAfter, sumOf, countedRound};
+ghost use Rattle.tally.specs.Tally.{started, roundsAfter, sumOf, countedRound, countedFaults};
 
 pub struct Tally {
     pub rounds: u16,
@@ -32,6 +32,17 @@ fn sum_of(a: u64, b: u64) -> u64
 
 // ---- over a tally
 
+// An update starts with the strays of the path that it finds.
+pub fn started(strays: u64) -> Tally
+    ensures { λ r. ⌜ r ≡ started strays ⌝ }
+{
+    Tally {
+        rounds: 0,
+        strays: strays,
+        faults: 0,
+    }
+}
+
 fn after_round(t: Tally, strays: u64, faults: u64) -> Tally
     ensures { λ r. ⌜ r ≡ countedRound t strays faults ⌝ }
 {
@@ -56,4 +67,15 @@ pub fn counted(t: Tally, strays: u64, faults: u64) -> Tally
     let mut tally = t;
     count_round(&mut tally, strays, faults);
     tally
+}
+
+// The rounds have ended, and the validation found these errors.
+pub fn faulted(t: Tally, faults: u64) -> Tally
+    ensures { λ r. ⌜ r ≡ countedFaults t faults ⌝ }
+{
+    Tally {
+        rounds: t.rounds,
+        strays: t.strays,
+        faults: sum_of(t.faults, faults),
+    }
 }

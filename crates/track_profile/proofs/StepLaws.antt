@@ -14,6 +14,8 @@ use Rattle.disp_structs.specs.declared.DispNode.{DispNode}
 use Rattle.free_path.specs.Base.{Res, ok, no, at}
 use Rattle.free_path.specs.Validate.{stepsNext, stepsAlt, badStep, badSteps, badPath, validateFreePath}
 use Rattle.train_update.specs.State.{Ended, atEnd, blockedAt, again}
+use Rattle.tally.specs.Tally.{counted}
+use Rattle.tally.specs.declared.Tally.{Tally}
 use Rattle.train_update.specs.Update.{Given, Status, Success, Blocked, Faulty, Refused, Updated, Between, faultsOf, finish, afterRound, due, roundsFrom, roundOf, straysOf, startOf, givenOf, updateFrom, updateFreePath}
 use Rattle.update_laws.proofs.Answers.{no-ok, ok-same, bind-ok, need-ok}
 use Rattle.link_rules.specs.declared.link_idx.LinkIdx.{LinkIdx}
@@ -112,18 +114,18 @@ other-no s e h = absurd (true≢false (sym (ap isSuccess h) ∙ e))
 
 module _ (g : Given) (was : Train) where
   abbrev Right : Updated → Type 0
-  Right u = u .status ≡ Success → faultsOf g (u .train) ≡ ok 0
+  Right u = u .answer .status ≡ Success → faultsOf g (u .train) ≡ ok 0
 
-  finish-right : (r : Res ℕ) (rounds strays : ℕ) (t : Train) → faultsOf g t ≡ r → Right (finish r rounds strays was t)
+  finish-right : (r : Res ℕ) (tally : Tally) (t : Train) → faultsOf g t ≡ r → Right (finish r tally was t)
   unfolding finish
-  finish-right (ok zero) rounds strays t e h = e
-  finish-right (ok (suc n)) rounds strays t e h = other-no (Faulty (suc n)) refl h
-  finish-right (no n) rounds strays t e h = other-no (Refused n 0) refl h
+  finish-right (ok zero) tally t e h = e
+  finish-right (ok (suc n)) tally t e h = other-no (Faulty (suc n)) refl h
+  finish-right (no n) tally t e h = other-no (Refused n 0) refl h
 
   after-right : (x : Res Ended) (next : Between → Updated) (w : Between) → ((y : Between) → Right (next y)) → Right (afterRound x next g was w)
   unfolding afterRound
   after-right (no n) next w f h = other-no (Refused n 0) refl h
-  after-right (ok atEnd) next w f h = finish-right (faultsOf g (w .train)) (w .rounds + 1) (w .strays + straysOf g (w .train)) (w .train) refl h
+  after-right (ok atEnd) next w f h = finish-right (faultsOf g (w .train)) (counted (w .tally) (straysOf g (w .train))) (w .train) refl h
   after-right (ok (blockedAt t)) next w f h = other-no Blocked refl h
   after-right (ok (again t split k)) next w f h = f _ h
 
@@ -133,18 +135,18 @@ module _ (g : Given) (was : Train) where
 
   rounds-right : (k : ℕ) (w : Between) → Right (roundsFrom k g was w)
   unfolding roundsFrom
-  rounds-right zero w = cond-right (due w) _ _ (λ h. other-no (Refused 12 0) refl h) (finish-right (faultsOf g (w .train)) (w .rounds) (w .strays) (w .train) refl)
+  rounds-right zero w = cond-right (due w) _ _ (λ h. other-no (Refused 12 0) refl h) (finish-right (faultsOf g (w .train)) (w .tally) (w .train) refl)
   rounds-right (suc k) w =
       cond-right (due w) _ _ (after-right (roundOf g (w .train) (w .«idx_split») (w .«div_idx_split»)) (λ x. roundsFrom k g was x) w (λ y. rounds-right k y))
-      (finish-right (faultsOf g (w .train)) (w .rounds) (w .strays) (w .train) refl)
+      (finish-right (faultsOf g (w .train)) (w .tally) (w .train) refl)
 
 pub update-right : (occ : List ℕ) (blocking : List LinkIdx) (moved : TrainIdx) (local : Bool) (limit : ℕ) (t : Train)
-    → updateFreePath occ blocking moved local limit t .status ≡ Success
+    → updateFreePath occ blocking moved local limit t .answer .status ≡ Success
     → badPath (updateFreePath occ blocking moved local limit t .train .«est_times») (updateFreePath occ blocking moved local limit t .train .«disp_path») ≡ ok 0
 unfolding updateFreePath
 update-right occ blocking moved local limit t h = go (at (t .«disp_path») (t .«disp_node_idx_free»)) h
   where
-    go : (r : Res DispNode) → updateFrom r occ blocking moved local limit t .status ≡ Success
+    go : (r : Res DispNode) → updateFrom r occ blocking moved local limit t .answer .status ≡ Success
         → badPath (updateFrom r occ blocking moved local limit t .train .«est_times») (updateFrom r occ blocking moved local limit t .train .«disp_path») ≡ ok 0
     go (no k) h = other-no (Refused 10 0) refl h
     go (ok n) h =
@@ -189,12 +191,12 @@ module _ (img occ blocking : List ℕ) (moved : ℕ) (local : Bool) (limit : ℕ
   abbrev train-left : Updated
   train-left = updateFreePath occ (linkIdxs blocking) (record { 0 = moved }) local limit (decoded img)
 
-  success-told : after .status ≡ Success → (updateFault img occ blocking moved limit .number ≡ 0) × (train-left .status ≡ Success)
+  success-told : after .answer .status ≡ Success → (updateFault img occ blocking moved limit .number ≡ 0) × (train-left .answer .status ≡ Success)
   unfolding updatedImage
   success-told h = go (updateFault img occ blocking moved limit .number) refl h
     where
-      go : (k : ℕ) → updateFault img occ blocking moved limit .number ≡ k → answerBy k (updateFault img occ blocking moved limit .place) train-left img .status ≡ Success
-          → (updateFault img occ blocking moved limit .number ≡ 0) × (train-left .status ≡ Success)
+      go : (k : ℕ) → updateFault img occ blocking moved limit .number ≡ k → answerBy k (updateFault img occ blocking moved limit .place) train-left img .answer .status ≡ Success
+          → (updateFault img occ blocking moved limit .number ≡ 0) × (train-left .answer .status ≡ Success)
       go zero e h = (e, h)
       go (suc k) e h = other-no (Refused (suc k) (updateFault img occ blocking moved limit .place)) refl h
 
@@ -202,7 +204,7 @@ module _ (img occ blocking : List ℕ) (moved : ℕ) (local : Bool) (limit : ℕ
   same-listed n k f g e i l = listed-read k g i (subst (λ (xs : List _). at xs i ≡ ok (f i)) e (read-listed n f i l))
 
   -- Success leaves the est records
-  pub success-ests : Bytes img → Trains16 occ → moved < 65536 → after .status ≡ Success → decoded (after .image) .«est_times» ≡ decoded img .«est_times»
+  pub success-ests : Bytes img → Trains16 occ → moved < 65536 → after .answer .status ≡ Success → decoded (after .image) .«est_times» ≡ decoded img .«est_times»
   unfolding updateFault
   success-ests b w m h =
       let k = success-told h in
@@ -211,7 +213,7 @@ module _ (img occ blocking : List ℕ) (moved : ℕ) (local : Bool) (limit : ℕ
       ap (λ (t : Train). t .«est_times») (left-holds img occ blocking moved local limit b w m (k .0)) ∙ f .stays .same .ests
 
   -- needed of the image before are its est distances alone, of the image after its offsets
-  pub success-exact : Bytes img → Trains16 occ → moved < 65536 → DistsInProfile img → after .status ≡ Success → OffsetsInProfile (after .image) → StepsExact (after .image)
+  pub success-exact : Bytes img → Trains16 occ → moved < 65536 → DistsInProfile img → after .answer .status ≡ Success → OffsetsInProfile (after .image) → StepsExact (after .image)
   success-exact b w m ds h os =
       let k = success-told h in
       let e = left-holds img occ blocking moved local limit b w m (k .0) in

@@ -70,7 +70,7 @@ short-before : profileFault (encoded short) ≡ noFault
 unfolding computed short
 short-before = refl
 
-short-success : updated short .status ≡ Success
+short-success : updated short .answer .status ≡ Success
 unfolding computed short
 short-success = refl
 
@@ -97,7 +97,7 @@ long-apart : nearFloat (offsetAt (encoded long) 2) (offsetAt (encoded long) 3) �
 unfolding computed long
 long-apart = refl
 
-long-success : updated long .status ≡ Success
+long-success : updated long .answer .status ≡ Success
 unfolding computed long
 long-success = refl
 

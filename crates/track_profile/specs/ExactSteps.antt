@@ -56,6 +56,6 @@ SuccessIsExact =
     (image occupancy blocking : List ℕ) (moved : ℕ) (local : Bool) (limit : ℕ)
     → ((i : ℕ) → getD image i 0 < 256) → ((i : ℕ) → getD occupancy i 0 < 65536) → moved < 65536
     → profileFault image ≡ noFault
-    → updatedImage image occupancy blocking moved local limit .status ≡ Success
+    → updatedImage image occupancy blocking moved local limit .answer .status ≡ Success
     → profileFault (updatedImage image occupancy blocking moved local limit .image) ≡ noFault
     → StepsExact (updatedImage image occupancy blocking moved local limit .image)

@@ -22,8 +22,10 @@ use Rattle.free_path.proofs.PathRenumbering.{strays-r, validateFreePath-r}
 use Rattle.free_path.proofs.ListLaws.{All}
 use Rattle.free_path.proofs.PlainLaws.{Link32}
 use Rattle.free_path.proofs.MapLaws.{mapRes, cond-map}
+use Rattle.tally.specs.Tally.{counted}
+use Rattle.tally.specs.declared.Tally.{Tally}
 use Rattle.train_update.specs.State.{Ended, atEnd, blockedAt, again}
-use Rattle.train_update.specs.Update.{Given, Updated, Between, roundOf, straysOf, faultsOf, finish, afterRound, due, roundsFrom}
+use Rattle.train_update.specs.Update.{Given, Updated, Between, between, roundOf, straysOf, faultsOf, finish, afterRound, due, roundsFrom}
 use Rattle.train_update.specs.Renumbered.{rUpdated}
 use Rattle.train_update.proofs.StateRenumbering.{rEnded}
 use Rattle.train_update.proofs.RoundRenumbering.{given, roundOf-r}
@@ -31,34 +33,38 @@ use Rattle.train_update.proofs.PlainRound.{roundOf-plain}
 
 -- ---- the strays counted never fall
 
-finish-strays : (n : Res ℕ) (rounds strays : ℕ) (was t : Train) → finish n rounds strays was t .strays ≡ strays
-unfolding finish
-finish-strays (ok n) rounds strays was t = refl
-finish-strays (no n) rounds strays was t = refl
+abbrev pub straysIn : Updated → ℕ
+straysIn u = u .answer .tally .strays
 
-after-strays : (e : Res Ended) (next : Between → Updated) → ((x : Between) → x .strays ≤ next x .strays) → (g : Given) (was : Train) (w : Between) → w .strays ≤ afterRound e next g was w .strays
+finish-strays : (n : Res ℕ) (tally : Tally) (was t : Train) → straysIn (finish n tally was t) ≡ tally .strays
+unfolding finish
+finish-strays (ok n) tally was t = refl
+finish-strays (no n) tally was t = refl
+
+after-strays : (e : Res Ended) (next : Between → Updated) → ((x : Between) → x .tally .strays ≤ straysIn (next x)) → (g : Given) (was : Train) (w : Between)
+    → w .tally .strays ≤ straysIn (afterRound e next g was w)
 unfolding afterRound
 after-strays (no n) next h g was w = omega arith
-after-strays (ok atEnd) next h g was w = omega (arith, finish-strays (faultsOf g (w .train)) (w .rounds + 1) (w .strays + straysOf g (w .train)) was (w .train))
+after-strays (ok atEnd) next h g was w = omega (arith, finish-strays (faultsOf g (w .train)) (counted (w .tally) (straysOf g (w .train))) was (w .train))
 after-strays (ok (blockedAt t)) next h g was w = omega arith
-after-strays (ok (again t i d)) next h g was w = omega (arith, h (record { train = t; «idx_split» = i; «div_idx_split» = d; rounds = w .rounds + 1; strays = w .strays + straysOf g t }))
+after-strays (ok (again t i d)) next h g was w = omega (arith, h (between t i d (counted (w .tally) (straysOf g t))))
 
-cond-strays : (b : Bool) (x y : Updated) (n : ℕ) → n ≤ x .strays → n ≤ y .strays → n ≤ cond b x y .strays
+cond-strays : (b : Bool) (x y : Updated) (n : ℕ) → n ≤ straysIn x → n ≤ straysIn y → n ≤ straysIn (cond b x y)
 cond-strays true x y n h k = h
 cond-strays false x y n h k = k
 
-pub rounds-strays : (k : ℕ) (g : Given) (was : Train) (w : Between) → w .strays ≤ roundsFrom k g was w .strays
+pub rounds-strays : (k : ℕ) (g : Given) (was : Train) (w : Between) → w .tally .strays ≤ straysIn (roundsFrom k g was w)
 unfolding roundsFrom
-rounds-strays zero g was w = cond-strays (due w) _ _ (w .strays) (omega arith) (omega (arith, finish-strays (faultsOf g (w .train)) (w .rounds) (w .strays) was (w .train)))
+rounds-strays zero g was w = cond-strays (due w) _ _ (w .tally .strays) (omega arith) (omega (arith, finish-strays (faultsOf g (w .train)) (w .tally) was (w .train)))
 rounds-strays (suc k) g was w =
-    cond-strays (due w) _ _ (w .strays)
+    cond-strays (due w) _ _ (w .tally .strays)
     (after-strays (roundOf g (w .train) (w .«idx_split») (w .«div_idx_split»)) (λ x. roundsFrom k g was x) (λ x. rounds-strays k g was x) g was w)
-    (omega (arith, finish-strays (faultsOf g (w .train)) (w .rounds) (w .strays) was (w .train)))
+    (omega (arith, finish-strays (faultsOf g (w .train)) (w .tally) was (w .train)))
 
 -- ---- between two rounds, renumbered
 
 abbrev pub rBetween : (ℕ → ℕ) → (ℕ → ℕ) → Between → Between
-rBetween p q w = record { train = rTrainDisp p q (w .train); «idx_split» = w .«idx_split»; «div_idx_split» = w .«div_idx_split»; rounds = w .rounds; strays = w .strays }
+rBetween p q w = between (rTrainDisp p q (w .train)) (w .«idx_split») (w .«div_idx_split») (w .tally)
 
 -- ---- the rounds
 
@@ -88,33 +94,30 @@ module _ (p q : ℕ → ℕ) (topT : ℕ) (rq : Renumbering topT q) (occ occ′ 
       ∙ roundOf-r p q topT rq occ occ′ rp m bs bs′ ls ls′ moved local lowest (linkOptType bs (contains ls)) t i d
       ∙ ap (mapRes (rEnded p q)) (roundOf-plain occ bs ls b z moved local lowest t s i d)
 
-  finish-r : (n : Res ℕ) (rounds strays : ℕ) (was t : Train) → finish n rounds strays (W was) (W t) ≡ rUpdated p q (finish n rounds strays was t)
+  finish-r : (n : Res ℕ) (tally : Tally) (was t : Train) → finish n tally (W was) (W t) ≡ rUpdated p q (finish n tally was t)
   unfolding finish
-  finish-r (ok n) rounds strays was t = refl
-  finish-r (no n) rounds strays was t = refl
-
-  abbrev after : Train → ℕ → ℕ → ℕ → ℕ → Between
-  after t i d rounds strays = record { train = t; «idx_split» = i; «div_idx_split» = d; rounds = rounds; strays = strays }
+  finish-r (ok n) tally was t = refl
+  finish-r (no n) tally was t = refl
 
   after-r : (e : Res Ended) (next next′ : Between → Updated) (was : Train) (w : Between)
-      → ((x : Between) → straysOf g (x .train) ≤ x .strays → next x .strays ≡ 0 → next′ (rBetween p q x) ≡ rUpdated p q (next x))
-      → afterRound e next g was w .strays ≡ 0 → afterRound (mapRes (rEnded p q) e) next′ g′ (W was) (rBetween p q w) ≡ rUpdated p q (afterRound e next g was w)
+      → ((x : Between) → straysOf g (x .train) ≤ x .tally .strays → straysIn (next x) ≡ 0 → next′ (rBetween p q x) ≡ rUpdated p q (next x))
+      → straysIn (afterRound e next g was w) ≡ 0 → afterRound (mapRes (rEnded p q) e) next′ g′ (W was) (rBetween p q w) ≡ rUpdated p q (afterRound e next g was w)
   unfolding afterRound
   after-r (no n) next next′ was w h s = refl
   after-r (ok atEnd) next next′ was w h s =
-      ap₂ (λ n k. finish n (w .rounds + 1) (w .strays + k) (W was) (W (w .train))) (faultsOf-r (w .train)) (straysOf-r (w .train))
-      ∙ finish-r (faultsOf g (w .train)) (w .rounds + 1) (w .strays + straysOf g (w .train)) was (w .train)
+      ap₂ (λ n k. finish n (counted (w .tally) k) (W was) (W (w .train))) (faultsOf-r (w .train)) (straysOf-r (w .train))
+      ∙ finish-r (faultsOf g (w .train)) (counted (w .tally) (straysOf g (w .train))) was (w .train)
   after-r (ok (blockedAt t)) next next′ was w h s = refl
   after-r (ok (again t i d)) next next′ was w h s =
-      ap (λ k. next′ (after (W t) i d (w .rounds + 1) (w .strays + k))) (straysOf-r t) ∙ h (after t i d (w .rounds + 1) (w .strays + straysOf g t)) (omega arith) s
+      ap (λ k. next′ (between (W t) i d (counted (w .tally) k))) (straysOf-r t) ∙ h (between t i d (counted (w .tally) (straysOf g t))) (omega arith) s
 
-  end-r : (was : Train) (w : Between) → finish (faultsOf g′ (W (w .train))) (w .rounds) (w .strays) (W was) (W (w .train)) ≡ rUpdated p q (finish (faultsOf g (w .train)) (w .rounds) (w .strays) was (w .train))
-  end-r was w = ap (λ n. finish n (w .rounds) (w .strays) (W was) (W (w .train))) (faultsOf-r (w .train)) ∙ finish-r (faultsOf g (w .train)) (w .rounds) (w .strays) was (w .train)
+  end-r : (was : Train) (w : Between) → finish (faultsOf g′ (W (w .train))) (w .tally) (W was) (W (w .train)) ≡ rUpdated p q (finish (faultsOf g (w .train)) (w .tally) was (w .train))
+  end-r was w = ap (λ n. finish n (w .tally) (W was) (W (w .train))) (faultsOf-r (w .train)) ∙ finish-r (faultsOf g (w .train)) (w .tally) was (w .train)
 
   due-r : (w : Between) → due (rBetween p q w) ≡ due w
   due-r w = ap (ltb (w .«idx_split»)) (length-map (w .train .«disp_path») (rNode p))
 
-  pub rounds-r : (k : ℕ) (was : Train) (w : Between) → straysOf g (w .train) ≤ w .strays → roundsFrom k g was w .strays ≡ 0 → roundsFrom k g′ (W was) (rBetween p q w) ≡ rUpdated p q (roundsFrom k g was w)
+  pub rounds-r : (k : ℕ) (was : Train) (w : Between) → straysOf g (w .train) ≤ w .tally .strays → straysIn (roundsFrom k g was w) ≡ 0 → roundsFrom k g′ (W was) (rBetween p q w) ≡ rUpdated p q (roundsFrom k g was w)
   unfolding roundsFrom
   rounds-r zero was w l s = cond-map (rUpdated p q) (due w) _ _ _ _ _ (due-r w) refl (end-r was w)
   rounds-r (suc k) was w l s =
@@ -124,17 +127,17 @@ module _ (p q : ℕ → ℕ) (topT : ℕ) (rq : Renumbering topT q) (occ occ′ 
       more = afterRound (roundOf g (w .train) (w .«idx_split») (w .«div_idx_split»)) (λ x. roundsFrom k g was x) g was w
 
       end : Updated
-      end = finish (faultsOf g (w .train)) (w .rounds) (w .strays) was (w .train)
+      end = finish (faultsOf g (w .train)) (w .tally) was (w .train)
 
       more′ : Updated
       more′ = afterRound (roundOf g′ (W (w .train)) (w .«idx_split») (w .«div_idx_split»)) (λ x. roundsFrom k g′ (W was) x) g′ (W was) (rBetween p q w)
 
       end′ : Updated
-      end′ = finish (faultsOf g′ (W (w .train))) (w .rounds) (w .strays) (W was) (W (w .train))
+      end′ = finish (faultsOf g′ (W (w .train))) (w .tally) (W was) (W (w .train))
 
       go : (v : Bool) → roundOf g′ (W (w .train)) (w .«idx_split») (w .«div_idx_split») ≡ mapRes (rEnded p q) (roundOf g (w .train) (w .«idx_split») (w .«div_idx_split»))
-          → ((x : Between) → straysOf g (x .train) ≤ x .strays → roundsFrom k g was x .strays ≡ 0 → roundsFrom k g′ (W was) (rBetween p q x) ≡ rUpdated p q (roundsFrom k g was x))
-          → cond v more end .strays ≡ 0 → cond v more′ end′ ≡ rUpdated p q (cond v more end)
+          → ((x : Between) → straysOf g (x .train) ≤ x .tally .strays → straysIn (roundsFrom k g was x) ≡ 0 → roundsFrom k g′ (W was) (rBetween p q x) ≡ rUpdated p q (roundsFrom k g was x))
+          → straysIn (cond v more end) ≡ 0 → cond v more′ end′ ≡ rUpdated p q (cond v more end)
       go false e ih h = end-r was w
       go true e ih h =
           ap (λ r. afterRound r (λ x. roundsFrom k g′ (W was) x) g′ (W was) (rBetween p q w)) e

@@ -1,4 +1,4 @@
--- Demand 3 for one update: over a second numbering the update gives the same status, rounds and strays, and the renumbered
+-- Demand 3 for one update: over a second numbering the update gives the same answer, and the renumbered
 -- train, where it counts no stray and entry 0 of the occupancy is empty. Assumes nothing.
 use mathlib.Core.Path.{_≡_, refl, sym, ap, ap₂, _∙_}
 use mathlib.Core.Bool.{Bool, true, false, _||_}
@@ -25,8 +25,9 @@ use Rattle.free_path.proofs.PathRenumbering.{noLink-r, class-r, known-r}
 use Rattle.free_path.proofs.ListLaws.{All}
 use Rattle.free_path.proofs.PlainLaws.{Link32}
 use Rattle.free_path.proofs.MapLaws.{mapRes, at-map}
+use Rattle.tally.specs.Tally.{started}
 use Rattle.train_update.specs.State.{withDivNodes}
-use Rattle.train_update.specs.Update.{Given, Between, roundsFrom, adjustSentinel, givenOf, startOf, updateFrom, updateFreePath}
+use Rattle.train_update.specs.Update.{Given, Between, between, roundsFrom, adjustSentinel, givenOf, startOf, updateFrom, updateFreePath}
 use Rattle.train_update.specs.Renumbered.{TwoNumberings, rUpdated}
 use Rattle.train_update.proofs.RoundRenumbering.{onPathLinks-r}
 use Rattle.train_update.proofs.RoundsRenumbering.{rBetween, straysOf-r, rounds-r}
@@ -100,28 +101,28 @@ module _ (p q : ℕ → ℕ) (occ occ′ : List ℕ) (blocking blocking′ : Lis
     g′ = givenOf occ′ blocking′ (rTrain q moved) local (rTrainDisp p q t) (rNode p first)
 
     abbrev startWith : List DivergeNode → ℕ → Between
-    startWith ds k = record { train = withDivNodes (rTrainDisp p q t) ds; «idx_split» = 1; «div_idx_split» = 1; rounds = 0; strays = k }
+    startWith ds k = between (withDivNodes (rTrainDisp p q t) ds) 1 1 (started k)
 
     start-r : startOf g′ (rTrainDisp p q t) ≡ rBetween p q (startOf g t)
     start-r =
         ap₂ startWith (adjustSentinel-r q moved (t .«div_nodes»))
         (straysOf-r p q (n .lastTrain) (n .trains) occ occ′ rp (n .occupancies) blocking blocking′ on on′ b b′ (n .zero-empty) z′ moved local (g .«offset_lowest») classes knowns t)
 
-    started : roundsFrom limit g t (startOf g t) .strays ≡ 0 → roundsFrom limit g′ (rTrainDisp p q t) (startOf g′ (rTrainDisp p q t)) ≡ rUpdated p q (roundsFrom limit g t (startOf g t))
+    started-r : roundsFrom limit g t (startOf g t) .answer .tally .strays ≡ 0 → roundsFrom limit g′ (rTrainDisp p q t) (startOf g′ (rTrainDisp p q t)) ≡ rUpdated p q (roundsFrom limit g t (startOf g t))
     unfolding strays
-    started s =
+    started-r s =
         ap (roundsFrom limit g′ (rTrainDisp p q t)) start-r
         ∙ rounds-r p q (n .lastTrain) (n .trains) occ occ′ rp (n .occupancies) blocking blocking′ on on′ b b′ (n .zero-empty) z′ moved local (g .«offset_lowest») classes knowns limit t (startOf g t) (omega arith) s
 
-  from-r : (x : Res DispNode) → updateFrom x occ blocking moved local limit t .strays ≡ 0
+  from-r : (x : Res DispNode) → updateFrom x occ blocking moved local limit t .answer .tally .strays ≡ 0
       → updateFrom (mapRes (rNode p) x) occ′ blocking′ (rTrain q moved) local limit (rTrainDisp p q t) ≡ rUpdated p q (updateFrom x occ blocking moved local limit t)
   from-r (no k) s = refl
-  from-r (ok first) s = started first s
+  from-r (ok first) s = started-r first s
 
 -- ---- the theorem
 
 pub update-renumbered : (p q : ℕ → ℕ) (occ occ′ : List ℕ) (blocking blocking′ : List LinkIdx) → TwoNumberings p q occ occ′ blocking blocking′
-    → (moved : TrainIdx) (local : Bool) (limit : ℕ) (t : Train) → updateFreePath occ blocking moved local limit t .strays ≡ 0
+    → (moved : TrainIdx) (local : Bool) (limit : ℕ) (t : Train) → updateFreePath occ blocking moved local limit t .answer .tally .strays ≡ 0
     → updateFreePath occ′ blocking′ (rTrain q moved) local limit (rTrainDisp p q t) ≡ rUpdated p q (updateFreePath occ blocking moved local limit t)
 unfolding updateFreePath
 update-renumbered p q occ occ′ blocking blocking′ n moved local limit t s =

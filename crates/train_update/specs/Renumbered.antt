@@ -11,7 +11,7 @@ use Rattle.link_rules.specs.declared.link_idx.LinkIdx.{LinkIdx}
 use Rattle.disp_structs.specs.Renumbered.{rTrainDisp}
 use Rattle.free_path.specs.LinkOptType.{contains}
 use Rattle.free_path.specs.Order.{Perm}
-use Rattle.train_update.specs.Update.{Updated, answered}
+use Rattle.train_update.specs.Update.{Updated}
 
 -- the occupancy and the blocking list of an update, and those of it over the second numbering
 pub record TwoNumberings (p q : ℕ → ℕ) (occ occ′ : List ℕ) (blocking blocking′ : List LinkIdx) : Type 0 where
@@ -29,6 +29,6 @@ pub record TwoNumberings (p q : ℕ → ℕ) (occ occ′ : List ℕ) (blocking b
   -- entry 0 of the occupancy is empty
   pub zero-empty : occupied occ noLink ≡ false
 
--- the same status, rounds and strays, and the renumbered train
+-- the same answer, and the renumbered train
 abbrev pub rUpdated : (ℕ → ℕ) → (ℕ → ℕ) → Updated → Updated
-rUpdated p q u = answered (u .status) (u .rounds) (u .strays) (rTrainDisp p q (u .train))
+rUpdated p q u = record { answer = u .answer; train = rTrainDisp p q (u .train) }

@@ -12,6 +12,8 @@ use Rattle.disp_structs.specs.Train.{Train}
 use Rattle.disp_structs.specs.declared.Metres.{Metres}
 use Rattle.disp_structs.specs.declared.DispNode.{DispNode}
 use Rattle.disp_structs.specs.declared.DivergeNode.{DivergeNode}
+use Rattle.tally.specs.Tally.{started, counted, faulted}
+use Rattle.tally.specs.declared.Tally.{Tally}
 use Rattle.free_path.specs.Base.{Res, ok, no, _>>=_, _>>_, need, at, before, walkFrom}
 use Rattle.free_path.specs.LinkOptType.{linksOnPath, contains, linkIdxPath, least, linkOptType, Sentinels, calcIdxSentinels, findTrainIntersect}
 use Rattle.free_path.specs.SearchLimit.{offsetCancel}
@@ -157,11 +159,14 @@ pub data Status : Type 0 where
   Faulty : ℕ → Status
   Refused : ℕ → ℕ → Status
 
--- the train is the one that is left
-pub record Updated : Type 0 where
+-- what every update answers: its status, and what it counted
+pub record Answer : Type 0 where
   pub status : Status
-  pub rounds : ℕ
-  pub strays : ℕ
+  pub tally : Tally
+
+-- with the train that is left
+pub record Updated : Type 0 where
+  pub answer : Answer
   pub train : Train
 
 -- between two rounds: the train, idx_split and div_idx_split, and document 01's tally
@@ -169,21 +174,33 @@ pub record Between : Type 0 where
   pub train : Train
   pub «idx_split» : ℕ
   pub «div_idx_split» : ℕ
-  pub rounds : ℕ
-  pub strays : ℕ
+  pub tally : Tally
+
+abbrev pub between : Train → ℕ → ℕ → Tally → Between
+between t split divSplit tally = record { train = t; «idx_split» = split; «div_idx_split» = divSplit; tally = tally }
 
 -- every answer is made here
-abbrev pub answered : Status → ℕ → ℕ → Train → Updated
-answered status rounds strays t = record { status = status; rounds = rounds; strays = strays; train = t }
+abbrev pub answerOf : Status → Tally → Answer
+answerOf status tally = record { status = status; tally = tally }
+
+abbrev pub answered : Status → Tally → Train → Updated
+answered status tally t = record { answer = answerOf status tally; train = t }
 
 -- a refusal within an update has place 0, and leaves the train as it was
-abbrev pub refused : ℕ → ℕ → ℕ → Train → Updated
-refused n rounds strays was = answered (Refused n 0) rounds strays was
+abbrev pub refused : ℕ → Tally → Train → Updated
+refused n tally was = answered (Refused n 0) tally was
 
 -- by the number of errors
 abbrev pub statusOf : ℕ → Status
 statusOf zero = Success
 statusOf (suc n) = Faulty (suc n)
+
+-- the errors that a status tells
+abbrev pub faultsIn : Status → ℕ
+faultsIn Success = 0
+faultsIn Blocked = 0
+faultsIn (Faulty n) = n
+faultsIn (Refused n place) = 0
 
 -- ---- the loop over rounds (278-637)
 
@@ -195,18 +212,17 @@ straysOf g t = strays (g .«links_blocked») (known (g .«link_idxs_blocking») 
 abbrev pub faultsOf : Given → Train → Res ℕ
 faultsOf g t = validateFreePath (g .«links_blocked») (t .«est_times») (t .«disp_node_idx_free») (t .«disp_path»)
 
--- the end of the loop (636-637); was is the train before the update
-unfoldable pub finish : Res ℕ → ℕ → ℕ → Train → Train → Updated
-finish (ok n) rounds strays was t = answered (statusOf n) rounds strays t
-finish (no n) rounds strays was t = refused n rounds strays was
+-- the end of the loop (636-637), which counts the errors; was is the train before the update
+unfoldable pub finish : Res ℕ → Tally → Train → Train → Updated
+finish (ok n) tally was t = answered (statusOf n) (faulted tally n) t
+finish (no n) tally was t = refused n tally was
 
 -- a round was entered and has ended: strays are counted unless it ended Blocked
 unfoldable pub afterRound : Res Ended → (Between → Updated) → Given → Train → Between → Updated
-afterRound (no n) next g was w = refused n (w .rounds + 1) (w .strays) was
-afterRound (ok atEnd) next g was w = finish (faultsOf g (w .train)) (w .rounds + 1) (w .strays + straysOf g (w .train)) was (w .train)
-afterRound (ok (blockedAt t)) next g was w = answered Blocked (w .rounds + 1) (w .strays) t
-afterRound (ok (again t split divSplit)) next g was w =
-    next (record { train = t; «idx_split» = split; «div_idx_split» = divSplit; rounds = w .rounds + 1; strays = w .strays + straysOf g t })
+afterRound (no n) next g was w = refused n (counted (w .tally) 0) was
+afterRound (ok atEnd) next g was w = finish (faultsOf g (w .train)) (counted (w .tally) (straysOf g (w .train))) was (w .train)
+afterRound (ok (blockedAt t)) next g was w = answered Blocked (counted (w .tally) 0) t
+afterRound (ok (again t split divSplit)) next g was w = next (between t split divSplit (counted (w .tally) (straysOf g t)))
 
 -- is another round due? (278)
 abbrev pub due : Between → Bool
@@ -215,10 +231,10 @@ due w = ltb (w .«idx_split») (length (w .train .«disp_path»))
 -- as many rounds as the limit has left; another one due is 12
 unfoldable pub roundsFrom : ℕ → Given → Train → Between → Updated
 roundsFrom zero g was w =
-    let end = finish (faultsOf g (w .train)) (w .rounds) (w .strays) was (w .train) in
-    cond (due w) (refused 12 (w .rounds) (w .strays) was) end
+    let end = finish (faultsOf g (w .train)) (w .tally) was (w .train) in
+    cond (due w) (refused 12 (w .tally) was) end
 roundsFrom (suc k) g was w =
-    let end = finish (faultsOf g (w .train)) (w .rounds) (w .strays) was (w .train) in
+    let end = finish (faultsOf g (w .train)) (w .tally) was (w .train) in
     let more = afterRound (roundOf g (w .train) (w .«idx_split») (w .«div_idx_split»)) (λ x. roundsFrom k g was x) g was w in
     cond (due w) more end
 
@@ -245,18 +261,11 @@ givenOf occ blocking moved local t n =
 
 -- before the first round (273-275); strays are counted at the start
 abbrev pub startOf : Given → Train → Between
-startOf g t =
-    record {
-      train = withDivNodes t (adjustSentinel (g .«train_idx_moved») (t .«div_nodes»));
-      «idx_split» = 1;
-      «div_idx_split» = 1;
-      rounds = 0;
-      strays = straysOf g t;
-    }
+startOf g t = between (withDivNodes t (adjustSentinel (g .«train_idx_moved») (t .«div_nodes»))) 1 1 (started (straysOf g t))
 
 -- by disp_path[disp_node_idx_free]: past the end the train has finished its trip (259-264), which is refusal 10
 abbrev pub updateFrom : Res DispNode → List ℕ → List LinkIdx → TrainIdx → Bool → ℕ → Train → Updated
-updateFrom (no k) occ blocking moved local limit t = refused 10 0 0 t
+updateFrom (no k) occ blocking moved local limit t = refused 10 (started 0) t
 updateFrom (ok n) occ blocking moved local limit t =
     let g = givenOf occ blocking moved local t n in
     roundsFrom limit g t (startOf g t)

@@ -24,6 +24,7 @@ use Rattle.train_update.specs.State.{Round, Search, Turn, goOn, ends, Ended, at
 use Rattle.train_update.specs.Look.{Here, current, lookFrom, blockBy, Stored, storedFrom, blockStored, takeStored, storedTrains, occupiedNext, moveFrom, moveOf}
 use Rattle.train_update.specs.Moves.{shiftSave, rewindDivs, oneBack, rewind, alternate, changeDiverge, pushSaved, advance}
 use Rattle.train_update.specs.Join.{without, removeLinks, insertLinks, shiftOffsets, moveEnds, newEnds, updateFreePathHelpers, shiftDivs, updateDivNodes, freeIsCorrect, spliceAt, join}
+use Rattle.tally.specs.declared.Tally.{Tally}
 use Rattle.train_update.specs.Update.{Given, Between, Updated, Refused, doMove, searchStep, searchFrom, meeting, splitPoint, searchRound, roundOf, finish, afterRound, due, faultsOf, refused, roundsFrom}
 use Rattle.train_update.specs.declared.Move.{Move}
 use Rattle.train_update.specs.declared.Move.the-variants.{Rewind, Alternate, ChangeDiverge, PushSaved, BlockEmpty, Advance, Join}
@@ -326,29 +327,29 @@ few-errors occ est free path = search (few, few-bad-path) depth 10
 
 -- a refusal has a number up to 13, and place 0
 record Low (u : Updated) : Type 0 where
-  number : (n place : ℕ) → u .status ≡ Refused n place → (n ≤ 13) × (place ≡ 0)
+  number : (n place : ℕ) → u .answer .status ≡ Refused n place → (n ≤ 13) × (place ≡ 0)
 
-low-refused : (m rounds strays : ℕ) (was : Train) → m ≤ 13 → Low (refused m rounds strays was)
-low-refused m rounds strays was l = record { number = λ n place h. let p : m ≡ n = cc in let q : place ≡ 0 = cc in (omega arith, q) }
+low-refused : (m : ℕ) (tally : Tally) (was : Train) → m ≤ 13 → Low (refused m tally was)
+low-refused m tally was l = record { number = λ n place h. let p : m ≡ n = cc in let q : place ≡ 0 = cc in (omega arith, q) }
 
-low-other : (u : Updated) → ((n place : ℕ) → u .status ≡ Refused n place → ⊥) → Low u
+low-other : (u : Updated) → ((n place : ℕ) → u .answer .status ≡ Refused n place → ⊥) → Low u
 low-other u f = record { number = λ n place h. absurd (f n place h) }
 
-low-finish : {x : Res ℕ} → Few x → (rounds strays : ℕ) (was t : Train) → Low (finish x rounds strays was t)
+low-finish : {x : Res ℕ} → Few x → (tally : Tally) (was t : Train) → Low (finish x tally was t)
 unfolding finish
-low-finish (goes zero) rounds strays was t = low-other _ (λ n place h. let z : _≡_ {A = ℕ} 0 1 = cc in omega arith)
-low-finish (goes (suc k)) rounds strays was t = low-other _ (λ n place h. let z : _≡_ {A = ℕ} 0 1 = cc in omega arith)
-low-finish full rounds strays was t = low-refused 11 rounds strays was (omega arith)
-low-finish fails rounds strays was t = low-refused 13 rounds strays was (omega arith)
+low-finish (goes zero) tally was t = low-other _ (λ n place h. let z : _≡_ {A = ℕ} 0 1 = cc in omega arith)
+low-finish (goes (suc k)) tally was t = low-other _ (λ n place h. let z : _≡_ {A = ℕ} 0 1 = cc in omega arith)
+low-finish full tally was t = low-refused 11 tally was (omega arith)
+low-finish fails tally was t = low-refused 13 tally was (omega arith)
 
-low-faults : (g : Given) (rounds strays : ℕ) (was t : Train) → Low (finish (faultsOf g t) rounds strays was t)
-low-faults g rounds strays was t = low-finish (few-errors (g .«links_blocked») (t .«est_times») (t .«disp_node_idx_free») (t .«disp_path»)) rounds strays was t
+low-faults : (g : Given) (tally : Tally) (was t : Train) → Low (finish (faultsOf g t) tally was t)
+low-faults g tally was t = low-finish (few-errors (g .«links_blocked») (t .«est_times») (t .«disp_node_idx_free») (t .«disp_path»)) tally was t
 
 low-after : {x : Res Ended} → Few x → (next : Between → Updated) (g : Given) (was : Train) (w : Between) → ((v : Between) → Low (next v)) → Low (afterRound x next g was w)
 unfolding afterRound
-low-after full next g was w h = low-refused 11 _ _ was (omega arith)
-low-after fails next g was w h = low-refused 13 _ _ was (omega arith)
-low-after (goes atEnd) next g was w h = low-faults g _ _ was (w .train)
+low-after full next g was w h = low-refused 11 _ was (omega arith)
+low-after fails next g was w h = low-refused 13 _ was (omega arith)
+low-after (goes atEnd) next g was w h = low-faults g _ was (w .train)
 low-after (goes (blockedAt t)) next g was w h = low-other _ (λ n place q. let z : _≡_ {A = ℕ} 0 1 = cc in omega arith)
 low-after (goes (again t i k)) next g was w h = h _
 
@@ -358,12 +359,12 @@ low-cond false p q = q
 
 low-rounds : (k : ℕ) (g : Given) (was : Train) (w : Between) → Low (roundsFrom k g was w)
 unfolding roundsFrom
-low-rounds zero g was w = low-cond (due w) (low-refused 12 (w .rounds) (w .strays) was (omega arith)) (low-faults g (w .rounds) (w .strays) was (w .train))
+low-rounds zero g was w = low-cond (due w) (low-refused 12 (w .tally) was (omega arith)) (low-faults g (w .tally) was (w .train))
 low-rounds (suc k) g was w =
     low-cond (due w)
     (low-after (few-round g (w .train) (w .«idx_split») (w .«div_idx_split»)) (λ x. roundsFrom k g was x) g was w (λ v. low-rounds k g was v))
-    (low-faults g (w .rounds) (w .strays) was (w .train))
+    (low-faults g (w .tally) was (w .train))
 
 -- a refusal of the loop over rounds is 11, 12 or 13
-pub refused-number : (k : ℕ) (g : Given) (was : Train) (w : Between) (n place : ℕ) → roundsFrom k g was w .status ≡ Refused n place → (n ≤ 13) × (place ≡ 0)
+pub refused-number : (k : ℕ) (g : Given) (was : Train) (w : Between) (n place : ℕ) → roundsFrom k g was w .answer .status ≡ Refused n place → (n ≤ 13) × (place ≡ 0)
 refused-number k g was w = low-rounds k g was w .number

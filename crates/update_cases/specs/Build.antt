@@ -84,8 +84,8 @@ statusNumbers (Refused n place) rest = 3 ∷ n ∷ place ∷ rest
 -- status, rounds, strays, fixed, free, front, back, path records, diverge records
 unfoldable pub digest : Updated → List ℕ
 digest u =
-    statusNumbers (u .status)
-    (u .rounds ∷ u .strays ∷ u .train .«disp_node_idx_fixed» ∷ u .train .«disp_node_idx_free» ∷ u .train .«disp_node_idx_front» ∷ u .train .«disp_node_idx_back» ∷ nodeNumbers (u .train .«disp_path») (divNumbers (u .train .«div_nodes»)))
+    statusNumbers (u .answer .status)
+    (u .answer .tally .rounds ∷ u .answer .tally .strays ∷ u .train .«disp_node_idx_fixed» ∷ u .train .«disp_node_idx_free» ∷ u .train .«disp_node_idx_front» ∷ u .train .«disp_node_idx_back» ∷ nodeNumbers (u .train .«disp_path») (divNumbers (u .train .«div_nodes»)))
 
 -- what a case computes with: `unfolding everything` unfolds all of it
 unfoldable pub everything : ℕ

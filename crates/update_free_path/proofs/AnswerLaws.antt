@@ -1,12 +1,16 @@
 -- The answer of an update by how its rounds ended. Assumes nothing.
-use mathlib.Core.Path.{_≡_, refl, sym, ap, _∙_}
+use mathlib.Core.Path.{_≡_, refl, sym, ap, ap₂, _∙_}
 use mathlib.Core.Bool.{Bool, true, false, false≢true}
 use mathlib.Core.List.{List}
-use Prim.Native.Nat.{ℕ, zero, suc}
+use Prim.Native.Nat.{ℕ, zero, suc, _+_, _^_, _<_}
+use native.Mathlib.Omega.{arith}
 use Rattle.disp_structs.specs.Train.{Train}
 use Rattle.image.specs.Codec.{storedInto}
 use Rattle.free_path.specs.Base.{Res, ok, no}
 use Rattle.free_path.specs.Columns.{answer}
+use Rattle.tally.specs.Tally.{faulted, countedFaults}
+use Rattle.tally.specs.declared.Tally.{Tally}
+use Rattle.tally.proofs.TallyLaws.{faulted-within, faulted-none}
 use Rattle.train_update.specs.Update as Update
 use Rattle.update_image.specs.UpdateImage.{UpdatedImage, leftImage, storedAnswer}
 use Rattle.update_free_path.specs.Updates.{statusOf, isRefusal, judgedBy, statusBy, ranBy, isRefused}
@@ -65,17 +69,21 @@ done-stop s Stops.Blocked f e q = refl
 done-stop s Stops.Ended f e q = refl
 
 -- the answer and the image, as the definition has them
-module _ (rounds strays : ℕ) (was t : Train) (img : List ℕ) where
-  abbrev left : Update.Status → List ℕ → UpdatedImage
-  left s out = record { status = s; rounds = rounds; strays = strays; image = out }
+module _ (tally : Tally) (was t : Train) (img : List ℕ) where
+  abbrev left : Update.Status → Tally → List ℕ → UpdatedImage
+  left s y out = record { answer = Update.answerOf s y; image = out }
 
-  by-stop : (stop : Stop) (f : Res ℕ) → left (statusBy stop f) (leftImage (statusBy stop f) t img) ≡ storedAnswer (ranBy stop f rounds strays was t) img
+  by-stop : (stop : Stop) (f : Res ℕ) → left (statusBy stop f) (faulted tally (Update.faultsIn (statusBy stop f))) (leftImage (statusBy stop f) t img) ≡ storedAnswer (ranBy stop f tally was t) img
   unfolding Update.finish
-  by-stop (Stops.Refused c) f = refl
-  by-stop Stops.Blocked f = refl
+  by-stop (Stops.Refused c) f = ap (λ (y : Tally). left (Update.Refused c 0) y img) (faulted-none tally)
+  by-stop Stops.Blocked f = ap (λ (y : Tally). left Update.Blocked y (storedInto t img)) (faulted-none tally)
   by-stop Stops.Ended (ok zero) = refl
   by-stop Stops.Ended (ok (suc n)) = refl
-  by-stop Stops.Ended (no n) = refl
+  by-stop Stops.Ended (no n) = ap (λ (y : Tally). left (Update.Refused n 0) y img) (faulted-none tally)
 
-  pub answered-is : (stop : Stop) (f : Res ℕ) (s : Update.Status) (out : List ℕ) → s ≡ statusBy stop f → out ≡ leftImage s t img → left s out ≡ storedAnswer (ranBy stop f rounds strays was t) img
-  answered-is stop f s out e q = ap (left s) q ∙ ap (λ (z : Update.Status). left z (leftImage z t img)) e ∙ by-stop stop f
+  -- s is the status, n the errors that it tells, y the tally with them
+  pub answered-is : tally .faults ≡ 0 → (stop : Stop) (f : Res ℕ) (s : Update.Status) (n : ℕ) (y : Tally) (out : List ℕ) → s ≡ statusBy stop f → n < 2 ^ 64 → n ≡ Update.faultsIn s → y ≡ countedFaults tally n
+      → out ≡ leftImage s t img → left s y out ≡ storedAnswer (ranBy stop f tally was t) img
+  answered-is z stop f s n y out e l k m q =
+      ap₂ (λ (a : Tally) (o : List ℕ). left s a o) (m ∙ faulted-within tally n (omega (arith, z, l)) ∙ ap (faulted tally) k) q
+      ∙ ap (λ (z : Update.Status). left z (faulted tally (Update.faultsIn z)) (leftImage z t img)) e ∙ by-stop stop f

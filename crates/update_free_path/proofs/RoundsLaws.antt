@@ -19,6 +19,8 @@ use Rattle.free_path.specs.Columns.{linkAt, flagged}
 use Rattle.free_path.specs.LinkOptType.{linkIdxPath}
 use Rattle.free_path.specs.Validate.{strayLink}
 use Rattle.free_path.proofs.ColumnLaws.{listed-read}
+use Rattle.tally.specs.Tally.{counted}
+use Rattle.tally.specs.declared.Tally.{Tally}
 use Rattle.train_update.specs.State as State
 use Rattle.train_update.specs.State.{again}
 use Rattle.train_update.specs.Update as Update
@@ -45,7 +47,7 @@ use Rattle.update_free_path.specs.declared.rounds.Stop.the-variants as S
 -- ---- over trains
 
 abbrev ranIn : Update.Given → Train → Ran → Train → Update.Updated
-ranIn g was r t = ranBy (r .stop) (Update.faultsOf g t) (r .rounds) (r .strays) was t
+ranIn g was r t = ranBy (r .stop) (Update.faultsOf g t) (r .tally) was t
 
 module _ (g : Update.Given) (was : Train) (w : Update.Between) where
   abbrev rounded : Res State.Ended
@@ -58,33 +60,33 @@ module _ (g : Update.Given) (was : Train) (w : Update.Between) where
 
     -- another round follows
     rounds-again : (u : Train) (i j s : ℕ) → ok (again u i j) ≡ rounded → s ≡ Update.straysOf g u
-        → Update.roundsFrom k g was (record { train = u; «idx_split» = i; «div_idx_split» = j; rounds = w .rounds + 1; strays = w .strays + s }) ≡ Update.roundsFrom (suc k) g was w
+        → Update.roundsFrom k g was (Update.between u i j (counted (w .tally) s)) ≡ Update.roundsFrom (suc k) g was w
     unfolding Update.afterRound
     rounds-again u i j s e q =
-        ap (λ (z : ℕ). Update.roundsFrom k g was (record { train = u; «idx_split» = i; «div_idx_split» = j; rounds = w .rounds + 1; strays = w .strays + z })) q
+        ap (λ (z : ℕ). Update.roundsFrom k g was (Update.between u i j (counted (w .tally) z))) q
         ∙ ap (λ x. Update.afterRound x (λ y. Update.roundsFrom k g was y) g was w) e
         ∙ entered
 
     -- no other follows
     rounds-stop : (e : End) (u : Train) (h : PathHeader) (i j s : ℕ) → isLast e ≡ true → endBy e u i j ≡ rounded → (isAtEnd e ≡ true → u ≡ w .train) → s ≡ Update.straysOf g (w .train)
-        → ranIn g was (stoppedBy e h (w .rounds + 1) (w .strays) s) u ≡ Update.roundsFrom (suc k) g was w
+        → ranIn g was (stoppedBy e h (w .tally) s) u ≡ Update.roundsFrom (suc k) g was w
     unfolding Update.afterRound
     rounds-stop (Ends.Refused c) u h i j s a e l q = ap (λ x. Update.afterRound x (λ y. Update.roundsFrom k g was y) g was w) e ∙ entered
     rounds-stop Ends.AtEnd u h i j s a e l q =
-        ap (λ (z : Train). Update.finish (Update.faultsOf g z) (w .rounds + 1) (w .strays + s) was z) (l refl)
-        ∙ ap (λ (z : ℕ). Update.finish (Update.faultsOf g (w .train)) (w .rounds + 1) (w .strays + z) was (w .train)) q
+        ap (λ (z : Train). Update.finish (Update.faultsOf g z) (counted (w .tally) s) was z) (l refl)
+        ∙ ap (λ (z : ℕ). Update.finish (Update.faultsOf g (w .train)) (counted (w .tally) z) was (w .train)) q
         ∙ ap (λ x. Update.afterRound x (λ y. Update.roundsFrom k g was y) g was w) e
         ∙ entered
     rounds-stop Ends.Blocked u h i j s a e l q = ap (λ x. Update.afterRound x (λ y. Update.roundsFrom k g was y) g was w) e ∙ entered
     rounds-stop Ends.Again u h i j s a e l q = absurd (false≢true a)
 
   -- none is due
-  rounds-end : (k : ℕ) → Update.due w ≡ false → Update.finish (Update.faultsOf g (w .train)) (w .rounds) (w .strays) was (w .train) ≡ Update.roundsFrom k g was w
+  rounds-end : (k : ℕ) → Update.due w ≡ false → Update.finish (Update.faultsOf g (w .train)) (w .tally) was (w .train) ≡ Update.roundsFrom k g was w
   unfolding Update.roundsFrom
   rounds-end zero d = rw d
   rounds-end (suc k) d = rw d
 
-  rounds-limit : Update.due w ≡ true → Update.refused 12 (w .rounds) (w .strays) was ≡ Update.roundsFrom 0 g was w
+  rounds-limit : Update.due w ≡ true → Update.refused 12 (w .tally) was ≡ Update.roundsFrom 0 g was w
   unfolding Update.roundsFrom
   rounds-limit d = rw d
 
@@ -127,8 +129,8 @@ module _ (occ img dt dn : List ℕ) (h : PathHeader) (a : Accepted (length occ) 
   strays-are l col flags q g blocking start k =
       count-strays 4000 occ flags blocking start k (pathOf img (h .«path_count»)) (linked-accepted 4000 (length occ) _ (pathOf img (h .«path_count»)) l (a .path .each)) (listed (h .«path_count») (linkAt col)) q (h .free)
 
-pub due-turn : (w : Between) (limit : ℕ) → (ltb (w .rounds) limit && dueAt w) ≡ true → (w .rounds < limit) × (dueAt w ≡ true)
-due-turn w limit e = let b = both (ltb (w .rounds) limit) (dueAt w) e in (ltb-true (w .rounds) limit (b .0), b .1)
+pub due-turn : (w : Between) (limit : ℕ) → (ltb (w .tally .rounds) limit && dueAt w) ≡ true → (w .tally .rounds < limit) × (dueAt w ≡ true)
+due-turn w limit e = let b = both (ltb (w .tally .rounds) limit) (dueAt w) e in (ltb-true (w .tally .rounds) limit (b .0), b .1)
 
 due-same : (img dt dn : List ℕ) (w : Between) → Update.due (betweenOf img dt dn w) ≡ dueAt w
 unfolding trainOf
@@ -149,21 +151,27 @@ kept-goes Ends.Again a = refl
 -- ---- a round of the train of an image
 
 abbrev ran-at : List ℕ → List ℕ → List ℕ → List ℕ → Train → Ran → Update.Updated
-ran-at occ img dt dn was r = ranBy (r .stop) (errorsOf img occ (r .header)) (r .rounds) (r .strays) was (trainOf img dt dn (r .header))
+ran-at occ img dt dn was r = ranBy (r .stop) (errorsOf img occ (r .header)) (r .tally) was (trainOf img dt dn (r .header))
 
-stopped-at : (occ img dt dn : List ℕ) (g : Given) (blocking start : List LinkIdx) (was : Train) (e : End) (h : PathHeader) (n k s : ℕ)
-    → ran-at occ img dt dn was (stoppedBy e h n k s) ≡ ranIn (givenOf g occ blocking start) was (stoppedBy e h n k s) (trainOf img dt dn h)
+stopped-at : (occ img dt dn : List ℕ) (g : Given) (blocking start : List LinkIdx) (was : Train) (e : End) (h : PathHeader) (n : Tally) (s : ℕ)
+    → ran-at occ img dt dn was (stoppedBy e h n s) ≡ ranIn (givenOf g occ blocking start) was (stoppedBy e h n s) (trainOf img dt dn h)
 unfolding trainOf
-stopped-at occ img dt dn g blocking start was (Ends.Refused c) h n k s = refl
-stopped-at occ img dt dn g blocking start was Ends.AtEnd h n k s = refl
-stopped-at occ img dt dn g blocking start was Ends.Blocked h n k s = refl
-stopped-at occ img dt dn g blocking start was Ends.Again h n k s = refl
+stopped-at occ img dt dn g blocking start was (Ends.Refused c) h n s = refl
+stopped-at occ img dt dn g blocking start was Ends.AtEnd h n s = refl
+stopped-at occ img dt dn g blocking start was Ends.Blocked h n s = refl
+stopped-at occ img dt dn g blocking start was Ends.Again h n s = refl
 
-stop-refused : (e : End) (h : PathHeader) (n k s : ℕ) → isRefused (stoppedBy e h n k s .stop) ≡ false → Rounds.isRefused e ≡ false
-stop-refused (Ends.Refused c) h n k s q = absurd (false≢true (sym q))
-stop-refused Ends.AtEnd h n k s q = refl
-stop-refused Ends.Blocked h n k s q = refl
-stop-refused Ends.Again h n k s q = refl
+stop-refused : (e : End) (h : PathHeader) (n : Tally) (s : ℕ) → isRefused (stoppedBy e h n s .stop) ≡ false → Rounds.isRefused e ≡ false
+stop-refused (Ends.Refused c) h n s q = absurd (false≢true (sym q))
+stop-refused Ends.AtEnd h n s q = refl
+stop-refused Ends.Blocked h n s q = refl
+stop-refused Ends.Again h n s q = refl
+
+stop-faultless : (e : End) (h : PathHeader) (n : Tally) (s : ℕ) → n .faults ≡ 0 → stoppedBy e h n s .tally .faults ≡ 0
+stop-faultless (Ends.Refused c) h n s q = q
+stop-faultless Ends.AtEnd h n s q = q
+stop-faultless Ends.Blocked h n s q = q
+stop-faultless Ends.Again h n s q = q
 
 module _ (occ img col on dt dn flags : List ℕ) (g : Given) (w : Between) (t : Top occ img col on dt dn w) where
   abbrev train : Train
@@ -206,26 +214,27 @@ module _ (occ img col on dt dn flags : List ℕ) (g : Given) (w : Between) (t : 
             split-low = good .1 .low;
             div-low = good .1 .point .low;
             few = omega (arith, t .few);
+            faultless = t .faultless;
           }
 
-      next-same : (limit : ℕ) → w .rounds < limit → dueAt w ≡ true → (blocking start : List LinkIdx) (was : Train) (s : ℕ) → s ≡ Update.straysOf (given blocking start) train′
+      next-same : (limit : ℕ) → w .tally .rounds < limit → dueAt w ≡ true → (blocking start : List LinkIdx) (was : Train) (s : ℕ) → s ≡ Update.straysOf (given blocking start) train′
           → roundsAt occ g blocking start limit img′ dt′ dn′ was (nextOf w x s) ≡ roundsAt occ g blocking start limit img dt dn was w
       next-same limit l d blocking start was s q =
-          let n : limit - w .rounds ≡ suc (limit - (w .rounds + 1)) = omega arith in
-          rounds-again (given blocking start) was (betweenOf img dt dn w) (limit - (w .rounds + 1)) (due-same img dt dn w ∙ d) train′ (x .split) (x .«div_split») s (sym (goes blocking start)) q
+          let n : limit - w .tally .rounds ≡ suc (limit - (w .tally .rounds + 1)) = omega arith in
+          rounds-again (given blocking start) was (betweenOf img dt dn w) (limit - (w .tally .rounds + 1)) (due-same img dt dn w ∙ d) train′ (x .split) (x .«div_split») s (sym (goes blocking start)) q
           ∙ ap (λ (z : ℕ). Update.roundsFrom z (given blocking start) was (betweenOf img dt dn w)) (sym n)
 
-    stop-same : isLast (x .end) ≡ true → (isAtEnd (x .end) ≡ true → train′ ≡ train) → (limit : ℕ) → w .rounds < limit → dueAt w ≡ true → (blocking start : List LinkIdx) (was : Train) (s : ℕ) → s ≡ Update.straysOf (given blocking start) train
-        → ran-at occ img′ dt′ dn′ was (stoppedBy (x .end) (x .header) (w .rounds + 1) (w .strays) s) ≡ roundsAt occ g blocking start limit img dt dn was w
+    stop-same : isLast (x .end) ≡ true → (isAtEnd (x .end) ≡ true → train′ ≡ train) → (limit : ℕ) → w .tally .rounds < limit → dueAt w ≡ true → (blocking start : List LinkIdx) (was : Train) (s : ℕ) → s ≡ Update.straysOf (given blocking start) train
+        → ran-at occ img′ dt′ dn′ was (stoppedBy (x .end) (x .header) (w .tally) s) ≡ roundsAt occ g blocking start limit img dt dn was w
     stop-same a l limit r d blocking start was s q =
-        let n : limit - w .rounds ≡ suc (limit - (w .rounds + 1)) = omega arith in
-        stopped-at occ img′ dt′ dn′ g blocking start was (x .end) (x .header) (w .rounds + 1) (w .strays) s
-        ∙ rounds-stop (given blocking start) was (betweenOf img dt dn w) (limit - (w .rounds + 1)) (due-same img dt dn w ∙ d) (x .end) train′ (x .header) (x .split) (x .«div_split») s a (e blocking start) l q
+        let n : limit - w .tally .rounds ≡ suc (limit - (w .tally .rounds + 1)) = omega arith in
+        stopped-at occ img′ dt′ dn′ g blocking start was (x .end) (x .header) (w .tally) s
+        ∙ rounds-stop (given blocking start) was (betweenOf img dt dn w) (limit - (w .tally .rounds + 1)) (due-same img dt dn w ∙ d) (x .end) train′ (x .header) (x .split) (x .«div_split») s a (e blocking start) l q
         ∙ ap (λ (z : ℕ). Update.roundsFrom z (given blocking start) was (betweenOf img dt dn w)) (sym n)
 
     -- ---- what the loop keeps and answers
 
-    module _ (limit : ℕ) (img₀ dt₀ dn₀ : List ℕ) (w₀ : Between) (v : Going occ flags g limit img₀ dt₀ dn₀ w₀ img dt dn w) (r : w .rounds < limit) (d : dueAt w ≡ true) where
+    module _ (limit : ℕ) (img₀ dt₀ dn₀ : List ℕ) (w₀ : Between) (v : Going occ flags g limit img₀ dt₀ dn₀ w₀ img dt dn w) (r : w .tally .rounds < limit) (d : dueAt w ≡ true) where
       pub going-next : isLast (x .end) ≡ false → Kept img′ img → (col′ : List ℕ) → listed (x .header .«path_count») (linkAt col′) ≡ linkIdxPath (pathOf img′ (x .header .«path_count»))
           → (s : ℕ) → s ≡ count (strayLink occ (flagged flags)) (drop (x .header .free) (listed (x .header .«path_count») (linkAt col′)))
           → Going occ flags g limit img₀ dt₀ dn₀ w₀ img′ dt′ dn′ (nextOf w x s)
@@ -238,10 +247,11 @@ module _ (occ img col on dt dn flags : List ℕ) (g : Given) (w : Between) (t : 
 
       pub ended-stopped : isLast (x .end) ≡ true → (isAtEnd (x .end) ≡ true → train′ ≡ train) → (Rounds.isRefused (x .end) ≡ false → Kept img′ img)
           → (s : ℕ) → s ≡ count (strayLink occ (flagged flags)) (drop (w .header .free) (listed (w .header .«path_count») (linkAt col)))
-          → Ended occ flags g limit img₀ dt₀ dn₀ w₀ img′ dt′ dn′ (stoppedBy (x .end) (x .header) (w .rounds + 1) (w .strays) s)
+          → Ended occ flags g limit img₀ dt₀ dn₀ w₀ img′ dt′ dn′ (stoppedBy (x .end) (x .header) (w .tally) s)
       ended-stopped a l k s c =
           record {
-            kept = λ q. kept-then img′ img img₀ (k (stop-refused (x .end) (x .header) (w .rounds + 1) (w .strays) s q)) (v .kept);
+            kept = λ q. kept-then img′ img img₀ (k (stop-refused (x .end) (x .header) (w .tally) s q)) (v .kept);
+            faultless = stop-faultless (x .end) (x .header) (w .tally) s (t .faultless);
             is = λ blocking start f was.
                 stop-same a l limit r d blocking start was s (c ∙ strays-are occ img dt dn (w .header) (t .held .accepted) (t .held .links) col flags (t .column) g blocking start f) ∙ v .same blocking start f was;
           }
@@ -255,15 +265,19 @@ first-false false e = refl
 
 -- no round follows
 pub ended-closed : (occ flags : List ℕ) (g : Given) (limit : ℕ) (img₀ dt₀ dn₀ : List ℕ) (w₀ : Between) (img dt dn : List ℕ) (w : Between)
-    → Going occ flags g limit img₀ dt₀ dn₀ w₀ img dt dn w → (ltb (w .rounds) limit && dueAt w) ≡ false → Ended occ flags g limit img₀ dt₀ dn₀ w₀ img dt dn (closedAt w)
+    → Going occ flags g limit img₀ dt₀ dn₀ w₀ img dt dn w → w .tally .faults ≡ 0 → (ltb (w .tally .rounds) limit && dueAt w) ≡ false → Ended occ flags g limit img₀ dt₀ dn₀ w₀ img dt dn (closedAt w)
 unfolding trainOf
-ended-closed occ flags g limit img₀ dt₀ dn₀ w₀ img dt dn w v q =
-    record { kept = λ _. v .kept; is = λ blocking start f was. go (dueAt w) refl blocking start was ∙ v .same blocking start f was }
+ended-closed occ flags g limit img₀ dt₀ dn₀ w₀ img dt dn w v none q =
+    record { kept = λ _. v .kept; faultless = faultless-by (dueAt w); is = λ blocking start f was. go (dueAt w) refl blocking start was ∙ v .same blocking start f was }
   where
+    faultless-by : (b : Bool) → cond b (ranOf (Stops.Refused 12) (w .header) (w .tally)) (ranOf Stops.Ended (w .header) (w .tally)) .tally .faults ≡ 0
+    faultless-by true = none
+    faultless-by false = none
+
     go : (b : Bool) → dueAt w ≡ b → (blocking start : List LinkIdx) (was : Train)
-        → ran-at occ img dt dn was (cond b (ranOf (Stops.Refused 12) (w .header) (w .rounds) (w .strays)) (ranOf Stops.Ended (w .header) (w .rounds) (w .strays))) ≡ roundsAt occ g blocking start limit img dt dn was w
+        → ran-at occ img dt dn was (cond b (ranOf (Stops.Refused 12) (w .header) (w .tally)) (ranOf Stops.Ended (w .header) (w .tally))) ≡ roundsAt occ g blocking start limit img dt dn was w
     go true d blocking start was =
-        let m = ltb-false (w .rounds) limit (first-false (ltb (w .rounds) limit) (ap (λ (t : Bool). ltb (w .rounds) limit && t) (sym d) ∙ q)) in
-        let z : limit - w .rounds ≡ 0 = omega arith in
+        let m = ltb-false (w .tally .rounds) limit (first-false (ltb (w .tally .rounds) limit) (ap (λ (t : Bool). ltb (w .tally .rounds) limit && t) (sym d) ∙ q)) in
+        let z : limit - w .tally .rounds ≡ 0 = omega arith in
         rounds-limit (givenOf g occ blocking start) was (betweenOf img dt dn w) (due-same img dt dn w ∙ d) ∙ ap (λ (n : ℕ). Update.roundsFrom n (givenOf g occ blocking start) was (betweenOf img dt dn w)) (sym z)
-    go false d blocking start was = rounds-end (givenOf g occ blocking start) was (betweenOf img dt dn w) (limit - w .rounds) (due-same img dt dn w ∙ d)
+    go false d blocking start was = rounds-end (givenOf g occ blocking start) was (betweenOf img dt dn w) (limit - w .tally .rounds) (due-same img dt dn w ∙ d)

@@ -19,6 +19,8 @@ use Rattle.free_path.specs.LinkOptType.{linksOnPath, contains, linkIdxPath, lin
 use Rattle.free_path.specs.Validate.{strayLink}
 use Rattle.free_path.specs.declared.link_opt_type.LinkOptType.{LinkOptType}
 use Rattle.free_path.proofs.ColumnLaws.{listed-read}
+use Rattle.tally.specs.Tally.{started}
+use Rattle.tally.specs.declared.Tally.{Tally}
 use Rattle.train_update.specs.State.{withDivNodes}
 use Rattle.train_update.specs.Update as Update
 use Rattle.train_update.specs.Accepted.{Accepted}
@@ -42,12 +44,12 @@ use Rattle.update_free_path.specs.declared.rounds.Stop.the-variants as S
 use Rattle.update_free_path.proofs.RoundsLaws.{strays-are}
 
 -- the status of what the rounds end with
-status-ran : (stop : Stop) (f : Res ℕ) (rounds strays : ℕ) (was t : Train) → ranBy stop f rounds strays was t .status ≡ statusBy stop f
+status-ran : (stop : Stop) (f : Res ℕ) (tally : Tally) (was t : Train) → ranBy stop f tally was t .answer .status ≡ statusBy stop f
 unfolding Update.finish
-status-ran (Stops.Refused c) f rounds strays was t = refl
-status-ran Stops.Blocked f rounds strays was t = refl
-status-ran Stops.Ended (ok n) rounds strays was t = refl
-status-ran Stops.Ended (no n) rounds strays was t = refl
+status-ran (Stops.Refused c) f tally was t = refl
+status-ran Stops.Blocked f tally was t = refl
+status-ran Stops.Ended (ok n) tally was t = refl
+status-ran Stops.Ended (no n) tally was t = refl
 
 module _ (img occ : List ℕ) (h : PathHeader) (b : Begins img occ h) (bytes : Bytes img) (held : (i : ℕ) → getD occ i 0 < 65536) where
   good : Accepted (length occ) (decoded img)
@@ -111,6 +113,7 @@ module _ (img occ : List ℕ) (h : PathHeader) (b : Begins img occ h) (bytes : B
             split-low = omega arith;
             div-low = omega arith;
             few = omega arith;
+            faultless = refl;
           }
 
       module _ (top : ℕ) (l : length occ ≤ top) (blocking flags knowing : List ℕ) (f : flags ≡ flagLinks (listed (h .«path_count») (linkAt col)) (replicate top 0)) (k : knowing ≡ flagLinks (kept (flagged flags) (links blocking)) (replicate top 0)) where
@@ -147,7 +150,7 @@ module _ (img occ : List ℕ) (h : PathHeader) (b : Begins img occ h) (bytes : B
               let z : o .limit - 0 ≡ o .limit = omega arith in
               ap (λ (n : ℕ). Update.roundsFrom n (givenOf begun occ (linkIdxs blocking) first) (decoded img) (betweenOf img dt dn (startAt h s))) z
               ∙ ap (λ (g : Update.Given). Update.roundsFrom (o .limit) g (decoded img) (betweenOf img dt dn (startAt h s))) given-is
-              ∙ ap₂ (λ (t : Train) (n : ℕ). Update.roundsFrom (o .limit) given (decoded img) (record { train = t; «idx_split» = 1; «div_idx_split» = 1; rounds = 0; strays = n })) begin-train strays-is
+              ∙ ap₂ (λ (t : Train) (n : ℕ). Update.roundsFrom (o .limit) given (decoded img) (Update.between t 1 1 (started n))) begin-train strays-is
               ∙ ap (λ (x : Res DispNode). Update.updateFrom x occ (linkIdxs blocking) (o .moved) (o .local) (o .limit) (decoded img)) node-is
 
           pub finished : (img′ dt′ dn′ : List ℕ) (x : Ran) → Ended occ knowing begun (o .limit) img dt dn (startAt h s) img′ dt′ dn′ x → Finished img occ blocking o img′ dt′ dn′ x
@@ -155,7 +158,8 @@ module _ (img occ : List ℕ) (h : PathHeader) (b : Begins img occ h) (bytes : B
               let r = v .is (linkIdxs blocking) first knows (decoded img) in
               record {
                 kept = v .kept;
+                faultless = v .faultless;
                 is = r ∙ begin-is;
                 named = λ n place y.
-                    omega (arith, refused-number (o .limit - 0) (givenOf begun occ (linkIdxs blocking) first) (decoded img) (betweenOf img dt dn (startAt h s)) n place (ap (λ (u : Update.Updated). u .status) (sym r) ∙ status-ran (x .stop) (errorsOf img′ occ (x .header)) (x .rounds) (x .strays) (decoded img) (trainOf img′ dt′ dn′ (x .header)) ∙ y) .0);
+                    omega (arith, refused-number (o .limit - 0) (givenOf begun occ (linkIdxs blocking) first) (decoded img) (betweenOf img dt dn (startAt h s)) n place (ap (λ (u : Update.Updated). u .answer .status) (sym r) ∙ status-ran (x .stop) (errorsOf img′ occ (x .header)) (x .tally) (decoded img) (trainOf img′ dt′ dn′ (x .header)) ∙ y) .0);
               }

@@ -1,5 +1,5 @@
 -- The answer of an update over the bytes of an image, and what its loop over rounds begins with, keeps and answers. Assumes nothing.
-use Prim.Native.Nat.{ℕ, _+_, _*_, _-_, _≤_, _<_}
+use Prim.Native.Nat.{ℕ, _+_, _*_, _-_, _^_, _≤_, _<_}
 use mathlib.Core.Path.{_≡_}
 use mathlib.Core.Bool.{Bool, true, false, cond}
 use mathlib.Core.List.{List}
@@ -27,6 +27,8 @@ use Rattle.round.specs.declared.Given.{Given}
 use Rattle.round.specs.declared.End.{End}
 use Rattle.round.specs.declared.End.the-variants as Ends
 use Rattle.round.specs.declared.RoundEnd.{RoundEnd}
+use Rattle.tally.specs.Tally.{started, counted}
+use Rattle.tally.specs.declared.Tally.{Tally}
 use Rattle.update_free_path.specs.declared.rounds.Between.{Between}
 use Rattle.update_free_path.specs.declared.rounds.Ran.{Ran}
 use Rattle.update_free_path.specs.declared.rounds.Stop.{Stop}
@@ -44,9 +46,12 @@ statusOf Blocked = Update.Blocked
 statusOf (Faulty n) = Update.Faulty n
 statusOf (Refused r) = Update.Refused (r .number) (r .place)
 
+abbrev pub answerOf : Updated → Update.Answer
+answerOf x = Update.answerOf (statusOf (x .status)) (x .tally)
+
 -- with the image that is left
 abbrev pub updatedOf : Updated → List ℕ → UpdatedImage
-updatedOf x img = record { status = statusOf (x .status); rounds = x .rounds; strays = x .strays; image = img }
+updatedOf x img = record { answer = answerOf x; image = img }
 
 abbrev pub isRefusal : Status → Bool
 isRefusal Success = false
@@ -71,10 +76,10 @@ statusBy Stops.Blocked f = Update.Blocked
 statusBy Stops.Ended f = judgedBy f
 
 -- the same with the train t that is left, was being the train before the update
-abbrev pub ranBy : Stop → Res ℕ → ℕ → ℕ → Train → Train → Update.Updated
-ranBy (Stops.Refused c) f rounds strays was t = Update.refused c rounds strays was
-ranBy Stops.Blocked f rounds strays was t = Update.answered Update.Blocked rounds strays t
-ranBy Stops.Ended f rounds strays was t = Update.finish f rounds strays was t
+abbrev pub ranBy : Stop → Res ℕ → Tally → Train → Train → Update.Updated
+ranBy (Stops.Refused c) f tally was t = Update.refused c tally was
+ranBy Stops.Blocked f tally was t = Update.answered Update.Blocked tally t
+ranBy Stops.Ended f tally was t = Update.finish f tally was t
 
 abbrev pub isRefused : Stop → Bool
 isRefused (Stops.Refused c) = true
@@ -88,7 +93,7 @@ Named s f = (n place : ℕ) → statusBy s f ≡ Update.Refused n place → n < 
 -- ---- the loop over rounds
 
 abbrev pub betweenOf : List ℕ → List ℕ → List ℕ → Between → Update.Between
-betweenOf img dt dn w = record { train = trainOf img dt dn (w .header); «idx_split» = w .split; «div_idx_split» = w .«div_split»; rounds = w .rounds; strays = w .strays }
+betweenOf img dt dn w = Update.between (trainOf img dt dn (w .header)) (w .split) (w .«div_split») (w .tally)
 
 abbrev pub dueAt : Between → Bool
 dueAt w = ltb (w .split) (w .header .«path_count»)
@@ -100,23 +105,29 @@ isLast Ends.AtEnd = true
 isLast Ends.Blocked = true
 isLast Ends.Again = false
 
-abbrev pub ranOf : Stop → PathHeader → ℕ → ℕ → Ran
-ranOf stop h rounds strays = record { stop = stop; header = h; rounds = rounds; strays = strays }
+abbrev pub ranOf : Stop → PathHeader → Tally → Ran
+ranOf stop h tally = record { stop = stop; header = h; tally = tally }
 
--- by the end of the last round, s being the strays of its path
-abbrev pub stoppedBy : End → PathHeader → ℕ → ℕ → ℕ → Ran
-stoppedBy (Ends.Refused c) h rounds strays s = ranOf (Stops.Refused c) h rounds strays
-stoppedBy Ends.AtEnd h rounds strays s = ranOf Stops.Ended h rounds (strays + s)
-stoppedBy Ends.Blocked h rounds strays s = ranOf Stops.Blocked h rounds strays
-stoppedBy Ends.Again h rounds strays s = ranOf Stops.Ended h rounds strays
+-- by the end of the last round, before which the tally was t, s being the strays of its path
+abbrev pub stoppedBy : End → PathHeader → Tally → ℕ → Ran
+stoppedBy (Ends.Refused c) h t s = ranOf (Stops.Refused c) h (counted t 0)
+stoppedBy Ends.AtEnd h t s = ranOf Stops.Ended h (counted t s)
+stoppedBy Ends.Blocked h t s = ranOf Stops.Blocked h (counted t 0)
+stoppedBy Ends.Again h t s = ranOf Stops.Ended h (counted t 0)
 
 -- after a round that another may follow, s being the strays of the path that it left
 abbrev pub nextOf : Between → RoundEnd → ℕ → Between
-nextOf w x s = record { header = x .header; split = x .split; «div_split» = x .«div_split»; rounds = w .rounds + 1; strays = w .strays + s }
+nextOf w x s = record { header = x .header; split = x .split; «div_split» = x .«div_split»; tally = counted (w .tally) s }
 
 -- no round follows
 abbrev pub closedAt : Between → Ran
-closedAt w = cond (dueAt w) (ranOf (Stops.Refused 12) (w .header) (w .rounds) (w .strays)) (ranOf Stops.Ended (w .header) (w .rounds) (w .strays))
+closedAt w = cond (dueAt w) (ranOf (Stops.Refused 12) (w .header) (w .tally)) (ranOf Stops.Ended (w .header) (w .tally))
+
+-- one more round and these strays fit the tally, in which no fault is counted before the rounds have ended
+pub record Counting (t : Tally) (s : ℕ) : Type 0 where
+  pub rounds : t .rounds + 1 < 2 ^ 16
+  pub strays : t .strays + s < 2 ^ 64
+  pub faultless : t .faults ≡ 0
 
 -- the flags are those of the known links
 abbrev pub Known : List ℕ → List LinkIdx → List LinkIdx → Type 0
@@ -142,11 +153,12 @@ pub record Top (occ img col on dt dn : List ℕ) (w : Between) : Type 0 where
   pub column : listed (w .header .«path_count») (linkAt col) ≡ linkIdxPath (pathOf img (w .header .«path_count»))
   pub split-low : 1 ≤ w .split
   pub div-low : 1 ≤ w .«div_split»
-  pub few : w .strays ≤ 512 * (w .rounds + 1)
+  pub few : w .tally .strays ≤ 512 * (w .tally .rounds + 1)
+  pub faultless : w .tally .faults ≡ 0
 
 -- the answer of the loop over rounds from w on
 abbrev pub roundsAt : List ℕ → Given → List LinkIdx → List LinkIdx → ℕ → List ℕ → List ℕ → List ℕ → Train → Between → Update.Updated
-roundsAt occ g blocking start limit img dt dn was w = Update.roundsFrom (limit - w .rounds) (givenOf g occ blocking start) was (betweenOf img dt dn w)
+roundsAt occ g blocking start limit img dt dn was w = Update.roundsFrom (limit - w .tally .rounds) (givenOf g occ blocking start) was (betweenOf img dt dn w)
 
 -- the loop stands at w and began at w₀
 pub record Going (occ flags : List ℕ) (g : Given) (limit : ℕ) (img₀ dt₀ dn₀ : List ℕ) (w₀ : Between) (img dt dn : List ℕ) (w : Between) : Type 0 where
@@ -156,13 +168,14 @@ pub record Going (occ flags : List ℕ) (g : Given) (limit : ℕ) (img₀ dt₀ 
 -- the loop has ended with x: the answer, and an image in which a train can be stored
 pub record Ended (occ flags : List ℕ) (g : Given) (limit : ℕ) (img₀ dt₀ dn₀ : List ℕ) (w₀ : Between) (img dt dn : List ℕ) (x : Ran) : Type 0 where
   pub kept : isRefused (x .stop) ≡ false → Kept img img₀
+  pub faultless : x .tally .faults ≡ 0
   pub is : (blocking start : List LinkIdx) → Known flags blocking start → (was : Train)
-      → ranBy (x .stop) (errorsOf img occ (x .header)) (x .rounds) (x .strays) was (trainOf img dt dn (x .header)) ≡ roundsAt occ g blocking start limit img₀ dt₀ dn₀ was w₀
+      → ranBy (x .stop) (errorsOf img occ (x .header)) (x .tally) was (trainOf img dt dn (x .header)) ≡ roundsAt occ g blocking start limit img₀ dt₀ dn₀ was w₀
 
 -- ---- the first round
 
 abbrev pub startAt : PathHeader → ℕ → Between
-startAt h s = record { header = h; split = 1; «div_split» = 1; rounds = 0; strays = s }
+startAt h s = record { header = h; split = 1; «div_split» = 1; tally = started s }
 
 -- what an update does not change, flags being those of the links on the path, and free the first node of the free path
 abbrev pub givenAt : List ℕ → List ℕ → List ℕ → Order → ℕ → Given
@@ -195,5 +208,6 @@ updateOf img occ blocking o = Update.updateFreePath occ (linkIdxs blocking) (o .
 -- its rounds have ended with x
 pub record Finished (img₀ occ blocking : List ℕ) (o : Order) (img dt dn : List ℕ) (x : Ran) : Type 0 where
   pub kept : isRefused (x .stop) ≡ false → Kept img img₀
-  pub is : ranBy (x .stop) (errorsOf img occ (x .header)) (x .rounds) (x .strays) (decoded img₀) (trainOf img dt dn (x .header)) ≡ updateOf img₀ occ blocking o
+  pub faultless : x .tally .faults ≡ 0
+  pub is : ranBy (x .stop) (errorsOf img occ (x .header)) (x .tally) (decoded img₀) (trainOf img dt dn (x .header)) ≡ updateOf img₀ occ blocking o
   pub named : Named (x .stop) (errorsOf img occ (x .header))

@@ -4,6 +4,8 @@ use crate::rounds::Stop;
 use image::codec::PathHeader;
 use image_store;
 use link_rules::refusal::Refusal;
+use tally;
+use tally::Tally;
 use validate;
 use validate::Errors;
 ghost use mathlib.Core.Path.{_≡_};
@@ -27,8 +29,7 @@ pub enum Status {
 
 pub struct Updated {
     pub status: Status,
-    pub rounds: u16,
-    pub strays: u64,
+    pub tally: Tally,
 }
 
 fn refusal(number: u16, place: u16) -> Status
@@ -40,14 +41,13 @@ fn refusal(number: u16, place: u16) -> Status
     })
 }
 
-// Refused before the first round.
+// Refused before anything is counted.
 pub(crate) fn refused(number: u16, place: u16) -> Updated
     ensures { λ r. ⌜ ((img : List ℕ) → updatedOf r img ≡ refusedAnswer number place img) ⌝ }
 {
     Updated {
         status: refusal(number, place),
-        rounds: 0,
-        strays: 0,
+        tally: tally::started(0),
     }
 }
 
@@ -87,6 +87,18 @@ fn is_refusal(s: Status) -> bool
     }
 }
 
+// The errors that a status tells.
+fn faults_in(s: Status) -> u64
+    ensures { λ r. ⌜ r ≡ Update.faultsIn (statusOf s) ⌝ }
+{
+    match s {
+        Status::Success => 0,
+        Status::Blocked => 0,
+        Status::Faulty(n) => n,
+        Status::Refused(r) => 0,
+    }
+}
+
 // The train goes to the image unless the update is refused.
 fn leave(image: &mut [u8], img: &[u8], s: Status, h: PathHeader, dt: &[u16], dn: &[u16])
     requires { ⌜ (isRefusal s ≡ false → (estCount (now image) ≡ estCount (now img)) × (divergeRoom (now image) ≡ divergeRoom (now img))) ⌝ }
@@ -107,16 +119,16 @@ pub(crate) fn answered(
     dt: &[u16],
     dn: &[u16],
 ) -> Updated
-    requires { ⌜ Named (r .stop) (errorsOf (now img) (now occ) (r .header)) × (isRefused (r .stop) ≡ false → (estCount (now image) ≡ estCount (now img)) × (divergeRoom (now image) ≡ divergeRoom (now img))) ⌝ }
-    ensures { λ x. ⌜ ((was : Train) → updatedOf x (now (image .exit)) ≡ storedAnswer (ranBy (r .stop) (errorsOf (now (img .entry)) (now (occ .entry)) (r .header)) (r .rounds) (r .strays) was (trainOf (now (img .entry)) (now (dt .entry)) (now (dn .entry)) (r .header))) (now (image .entry))) ⌝ }
+    requires { ⌜ Named (r .stop) (errorsOf (now img) (now occ) (r .header)) × (r .tally .faults ≡ 0) × (isRefused (r .stop) ≡ false → (estCount (now image) ≡ estCount (now img)) × (divergeRoom (now image) ≡ divergeRoom (now img))) ⌝ }
+    ensures { λ x. ⌜ ((was : Train) → updatedOf x (now (image .exit)) ≡ storedAnswer (ranBy (r .stop) (errorsOf (now (img .entry)) (now (occ .entry)) (r .header)) (r .tally) was (trainOf (now (img .entry)) (now (dt .entry)) (now (dn .entry)) (r .header))) (now (image .entry))) ⌝ }
 {
     let stop = r.stop;
     let h = r.header;
     let s = status_by(img, occ, stop, h);
+    let t = r.tally;
     leave(image, img, s, h, dt, dn);
     Updated {
         status: s,
-        rounds: r.rounds,
-        strays: r.strays as u64,
+        tally: tally::faulted(t, faults_in(s)),
     }
 }

@@ -10,7 +10,7 @@ use tally;
 use tally::Tally;
 ghost use mathlib.Core.Path.{_≡_};
 ghost use mathlib.Core.Bool.{_&&_};
-ghost use Prim.Native.Nat.{ℕ, _+_, _^_, _≤_, _<_};
+ghost use Prim.Native.Nat.{ℕ, _≤_, _<_};
 ghost use lib.Dec.{ltb};
 ghost use lib.ListN.{length, drop};
 ghost use Rattle.disp_structs.specs.Listed.{listed};
@@ -20,15 +20,15 @@ ghost use Rattle.free_path.specs.Columns.{linkAt, flagged};
 ghost use Rattle.free_path.specs.LinkOptType.{linkIdxPath};
 ghost use Rattle.free_path.specs.Validate.{strayLink};
 ghost use Rattle.search.specs.Read.{pathOf, Marked};
-ghost use Rattle.update_free_path.specs.Updates.{dueAt, isLast, ranOf, stoppedBy, nextOf, closedAt, Sizes, Top, Ended};
+ghost use Rattle.tally.specs.Tally.{counted};
+ghost use Rattle.update_free_path.specs.Updates.{dueAt, isLast, ranOf, stoppedBy, nextOf, closedAt, Counting, Sizes, Top, Ended};
 
 // Between two rounds: the header's numbers, idx_split and div_idx_split, and document 01's tally.
 pub struct Between {
     pub header: PathHeader,
     pub split: usize,
     pub div_split: usize,
-    pub rounds: u16,
-    pub strays: usize,
+    pub tally: Tally,
 }
 
 // How the loop stops: refused by a number, blocked, or with a path to validate.
@@ -41,8 +41,7 @@ pub enum Stop {
 pub struct Ran {
     pub stop: Stop,
     pub header: PathHeader,
-    pub rounds: u16,
-    pub strays: usize,
+    pub tally: Tally,
 }
 
 // Is another round due?
@@ -53,9 +52,9 @@ fn is_due(w: Between) -> bool
 }
 
 fn goes_on(w: Between, limit: u16) -> bool
-    ensures { λ r. ⌜ r ≡ (ltb (w .rounds) limit && dueAt w) ⌝ }
+    ensures { λ r. ⌜ r ≡ (ltb (w .tally .rounds) limit && dueAt w) ⌝ }
 {
-    if w.rounds < limit {
+    if w.tally.rounds < limit {
         return is_due(w);
     }
     false
@@ -73,57 +72,50 @@ fn is_last(end: End) -> bool
     }
 }
 
-fn ran_with(stop: Stop, h: PathHeader, rounds: u16, strays: usize) -> Ran
-    ensures { λ r. ⌜ r ≡ ranOf stop h rounds strays ⌝ }
+fn ran_with(stop: Stop, h: PathHeader, t: Tally) -> Ran
+    ensures { λ r. ⌜ r ≡ ranOf stop h t ⌝ }
 {
     Ran {
         stop: stop,
         header: h,
-        rounds: rounds,
-        strays: strays,
+        tally: t,
     }
 }
 
-// The tally with one more round. The strays are those of a path; faults are found once no round follows, by the validation.
-fn tallied(w: Between, strays: usize) -> Tally
-    requires { ⌜ (w .rounds + 1 < 2 ^ 16) × (w .strays + strays < 2 ^ 64) ⌝ }
-    ensures { λ r. ⌜ (r .rounds ≡ w .rounds + 1) × (r .strays ≡ w .strays + strays) ⌝ }
+// The tally with one more round. The strays are those of a path; faults are counted once no round follows.
+fn tallied(t: Tally, strays: usize) -> Tally
+    requires { ⌜ Counting t strays ⌝ }
+    ensures { λ r. ⌜ r ≡ counted t strays ⌝ }
 {
-    let t = Tally {
-        rounds: w.rounds,
-        strays: w.strays as u64,
-        faults: 0,
-    };
     tally::counted(t, strays as u64, 0)
 }
 
 // A round has ended and no other follows; strays are those of its path.
 fn stopped(w: Between, end: End, h: PathHeader, strays: usize) -> Ran
-    requires { ⌜ (w .rounds + 1 < 2 ^ 16) × (w .strays + strays < 2 ^ 64) ⌝ }
-    ensures { λ r. ⌜ r ≡ stoppedBy end h (w .rounds + 1) (w .strays) strays ⌝ }
+    requires { ⌜ Counting (w .tally) strays ⌝ }
+    ensures { λ r. ⌜ r ≡ stoppedBy end h (w .tally) strays ⌝ }
 {
-    let t = tallied(w, strays);
+    let t = w.tally;
     match end {
-        End::Refused(c) => ran_with(Stop::Refused(c), h, t.rounds, w.strays),
-        End::AtEnd => ran_with(Stop::Ended, h, t.rounds, t.strays as usize),
-        End::Blocked => ran_with(Stop::Blocked, h, t.rounds, w.strays),
-        End::Again => ran_with(Stop::Ended, h, t.rounds, w.strays),
+        End::Refused(c) => ran_with(Stop::Refused(c), h, tallied(t, 0)),
+        End::AtEnd => ran_with(Stop::Ended, h, tallied(t, strays)),
+        End::Blocked => ran_with(Stop::Blocked, h, tallied(t, 0)),
+        End::Again => ran_with(Stop::Ended, h, tallied(t, 0)),
     }
 }
 
 // A round has ended and another may follow; strays are those of the path that it left.
 fn next(w: Between, x: RoundEnd, strays: usize) -> Between
-    requires { ⌜ (w .rounds + 1 < 2 ^ 16) × (w .strays + strays < 2 ^ 64) ⌝ }
+    requires { ⌜ Counting (w .tally) strays ⌝ }
     ensures { λ r. ⌜ r ≡ nextOf w x strays ⌝ }
 {
     let h = x.header;
-    let t = tallied(w, strays);
+    let t = w.tally;
     Between {
         header: h,
         split: x.split,
         div_split: x.div_split,
-        rounds: t.rounds,
-        strays: t.strays as usize,
+        tally: tallied(t, strays),
     }
 }
 
@@ -132,10 +124,11 @@ fn closed(w: Between) -> Ran
     ensures { λ r. ⌜ r ≡ closedAt w ⌝ }
 {
     let h = w.header;
+    let t = w.tally;
     if is_due(w) {
-        return ran_with(Stop::Refused(12), h, w.rounds, w.strays);
+        return ran_with(Stop::Refused(12), h, t);
     }
-    ran_with(Stop::Ended, h, w.rounds, w.strays)
+    ran_with(Stop::Ended, h, t)
 }
 
 // The strays of the path of which col is link_idx_path.

@@ -7,6 +7,7 @@ use free_path::link_opt_type::LinkOptType;
 use image::codec::PathHeader;
 use link_rules::link_idx::TrainIdx;
 use round::Given;
+use tally;
 use update_call;
 ghost use mathlib.Core.Path.{_≡_};
 ghost use Prim.Native.Nat.{_≤_};
@@ -53,8 +54,7 @@ fn start_of(h: PathHeader, strays: usize) -> Between
         header: h,
         split: 1,
         div_split: 1,
-        rounds: 0,
-        strays: strays,
+        tally: tally::started(strays as u64),
     }
 }
 

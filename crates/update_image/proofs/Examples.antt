@@ -16,7 +16,7 @@ use Rattle.free_path.specs.Validate.{isStray, strays, stepsNext, badStep, badSt
 use Rattle.image.specs.Image.{typeOf, pathHeader, estFrom, nodeFrom, divergeFrom, putNode, putDiverge, zeroWords, putPathHeader}
 use Rattle.image.specs.Codec.{decoded, putEach, putRecords, storedInto}
 use Rattle.image_fault.specs.ImageFault.{firstUnfit, countsFit, partsFit, trainFits, estTypeFits, nodeTypeFits, zeroWord, unusedZero, recordsFit, imageFits, floatFits, timeFits, distFits, eventFits, estLinksFit, estFits, nodeFits, indicesFit, headerFits, valueFault, cycleFault, stepsTo as steps, comesFrom, endsAt, arrivesOn, arrived, firstArrival, onRoute, innerFits, divergeFits, routeFault, imageFault}
-use Rattle.train_update.specs.Update.{Success, Faulty, splitPoint, roundOf, finish, afterRound, roundsFrom, adjustSentinel, updateFreePath}
+use Rattle.train_update.specs.Update.{Success, Faulty, answerOf, splitPoint, roundOf, finish, afterRound, roundsFrom, adjustSentinel, updateFreePath}
 use Rattle.update_image.specs.UpdateImage.{linksBelow, callFault, refusedAnswer, updateFault, updatedImage}
 
 -- numbers of 4 bytes
@@ -43,12 +43,12 @@ unfolding ofBits toBits add sub div neg lt le eq ne leAt putLe allBelow occupied
 everything = 0
 
 -- the update of the sheet example: train 2 moved, nothing held, one round; the last diverge node gets train 2
-success : updatedImage (slot 0 196608) (0 ∷ 0 ∷ 0 ∷ []) [] 2 false 1 ≡ record { status = Success; rounds = 1; strays = 0; image = slot 0 196610 }
+success : updatedImage (slot 0 196608) (0 ∷ 0 ∷ 0 ∷ []) [] 2 false 1 ≡ record { answer = answerOf Success (record { rounds = 1; strays = 0; faults = 0 }); image = slot 0 196610 }
 unfolding everything
 success = refl
 
 -- link 1 is held and not in the blocking list: one error, and a stray before the round and after it
-faulty : updatedImage (slot 0 196608) (0 ∷ 9 ∷ 0 ∷ []) [] 2 false 1 ≡ record { status = Faulty 1; rounds = 1; strays = 2; image = slot 0 196610 }
+faulty : updatedImage (slot 0 196608) (0 ∷ 9 ∷ 0 ∷ []) [] 2 false 1 ≡ record { answer = answerOf (Faulty 1) (record { rounds = 1; strays = 2; faults = 1 }); image = slot 0 196610 }
 unfolding everything
 faulty = refl
 

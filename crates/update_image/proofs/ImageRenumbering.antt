@@ -113,14 +113,14 @@ call-below occ blocking moved limit h =
 -- ---- the answers
 
 module _ (p q : ℕ → ℕ) (img img′ : List ℕ) (m : ImagesMatch p q img img′) where
-  answers-match : (k place : ℕ) (u u′ : Updated) → (k ≡ 0 → answerBy k place u img .strays ≡ 0 → UpdatesMatch p q (storedAnswer u img) (storedAnswer u′ img′)) → answerBy k place u img .strays ≡ 0
+  answers-match : (k place : ℕ) (u u′ : Updated) → (k ≡ 0 → answerBy k place u img .answer .tally .strays ≡ 0 → UpdatesMatch p q (storedAnswer u img) (storedAnswer u′ img′)) → answerBy k place u img .answer .tally .strays ≡ 0
       → UpdatesMatch p q (answerBy k place u img) (answerBy k place u′ img′)
   answers-match zero place u u′ h s = h refl s
-  answers-match (suc k) place u u′ h s = record { status = refl; rounds = refl; strays = refl; images = m }
+  answers-match (suc k) place u u′ h s = record { answer = refl; images = m }
 
   refusals-match : (k place : ℕ) (u u′ : Updated) → (k ≡ 0 → ⊥) → UpdatesMatch p q (answerBy k place u img) (answerBy k place u′ img′)
   refusals-match zero place u u′ h = absurd (h refl)
-  refusals-match (suc k) place u u′ h = record { status = refl; rounds = refl; strays = refl; images = m }
+  refusals-match (suc k) place u u′ h = record { answer = refl; images = m }
 
 module _ (p q : ℕ → ℕ) (occ occ′ blocking blocking′ : List ℕ) (c : CallsMatch p q occ occ′ blocking blocking′) (moved : ℕ) (local : Bool) (limit : ℕ)
     (img img′ : List ℕ) (m : ImagesMatch p q img img′) where
@@ -168,7 +168,7 @@ module _ (p q : ℕ → ℕ) (occ occ′ blocking blocking′ : List ℕ) (c : C
             zero-empty = z;
           }
 
-      renumbered : u .strays ≡ 0 → u′ ≡ rUpdated p q u
+      renumbered : u .answer .tally .strays ≡ 0 → u′ ≡ rUpdated p q u
       renumbered s =
           ap (updateFreePath occ′ (linkIdxs blocking′) (record { 0 = q moved }) local limit) (state-match p q L (c .lastTrain) (c .links) (c .trains) (c .fewTrains) img img′ m b b′ (passes .1))
           ∙ update-renumbered p q occ occ′ (linkIdxs blocking) (linkIdxs blocking′) two (record { 0 = moved }) local limit (decoded img) s
@@ -182,15 +182,15 @@ module _ (p q : ℕ → ℕ) (occ occ′ blocking blocking′ : List ℕ) (c : C
       images-left (Faulty n) t k = stored t k
       images-left (Refused n i) t k = m
 
-      stored-answers : u .strays ≡ 0 → UpdatesMatch p q (storedAnswer u img) (storedAnswer u′ img′)
+      stored-answers : u .answer .tally .strays ≡ 0 → UpdatesMatch p q (storedAnswer u img) (storedAnswer u′ img′)
       stored-answers s =
           subst (λ (x : Updated). UpdatesMatch p q (storedAnswer u img) (storedAnswer x img′)) (sym (renumbered s))
-          (record { status = refl; rounds = refl; strays = refl; images = images-left (u .status) (u .train) (leaves img L b (passes .1) occ blocking moved local limit w few) })
+          (record { answer = refl; images = images-left (u .answer .status) (u .train) (leaves img L b (passes .1) occ blocking moved local limit w few) })
 
     -- the theorem: where the first update counts no stray and entry 0 of the occupancy is empty
-    pub update-match : updatedImage img occ blocking moved local limit .strays ≡ 0
+    pub update-match : updatedImage img occ blocking moved local limit .answer .tally .strays ≡ 0
         → UpdatesMatch p q (updatedImage img occ blocking moved local limit) (updatedImage img′ occ′ blocking′ (q moved) local limit)
     unfolding updatedImage
     update-match s =
         subst (λ (x : Fault). UpdatesMatch p q (answerBy (f .number) (f .place) u img) (answerBy (x .number) (x .place) u′ img′)) (sym same-fault)
-        (answers-match p q img img′ m (f .number) (f .place) u u′ (λ e r. stored-answers e (subst (λ (k : ℕ). answerBy k (f .place) u img .strays ≡ 0) e r)) s)
+        (answers-match p q img img′ m (f .number) (f .place) u u′ (λ e r. stored-answers e (subst (λ (k : ℕ). answerBy k (f .place) u img .answer .tally .strays ≡ 0) e r)) s)

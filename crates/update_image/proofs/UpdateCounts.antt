@@ -2,7 +2,7 @@
 use mathlib.Core.Path.{_≡_, refl, subst}
 use mathlib.Core.Bool.{Bool}
 use mathlib.Core.List.{List}
-use Prim.Native.Nat.{ℕ, zero, suc, _+_, _*_, _≤_}
+use Prim.Native.Nat.{ℕ, zero, suc}
 use native.Mathlib.Omega.{arith}
 use lib.ListN.{length}
 use Rattle.link_rules.proofs.OctetLaws.{Bytes}
@@ -10,21 +10,15 @@ use Rattle.image.specs.Codec.{decoded}
 use Rattle.image_fault.specs.ImageFault.{imageFault}
 use Rattle.image_fault.proofs.AcceptLaws.{or-else-clean}
 use Rattle.train_update.specs.Update.{Updated, updateFreePath}
-use Rattle.update_laws.proofs.Tally.{StatusFew, Counts, update-counts}
-use Rattle.update_image.specs.UpdateImage.{UpdatedImage, callFault, answerBy, linkIdxs, updateFault, updatedImage}
+use Rattle.update_laws.proofs.Tally.{Counts, update-counts}
+use Rattle.update_image.specs.UpdateImage.{callFault, answerBy, linkIdxs, updateFault, updatedImage}
 use Rattle.update_image.proofs.BytesAccepted.{bytes-accepted}
 
--- at most as many rounds as the limit, 512 strays at the start and after each round, 1,024 errors
-pub record ImageCounts (limit : ℕ) (u : UpdatedImage) : Type 0 where
-  pub rounds : u .rounds ≤ limit
-  pub strays : u .strays ≤ 512 * (limit + 1)
-  pub errors : StatusFew (u .status)
-
-answer-counts : (limit k place : ℕ) (u : Updated) (img : List ℕ) → (k ≡ 0 → Counts limit u) → ImageCounts limit (answerBy k place u img)
-answer-counts limit zero place u img h = let c = h refl in record { rounds = c .rounds; strays = c .strays; errors = c .errors }
+answer-counts : (limit k place : ℕ) (u : Updated) (img : List ℕ) → (k ≡ 0 → Counts limit (u .answer)) → Counts limit (answerBy k place u img .answer)
+answer-counts limit zero place u img h = h refl
 answer-counts limit (suc k) place u img h = record { rounds = omega arith; strays = omega arith; errors = tt }
 
-pub image-counts : (img occ blocking : List ℕ) (moved : ℕ) (local : Bool) (limit : ℕ) → Bytes img → ImageCounts limit (updatedImage img occ blocking moved local limit)
+pub image-counts : (img occ blocking : List ℕ) (moved : ℕ) (local : Bool) (limit : ℕ) → Bytes img → Counts limit (updatedImage img occ blocking moved local limit .answer)
 unfolding updatedImage updateFault
 image-counts img occ blocking moved local limit b =
     let f = updateFault img occ blocking moved limit in

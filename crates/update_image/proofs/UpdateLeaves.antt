@@ -24,7 +24,7 @@ Trains16 occ = (i : ℕ) → getD occ i 0 < 65536
 
 -- ---- by the answer
 
-answer-leaves : (k place : ℕ) (u : Updated) (img : List ℕ) (n i : ℕ) → answerBy k place u img .status ≡ Refused n i → answerBy k place u img .image ≡ img
+answer-leaves : (k place : ℕ) (u : Updated) (img : List ℕ) (n i : ℕ) → answerBy k place u img .answer .status ≡ Refused n i → answerBy k place u img .image ≡ img
 answer-leaves zero place u img n i e = ap (λ (s : Status). leftImage s (u .train) img) e
 answer-leaves (suc k) place u img n i e = refl
 
@@ -41,11 +41,11 @@ left-bytes (Faulty n) t img b = bytes-stored t img b
 left-bytes (Refused n i) t img b = b
 
 answer-length : (k place : ℕ) (u : Updated) (img : List ℕ) → length (answerBy k place u img .image) ≡ length img
-answer-length zero place u img = left-length (u .status) (u .train) img
+answer-length zero place u img = left-length (u .answer .status) (u .train) img
 answer-length (suc k) place u img = refl
 
 answer-bytes : (k place : ℕ) (u : Updated) (img : List ℕ) → Bytes img → Bytes (answerBy k place u img .image)
-answer-bytes zero place u img b = left-bytes (u .status) (u .train) img b
+answer-bytes zero place u img b = left-bytes (u .answer .status) (u .train) img b
 answer-bytes (suc k) place u img b = b
 
 -- ---- the train that an update of an accepted image leaves
@@ -67,13 +67,13 @@ module _ (img : List ℕ) (l : ℕ) (b : Bytes img) (h : imageFault img l .numbe
   left-passes (Refused n i) u w = (h, sym w)
 
   pub leaves : (occ : List ℕ) (blocking : List ℕ) (moved : ℕ) (local : Bool) (limit : ℕ) → Trains16 occ → moved < 65536
-      → Leaves (StaysFit l 65536 (decoded img)) (decoded img) (updateFreePath occ (linkIdxs blocking) (record { 0 = moved }) local limit (decoded img) .status) (updateFreePath occ (linkIdxs blocking) (record { 0 = moved }) local limit (decoded img) .train)
+      → Leaves (StaysFit l 65536 (decoded img)) (decoded img) (updateFreePath occ (linkIdxs blocking) (record { 0 = moved }) local limit (decoded img) .answer .status) (updateFreePath occ (linkIdxs blocking) (record { 0 = moved }) local limit (decoded img) .train)
   leaves occ blocking moved local limit w m =
       let a = bytes-accepted img l b h in
       update-fits l 65536 occ (linkIdxs blocking) (record { 0 = moved }) local limit (decoded img) (a .0) (a .1) m (λ x. w (x .0))
 
-  answer-passes : (k place : ℕ) (u : Updated) → Leaves (StaysFit l 65536 (decoded img)) (decoded img) (u .status) (u .train) → imageFault (answerBy k place u img .image) l .number ≡ 0
-  answer-passes zero place u w = left-passes (u .status) (u .train) w .0
+  answer-passes : (k place : ℕ) (u : Updated) → Leaves (StaysFit l 65536 (decoded img)) (decoded img) (u .answer .status) (u .train) → imageFault (answerBy k place u img .image) l .number ≡ 0
+  answer-passes zero place u w = left-passes (u .answer .status) (u .train) w .0
   answer-passes (suc k) place u w = h
 
 -- ---- the call
@@ -83,7 +83,7 @@ module _ (img occ blocking : List ℕ) (moved : ℕ) (local : Bool) (limit : ℕ
   after = updatedImage img occ blocking moved local limit
 
   -- a refused update leaves the image
-  pub refused-leaves : (n place : ℕ) → after .status ≡ Refused n place → after .image ≡ img
+  pub refused-leaves : (n place : ℕ) → after .answer .status ≡ Refused n place → after .image ≡ img
   unfolding updatedImage
   refused-leaves n place e = answer-leaves (updateFault img occ blocking moved limit .number) (updateFault img occ blocking moved limit .place) _ img n place e
 
@@ -109,10 +109,10 @@ module _ (img occ blocking : List ℕ) (moved : ℕ) (local : Bool) (limit : ℕ
       let u = updateFreePath occ (linkIdxs blocking) (record { 0 = moved }) local limit (decoded img) in
       let h = Clean.or-else-clean (callFault occ blocking moved limit) (imageFault img (length occ)) e .1 in
       ap (λ (k : ℕ). decoded (answerBy k (updateFault img occ blocking moved limit .place) u img .image)) e
-      ∙ left-passes img (length occ) b h (u .status) (u .train) (leaves img (length occ) b h occ blocking moved local limit w m) .1
+      ∙ left-passes img (length occ) b h (u .answer .status) (u .train) (leaves img (length occ) b h occ blocking moved local limit w m) .1
 
   -- so Success, Blocked and Faulty leave an image that passes 6 to 9
-  pub done-accepted : Bytes img → Trains16 occ → moved < 65536 → ((n place : ℕ) → after .status ≡ Refused n place → ⊥) → imageFault (after .image) (length occ) .number ≡ 0
+  pub done-accepted : Bytes img → Trains16 occ → moved < 65536 → ((n place : ℕ) → after .answer .status ≡ Refused n place → ⊥) → imageFault (after .image) (length occ) .number ≡ 0
   unfolding updatedImage updateFault
   done-accepted b w m done = go (updateFault img occ blocking moved limit .number) refl
     where
@@ -121,4 +121,4 @@ module _ (img occ blocking : List ℕ) (moved : ℕ) (local : Bool) (limit : ℕ
       go (suc k) e =
           let place = updateFault img occ blocking moved limit .place in
           let u = updateFreePath occ (linkIdxs blocking) (record { 0 = moved }) local limit (decoded img) in
-          absurd (done (suc k) place (ap (λ (n : ℕ). answerBy n place u img .status) e))
+          absurd (done (suc k) place (ap (λ (n : ℕ). answerBy n place u img .answer .status) e))

@@ -9,13 +9,12 @@ use Rattle.disp_structs.specs.Train.{Train}
 use Rattle.image.specs.Codec.{decoded, storedInto}
 use Rattle.image_fault.specs.ImageFault.{noFault, refused, orElse, imageFault}
 use Rattle.image_fault.specs.declared.Fault.{Fault}
-use Rattle.train_update.specs.Update.{Status, Success, Blocked, Faulty, Refused, Updated, updateFreePath}
+use Rattle.tally.specs.Tally.{started}
+use Rattle.train_update.specs.Update.{Status, Success, Blocked, Faulty, Refused, Answer, Updated, answerOf, updateFreePath}
 
 -- the answer, and the image that is left
 pub record UpdatedImage : Type 0 where
-  pub status : Status
-  pub rounds : ℕ
-  pub strays : ℕ
+  pub answer : Answer
   pub image : List ℕ
 
 -- ---- refusals 2, 4 and 5
@@ -42,11 +41,11 @@ leftImage (Faulty n) t img = storedInto t img
 leftImage (Refused n place) t img = img
 
 abbrev pub storedAnswer : Updated → List ℕ → UpdatedImage
-storedAnswer u img = record { status = u .status; rounds = u .rounds; strays = u .strays; image = leftImage (u .status) (u .train) img }
+storedAnswer u img = record { answer = u .answer; image = leftImage (u .answer .status) (u .train) img }
 
--- refused before the first round
+-- refused before anything is counted
 abbrev pub refusedAnswer : ℕ → ℕ → List ℕ → UpdatedImage
-refusedAnswer n place img = record { status = Refused n place; rounds = 0; strays = 0; image = img }
+refusedAnswer n place img = record { answer = answerOf (Refused n place) (started 0); image = img }
 
 abbrev pub answerBy : ℕ → ℕ → Updated → List ℕ → UpdatedImage
 answerBy zero place u img = storedAnswer u img

@@ -21,9 +21,7 @@ pub record CallsMatch (p q : ℕ → ℕ) (occ occ′ blocking blocking′ : Lis
   -- the renumbered links, in any order, repeats kept
   pub order : Perm ℕ (map p blocking) blocking′
 
--- the same status with its number and place, rounds and strays; the images that are left match
+-- the same answer, its status with number and place; the images that are left match
 pub record UpdatesMatch (p q : ℕ → ℕ) (a b : UpdatedImage) : Type 0 where
-  pub status : b .status ≡ a .status
-  pub rounds : b .rounds ≡ a .rounds
-  pub strays : b .strays ≡ a .strays
+  pub answer : b .answer ≡ a .answer
   pub images : ImagesMatch p q (a .image) (b .image)

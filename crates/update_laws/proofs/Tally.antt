@@ -11,11 +11,13 @@ use Rattle.link_rules.specs.declared.link_idx.TrainIdx.{TrainIdx}
 use Rattle.disp_structs.specs.Train.{Train}
 use Rattle.disp_structs.specs.declared.EstTime.{EstTime}
 use Rattle.disp_structs.specs.declared.DispNode.{DispNode}
+use Rattle.tally.specs.Tally.{counted}
+use Rattle.tally.specs.declared.Tally.{Tally}
 use Rattle.free_path.specs.Base.{Res, ok, no, need, at, count}
 use Rattle.free_path.specs.Validate.{known, isStray, strays, badStep, badSteps, badPath, inConflict, validateFreePath}
 use Rattle.free_path.specs.LinkOptType.{contains}
 use Rattle.train_update.specs.State.{Ended, atEnd, blockedAt, again}
-use Rattle.train_update.specs.Update.{Given, Status, Success, Blocked, Faulty, Refused, Updated, Between, refused, straysOf, faultsOf, finish, afterRound, due, roundsFrom, roundOf, givenOf, startOf, updateFrom, updateFreePath}
+use Rattle.train_update.specs.Update.{Given, Status, Success, Blocked, Faulty, Refused, Answer, Updated, Between, between, refused, straysOf, faultsOf, finish, afterRound, due, roundsFrom, roundOf, givenOf, startOf, updateFrom, updateFreePath}
 use Rattle.train_update.specs.Accepted.{Accepted}
 use Rattle.update_laws.specs.Ended.{EndsGood}
 use Rattle.update_laws.proofs.Answers.{ok-same, bind-ok, need-ok}
@@ -76,24 +78,25 @@ StatusFew Blocked = Unit {0}
 StatusFew (Faulty k) = k ≤ 1024
 StatusFew (Refused n place) = Unit {0}
 
--- with n rounds left, from these rounds and strays on
-pub record Few (n rounds strays : ℕ) (u : Updated) : Type 0 where
-  pub rounds-most : u .rounds ≤ rounds + n
-  pub strays-most : u .strays ≤ strays + 512 * n
-  pub errors : StatusFew (u .status)
+-- with n rounds left, from this tally on
+pub record Few (n : ℕ) (from : Tally) (a : Answer) : Type 0 where
+  pub rounds-most : a .tally .rounds ≤ from .rounds + n
+  pub strays-most : a .tally .strays ≤ from .strays + 512 * n
+  pub errors : StatusFew (a .status)
 
 module _ (links : ℕ) (g : Given) (was : Train) where
   abbrev Top : Between → Type 0
   Top w = TopGood links was (w .train) (w .«idx_split») (w .«div_idx_split»)
 
-  finish-few : (n rounds strays r s : ℕ) (t : Train) (x : Res ℕ) → ((k : ℕ) → x ≡ ok k → k ≤ 1024) → r ≤ rounds + n → s ≤ strays + 512 * n → Few n rounds strays (finish x r s was t)
+  finish-few : (n : ℕ) (from tally : Tally) (t : Train) (x : Res ℕ) → ((k : ℕ) → x ≡ ok k → k ≤ 1024)
+      → tally .rounds ≤ from .rounds + n → tally .strays ≤ from .strays + 512 * n → Few n from (finish x tally was t .answer)
   unfolding finish
-  finish-few n rounds strays r s t (ok zero) h a b = record { rounds-most = a; strays-most = b; errors = tt }
-  finish-few n rounds strays r s t (ok (suc k)) h a b = record { rounds-most = a; strays-most = b; errors = h (suc k) refl }
-  finish-few n rounds strays r s t (no k) h a b = record { rounds-most = a; strays-most = b; errors = tt }
+  finish-few n from tally t (ok zero) h a b = record { rounds-most = a; strays-most = b; errors = tt }
+  finish-few n from tally t (ok (suc k)) h a b = record { rounds-most = a; strays-most = b; errors = h (suc k) refl }
+  finish-few n from tally t (no k) h a b = record { rounds-most = a; strays-most = b; errors = tt }
 
-  end-few : (n : ℕ) (w : Between) → Top w → Few n (w .rounds) (w .strays) (finish (faultsOf g (w .train)) (w .rounds) (w .strays) was (w .train))
-  end-few n w k = finish-few n (w .rounds) (w .strays) (w .rounds) (w .strays) (w .train) (faultsOf g (w .train)) (faults-few links g (w .train) (k .stays .accepted)) (omega arith) (omega arith)
+  end-few : (n : ℕ) (w : Between) → Top w → Few n (w .tally) (finish (faultsOf g (w .train)) (w .tally) was (w .train) .answer)
+  end-few n w k = finish-few n (w .tally) (w .tally) (w .train) (faultsOf g (w .train)) (faults-few links g (w .train) (k .stays .accepted)) (omega arith) (omega arith)
 
   -- what another round hands on
   abbrev Hands : Ended → Type 0
@@ -101,16 +104,16 @@ module _ (links : ℕ) (g : Given) (was : Train) where
   Hands (blockedAt t) = Unit {0}
   Hands (again t split k) = TopGood links was t split k
 
-  after-few : (n : ℕ) (x : Res Ended) (next : Between → Updated) (w : Between) → Top w → ((e : Ended) → x ≡ ok e → Hands e) → ((y : Between) → Top y → Few n (y .rounds) (y .strays) (next y))
-      → Few (suc n) (w .rounds) (w .strays) (afterRound x next g was w)
+  after-few : (n : ℕ) (x : Res Ended) (next : Between → Updated) (w : Between) → Top w → ((e : Ended) → x ≡ ok e → Hands e) → ((y : Between) → Top y → Few n (y .tally) (next y .answer))
+      → Few (suc n) (w .tally) (afterRound x next g was w .answer)
   unfolding afterRound
   after-few n (no k) next w top f h = record { rounds-most = omega arith; strays-most = omega arith; errors = tt }
   after-few n (ok atEnd) next w top f h =
       let a = top .stays .accepted in
-      finish-few (suc n) (w .rounds) (w .strays) (w .rounds + 1) (w .strays + straysOf g (w .train)) (w .train) (faultsOf g (w .train)) (faults-few links g (w .train) a) (omega arith) (omega (arith, strays-few links g (w .train) a))
+      finish-few (suc n) (w .tally) (counted (w .tally) (straysOf g (w .train))) (w .train) (faultsOf g (w .train)) (faults-few links g (w .train) a) (omega arith) (omega (arith, strays-few links g (w .train) a))
   after-few n (ok (blockedAt t)) next w top f h = record { rounds-most = omega arith; strays-most = omega arith; errors = tt }
   after-few n (ok (again t split k)) next w top f h =
-      let y : Between = record { train = t; «idx_split» = split; «div_idx_split» = k; rounds = w .rounds + 1; strays = w .strays + straysOf g t } in
+      let y = between t split k (counted (w .tally) (straysOf g t)) in
       let z = f (again t split k) refl in
       let r = h y z in
       record { rounds-most = omega (arith, r .rounds-most); strays-most = omega (arith, r .strays-most, strays-few links g t (z .stays .accepted)); errors = r .errors }
@@ -120,32 +123,33 @@ module _ (links : ℕ) (g : Given) (was : Train) where
   round-hands t split k (blockedAt u) w q = tt
   round-hands t split k (again u i d) w q = top-hands links g was t split k (again u i d) w q
 
-  cond-few : (n rounds strays : ℕ) (b : Bool) (u v : Updated) → Few n rounds strays u → Few n rounds strays v → Few n rounds strays (cond b u v)
-  cond-few n rounds strays true u v x y = x
-  cond-few n rounds strays false u v x y = y
+  cond-few : (n : ℕ) (from : Tally) (b : Bool) (u v : Updated) → Few n from (u .answer) → Few n from (v .answer) → Few n from (cond b u v .answer)
+  cond-few n from true u v x y = x
+  cond-few n from false u v x y = y
 
-  rounds-few : (n : ℕ) (w : Between) → Top w → Few n (w .rounds) (w .strays) (roundsFrom n g was w)
+  rounds-few : (n : ℕ) (w : Between) → Top w → Few n (w .tally) (roundsFrom n g was w .answer)
   unfolding roundsFrom
-  rounds-few zero w k = cond-few 0 (w .rounds) (w .strays) (due w) _ _ (record { rounds-most = omega arith; strays-most = omega arith; errors = tt }) (end-few 0 w k)
+  rounds-few zero w k =
+      cond-few 0 (w .tally) (due w) _ _ (record { rounds-most = omega arith; strays-most = omega arith; errors = tt }) (end-few 0 w k)
   rounds-few (suc n) w k =
-      cond-few (suc n) (w .rounds) (w .strays) (due w) _ _
+      cond-few (suc n) (w .tally) (due w) _ _
       (after-few n (roundOf g (w .train) (w .«idx_split») (w .«div_idx_split»)) (λ x. roundsFrom n g was x) w k (λ e q. round-hands (w .train) (w .«idx_split») (w .«div_idx_split») e k q) (λ y j. rounds-few n y j))
       (end-few (suc n) w k)
 
 -- ---- the update
 
 -- at most as many rounds as the limit, 512 strays at the start and after each round, 1,024 errors
-pub record Counts (limit : ℕ) (u : Updated) : Type 0 where
-  pub rounds : u .rounds ≤ limit
-  pub strays : u .strays ≤ 512 * (limit + 1)
-  pub errors : StatusFew (u .status)
+pub record Counts (limit : ℕ) (a : Answer) : Type 0 where
+  pub rounds : a .tally .rounds ≤ limit
+  pub strays : a .tally .strays ≤ 512 * (limit + 1)
+  pub errors : StatusFew (a .status)
 
 pub update-counts : (links : ℕ) (occ : List ℕ) (blocking : List LinkIdx) (moved : TrainIdx) (local : Bool) (limit : ℕ) (t : Train) → Accepted links t
-    → Counts limit (updateFreePath occ blocking moved local limit t)
+    → Counts limit (updateFreePath occ blocking moved local limit t .answer)
 unfolding updateFreePath
 update-counts links occ blocking moved local limit t a = go (at (t .«disp_path») (t .«disp_node_idx_free»))
   where
-    go : (x : Res DispNode) → Counts limit (updateFrom x occ blocking moved local limit t)
+    go : (x : Res DispNode) → Counts limit (updateFrom x occ blocking moved local limit t .answer)
     go (no n) = record { rounds = omega arith; strays = omega arith; errors = tt }
     go (ok n) =
         let v = givenOf occ blocking moved local t n in

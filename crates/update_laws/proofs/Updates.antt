@@ -12,9 +12,11 @@ use Rattle.link_rules.specs.declared.link_idx.TrainIdx.{TrainIdx}
 use Rattle.disp_structs.specs.Train.{Train}
 use Rattle.disp_structs.specs.declared.DispNode.{DispNode}
 use Rattle.disp_structs.specs.declared.DivergeNode.{DivergeNode}
+use Rattle.tally.specs.Tally.{counted}
+use Rattle.tally.specs.declared.Tally.{Tally}
 use Rattle.free_path.specs.Base.{Res, ok, no, at}
 use Rattle.train_update.specs.State.{Ended, atEnd, blockedAt, again, withDivNodes}
-use Rattle.train_update.specs.Update.{Given, Updated, Between, refused, straysOf, faultsOf, finish, afterRound, due, roundsFrom, roundOf, adjustSentinel, givenOf, startOf, updateFrom, updateFreePath, turnLimit}
+use Rattle.train_update.specs.Update.{Given, Updated, Between, between, refused, straysOf, faultsOf, finish, afterRound, due, roundsFrom, roundOf, adjustSentinel, givenOf, startOf, updateFrom, updateFreePath, turnLimit}
 use Rattle.train_update.specs.Accepted.{Each, Accepted, DivsAccepted}
 use Rattle.train_update.specs.Fits.{NodeFits, Fits}
 use Rattle.update_laws.specs.Ended.{SameTrip, StaysAccepted, EndsGood, Leaves}
@@ -83,37 +85,39 @@ module _ (g : Given) (was : Train) (L : Train → Type 0) (K : Train → ℕ →
   abbrev Between-holds : Between → Type 0
   Between-holds w = K (w .train) (w .«idx_split») (w .«div_idx_split»)
 
-  finish-leaves : (x : Res ℕ) (rounds strays : ℕ) (t : Train) → L t → Leaves L was (finish x rounds strays was t .status) (finish x rounds strays was t .train)
-  unfolding finish
-  finish-leaves (ok zero) rounds strays t s = s
-  finish-leaves (ok (suc n)) rounds strays t s = s
-  finish-leaves (no n) rounds strays t s = refl
+  abbrev Left : Updated → Type 0
+  Left u = Leaves L was (u .answer .status) (u .train)
 
-  after-leaves : (x : Res Ended) (next : Between → Updated) (w : Between) → L (w .train) → ((e : Ended) → x ≡ ok e → Hands e) → ((y : Between) → Between-holds y → Leaves L was (next y .status) (next y .train))
-      → Leaves L was (afterRound x next g was w .status) (afterRound x next g was w .train)
+  finish-leaves : (x : Res ℕ) (tally : Tally) (t : Train) → L t → Left (finish x tally was t)
+  unfolding finish
+  finish-leaves (ok zero) tally t s = s
+  finish-leaves (ok (suc n)) tally t s = s
+  finish-leaves (no n) tally t s = refl
+
+  after-leaves : (x : Res Ended) (next : Between → Updated) (w : Between) → L (w .train) → ((e : Ended) → x ≡ ok e → Hands e) → ((y : Between) → Between-holds y → Left (next y))
+      → Left (afterRound x next g was w)
   unfolding afterRound
   after-leaves (no n) next w l f h = refl
-  after-leaves (ok atEnd) next w l f h = finish-leaves (faultsOf g (w .train)) (w .rounds + 1) (w .strays + straysOf g (w .train)) (w .train) l
+  after-leaves (ok atEnd) next w l f h = finish-leaves (faultsOf g (w .train)) (counted (w .tally) (straysOf g (w .train))) (w .train) l
   after-leaves (ok (blockedAt t)) next w l f h = f (blockedAt t) refl
   after-leaves (ok (again t split divSplit)) next w l f h =
-      h (record { train = t; «idx_split» = split; «div_idx_split» = divSplit; rounds = w .rounds + 1; strays = w .strays + straysOf g t }) (f (again t split divSplit) refl)
+      h (between t split divSplit (counted (w .tally) (straysOf g t))) (f (again t split divSplit) refl)
 
   module _ (top : (t : Train) (split k : ℕ) → K t split k → L t) (round : (t : Train) (split k : ℕ) (e : Ended) → K t split k → roundOf g t split k ≡ ok e → Hands e) where
-    pub rounds-leave : (n : ℕ) (w : Between) → Between-holds w → Leaves L was (roundsFrom n g was w .status) (roundsFrom n g was w .train)
+    pub rounds-leave : (n : ℕ) (w : Between) → Between-holds w → Left (roundsFrom n g was w)
     unfolding roundsFrom
     rounds-leave zero w k = go (due w)
       where
-        go : (t : Bool) → Leaves L was (cond t (refused 12 (w .rounds) (w .strays) was) (finish (faultsOf g (w .train)) (w .rounds) (w .strays) was (w .train)) .status) (cond t (refused 12 (w .rounds) (w .strays) was) (finish (faultsOf g (w .train)) (w .rounds) (w .strays) was (w .train)) .train)
+        go : (t : Bool) → Left (cond t (refused 12 (w .tally) was) (finish (faultsOf g (w .train)) (w .tally) was (w .train)))
         go true = refl
-        go false = finish-leaves (faultsOf g (w .train)) (w .rounds) (w .strays) (w .train) (top (w .train) (w .«idx_split») (w .«div_idx_split») k)
+        go false = finish-leaves (faultsOf g (w .train)) (w .tally) (w .train) (top (w .train) (w .«idx_split») (w .«div_idx_split») k)
     rounds-leave (suc n) w k =
         go (due w) (afterRound (roundOf g (w .train) (w .«idx_split») (w .«div_idx_split»)) (λ x. roundsFrom n g was x) g was w)
         (after-leaves (roundOf g (w .train) (w .«idx_split») (w .«div_idx_split»)) (λ x. roundsFrom n g was x) w (top (w .train) (w .«idx_split») (w .«div_idx_split») k) (λ e q. round (w .train) (w .«idx_split») (w .«div_idx_split») e k q) (λ y j. rounds-leave n y j))
       where
-        go : (t : Bool) (more : Updated) → Leaves L was (more .status) (more .train)
-            → Leaves L was (cond t more (finish (faultsOf g (w .train)) (w .rounds) (w .strays) was (w .train)) .status) (cond t more (finish (faultsOf g (w .train)) (w .rounds) (w .strays) was (w .train)) .train)
+        go : (t : Bool) (more : Updated) → Left more → Left (cond t more (finish (faultsOf g (w .train)) (w .tally) was (w .train)))
         go true more h = h
-        go false more h = finish-leaves (faultsOf g (w .train)) (w .rounds) (w .strays) (w .train) (top (w .train) (w .«idx_split») (w .«div_idx_split») k)
+        go false more h = finish-leaves (faultsOf g (w .train)) (w .tally) (w .train) (top (w .train) (w .«idx_split») (w .«div_idx_split») k)
 
 -- ---- an accepted train stays accepted
 
@@ -155,11 +159,11 @@ top-start links moved t g = record {
 }
 
 pub update-leaves : (links : ℕ) (occ : List ℕ) (blocking : List LinkIdx) (moved : TrainIdx) (local : Bool) (limit : ℕ) (t : Train) → Accepted links t
-    → Leaves (StaysAccepted links t) t (updateFreePath occ blocking moved local limit t .status) (updateFreePath occ blocking moved local limit t .train)
+    → Leaves (StaysAccepted links t) t (updateFreePath occ blocking moved local limit t .answer .status) (updateFreePath occ blocking moved local limit t .train)
 unfolding updateFreePath
 update-leaves links occ blocking moved local limit t g = go (at (t .«disp_path») (t .«disp_node_idx_free»))
   where
-    go : (x : Res DispNode) → Leaves (StaysAccepted links t) t (updateFrom x occ blocking moved local limit t .status) (updateFrom x occ blocking moved local limit t .train)
+    go : (x : Res DispNode) → Leaves (StaysAccepted links t) t (updateFrom x occ blocking moved local limit t .answer .status) (updateFrom x occ blocking moved local limit t .train)
     go (no n) = refl
     go (ok n) =
         let v = givenOf occ blocking moved local t n in
@@ -218,11 +222,11 @@ adjusted-fits trains moved (x ∷ (e ∷ es)) m f zero d h = f 0 d h
 adjusted-fits trains moved (x ∷ (e ∷ es)) m f (suc i) d h = adjusted-fits trains moved (e ∷ es) m (λ j y p. f (suc j) y p) i d h
 
 pub update-fits : (links trains : ℕ) (occ : List ℕ) (blocking : List LinkIdx) (moved : TrainIdx) (local : Bool) (limit : ℕ) (t : Train) → Accepted links t → Fits trains t → TrainFits trains moved → ((l : LinkIdx) → TrainFits trains (holder occ l))
-    → Leaves (StaysFit links trains t) t (updateFreePath occ blocking moved local limit t .status) (updateFreePath occ blocking moved local limit t .train)
+    → Leaves (StaysFit links trains t) t (updateFreePath occ blocking moved local limit t .answer .status) (updateFreePath occ blocking moved local limit t .train)
 unfolding updateFreePath
 update-fits links trains occ blocking moved local limit t g f m held = go (at (t .«disp_path») (t .«disp_node_idx_free»))
   where
-    go : (x : Res DispNode) → Leaves (StaysFit links trains t) t (updateFrom x occ blocking moved local limit t .status) (updateFrom x occ blocking moved local limit t .train)
+    go : (x : Res DispNode) → Leaves (StaysFit links trains t) t (updateFrom x occ blocking moved local limit t .answer .status) (updateFrom x occ blocking moved local limit t .train)
     go (no n) = refl
     go (ok n) =
         let v = givenOf occ blocking moved local t n in

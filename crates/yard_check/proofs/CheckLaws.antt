@@ -144,7 +144,7 @@ module _ (occ : List ℕ) (a : CheckArgs) (t : ℕ) (img : List ℕ) where
   visit-moved e d m = rw (e, d, eq-eqb t (a .moved) m)
 
   pub visit-updated : fault .number ≡ 0 → isFinished img ≡ false → (t ≡ a .moved → ⊥)
-      → visited occ a t img ≡ visit (updatedRow u (a .moved)) (u .image)
+      → visited occ a t img ≡ visit (updatedRow (u .answer) (a .moved)) (u .image)
   unfolding visited
   visit-updated e d m = rw (e, d, ne-eqb t (a .moved) m)
 

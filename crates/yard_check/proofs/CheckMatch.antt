@@ -43,7 +43,7 @@ holder-by : (n place : ℕ) (isDone isMoved : Bool) (moved : ℕ) (u : UpdatedIm
 holder-by (suc n) place isDone isMoved moved u img = omega arith
 holder-by zero place true isMoved moved u img = omega arith
 holder-by zero place false true moved u img = omega arith
-holder-by zero place false false moved u img = holder-row (u .status) moved (u .rounds) (u .strays)
+holder-by zero place false false moved u img = holder-row (u .answer .status) moved (u .answer .tally .rounds) (u .answer .tally .strays)
 
 holder-few : (occ : List ℕ) (a : CheckArgs) (t : ℕ) (img : List ℕ) → visited occ a t img .row .holder ≤ a .moved
 unfolding visited
@@ -59,11 +59,11 @@ strays-row Blocked moved rounds strays = omega arith
 strays-row (Faulty n) moved rounds strays = omega arith
 strays-row (Refused n i) moved rounds strays = omega arith
 
-strays-by : (n place : ℕ) (isDone isMoved : Bool) (moved : ℕ) (u : UpdatedImage) (img : List ℕ) → visitBy n place isDone isMoved moved u img .row .strays ≤ u .strays
+strays-by : (n place : ℕ) (isDone isMoved : Bool) (moved : ℕ) (u : UpdatedImage) (img : List ℕ) → visitBy n place isDone isMoved moved u img .row .strays ≤ u .answer .tally .strays
 strays-by (suc n) place isDone isMoved moved u img = omega arith
 strays-by zero place true isMoved moved u img = omega arith
 strays-by zero place false true moved u img = omega arith
-strays-by zero place false false moved u img = strays-row (u .status) moved (u .rounds) (u .strays)
+strays-by zero place false false moved u img = strays-row (u .answer .status) moved (u .answer .tally .rounds) (u .answer .tally .strays)
 
 strays-few : (occ : List ℕ) (a : CheckArgs) (t : ℕ) (img : List ℕ) → Bytes img → a .limit < 65536 → visited occ a t img .row .strays < 4294967296
 unfolding visited

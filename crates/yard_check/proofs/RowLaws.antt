@@ -83,11 +83,11 @@ image-number bs l =
     (omega arith)
 
 update-number : (occ : List ℕ) (blocking : List LinkIdx) (moved : TrainIdx) (local : Bool) (limit : ℕ) (t : Train) (n place : ℕ)
-    → updateFreePath occ blocking moved local limit t .status ≡ Refused n place → n ≤ 13
+    → updateFreePath occ blocking moved local limit t .answer .status ≡ Refused n place → n ≤ 13
 unfolding updateFreePath
 update-number occ blocking moved local limit t n place = go (at (t .«disp_path») (t .«disp_node_idx_free»))
   where
-    go : (x : Res DispNode) → updateFrom x occ blocking moved local limit t .status ≡ Refused n place → n ≤ 13
+    go : (x : Res DispNode) → updateFrom x occ blocking moved local limit t .answer .status ≡ Refused n place → n ≤ 13
     go (no k) h = let e : 10 ≡ n = cc in omega arith
     go (ok m) h = let g = givenOf occ blocking moved local t m in refused-number limit g t (startOf g t) n place h .0
 
@@ -111,10 +111,10 @@ module _ (img occ blocking : List ℕ) (moved : ℕ) (local : Bool) (limit : ℕ
   update-is = rw fault-is
 
   -- of an update, up to 13
-  update-low : (n place : ℕ) → u .status ≡ Refused n place → n ≤ 13
-  update-low n place h = go (f .number) (image-number img (length occ)) (ap (λ (x : UpdatedImage). x .status) (sym update-is) ∙ h)
+  update-low : (n place : ℕ) → u .answer .status ≡ Refused n place → n ≤ 13
+  update-low n place h = go (f .number) (image-number img (length occ)) (ap (λ (x : UpdatedImage). x .answer .status) (sym update-is) ∙ h)
     where
-      go : (k : ℕ) → k ≤ 9 → answerBy k (f .place) work img .status ≡ Refused n place → n ≤ 13
+      go : (k : ℕ) → k ≤ 9 → answerBy k (f .place) work img .answer .status ≡ Refused n place → n ≤ 13
       go zero l e = update-number occ (linkIdxs blocking) (record { 0 = moved }) local limit (decoded img) n place e
       go (suc k) l e = let i : suc k ≡ n = cc in omega arith
 
@@ -125,8 +125,8 @@ module _ (img occ blocking : List ℕ) (moved : ℕ) (local : Bool) (limit : ℕ
   fits-by (Refused n place) a b = b n place refl
 
   -- what an update counts and its refusal have room in the report
-  pub columns-fit : Bytes img → limit < 65536 → ColumnsFit (u .status) (u .strays)
-  columns-fit b l = let c = image-counts img occ blocking moved local limit b in (fits-by (u .status) (c .errors) update-low, omega (arith, c .strays))
+  pub columns-fit : Bytes img → limit < 65536 → ColumnsFit (u .answer .status) (u .answer .tally .strays)
+  columns-fit b l = let c = image-counts img occ blocking moved local limit b in (fits-by (u .answer .status) (c .errors) update-low, omega (arith, c .strays))
 
   -- refused by 6 to 9 before the first round: the row of such an update is that of such a slot
   refused-update : (n : ℕ) → f .number ≡ suc n → u ≡ refusedAnswer (suc n) (f .place) img
@@ -162,11 +162,11 @@ module _ (occ : List ℕ) (a : CheckArgs) (t : ℕ) (img : List ℕ) where
 
   -- every other one is updated at once
   pub updated-at-once : callFault occ (a .blocking) (a .moved) (a .limit) .number ≡ 0 → isFinished img ≡ false → (t ≡ a .moved → ⊥)
-      → visited occ a t img ≡ visit (updatedRow w (a .moved)) (w .image)
+      → visited occ a t img ≡ visit (updatedRow (w .answer) (a .moved)) (w .image)
   updated-at-once c d m = go (v .number) refl
     where
-      go : (k : ℕ) → v .number ≡ k → visited occ a t img ≡ visit (updatedRow w (a .moved)) (w .image)
+      go : (k : ℕ) → v .number ≡ k → visited occ a t img ≡ visit (updatedRow (w .answer) (a .moved)) (w .image)
       go zero e = visit-updated occ a t img e d m
       go (suc n) e =
           visit-refused occ a t img n e
-          ∙ ap (λ (x : UpdatedImage). visit (updatedRow x (a .moved)) (x .image)) (sym (refused-update img occ (a .blocking) (a .moved) (a .local) (a .limit) c n e))
+          ∙ ap (λ (x : UpdatedImage). visit (updatedRow (x .answer) (a .moved)) (x .image)) (sym (refused-update img occ (a .blocking) (a .moved) (a .local) (a .limit) c n e))

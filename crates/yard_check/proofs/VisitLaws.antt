@@ -49,7 +49,7 @@ left-train (Faulty n) t img = stored-train t img
 left-train (Refused n i) t img = refl
 
 answer-train : (k place : ℕ) (u : Updated) (img : List ℕ) → leAt 2 (answerBy k place u img .image) 32 ≡ leAt 2 img 32
-answer-train zero place u img = left-train (u .status) (u .train) img
+answer-train zero place u img = left-train (u .answer .status) (u .train) img
 answer-train (suc k) place u img = refl
 
 module _ (occ blocking : List ℕ) (moved : ℕ) (local : Bool) (limit : ℕ) (img : List ℕ) where
@@ -60,7 +60,7 @@ module _ (occ blocking : List ℕ) (moved : ℕ) (local : Bool) (limit : ℕ) (i
 -- ---- by what the visit does
 
 module _ (P : Row → List ℕ → Type 0) (img : List ℕ) (u : UpdatedImage) (moved : ℕ) (same : (r : Row) → P r img)
-    (after : P (updatedRow u moved) (u .image)) where
+    (after : P (updatedRow (u .answer) moved) (u .image)) where
   visit-by : (n place : ℕ) (isDone isMoved : Bool) → let v = visitBy n place isDone isMoved moved u img in P (v .row) (v .image)
   visit-by (suc n) place isDone isMoved = same (refusedRow (suc n) place 0 0)
   visit-by zero place true isMoved = same finishedRow
@@ -79,7 +79,7 @@ module _ (occ : List ℕ) (a : CheckArgs) (t : ℕ) (img : List ℕ) where
   u = updatedImage img occ (a .blocking) (a .moved) (a .local) (a .limit)
 
   -- what holds of its image with any row, and of that image updated with its row, holds of the visit
-  by : (P : Row → List ℕ → Type 0) → ((r : Row) → P r img) → P (updatedRow u (a .moved)) (u .image)
+  by : (P : Row → List ℕ → Type 0) → ((r : Row) → P r img) → P (updatedRow (u .answer) (a .moved)) (u .image)
       → P (visited occ a t img .row) (visited occ a t img .image)
   unfolding visited
   by P same after = visit-by P img u (a .moved) same after (imageFault img (length occ) .number) (imageFault img (length occ) .place) (isFinished img) (eqb t (a .moved))
@@ -100,7 +100,7 @@ module _ (occ : List ℕ) (a : CheckArgs) (t : ℕ) (img : List ℕ) where
   visit-refused : 16 ≤ visited occ a t img .row .code → visited occ a t img .image ≡ img
   visit-refused =
       by (λ r x. 16 ≤ r .code → x ≡ img) (λ r h. refl)
-      (refused-row (u .image ≡ img) (u .status) (a .moved) (u .rounds) (u .strays) (refused-leaves img occ (a .blocking) (a .moved) (a .local) (a .limit)))
+      (refused-row (u .image ≡ img) (u .answer .status) (a .moved) (u .answer .tally .rounds) (u .answer .tally .strays) (refused-leaves img occ (a .blocking) (a .moved) (a .local) (a .limit)))
 
 -- ---- of a slot, visited or not
 

@@ -49,14 +49,14 @@ row-strays (Faulty n) moved rounds strays = refl
 row-strays (Refused n i) moved rounds strays = refl
 
 module _ (p q : ℕ → ℕ) (zero-stays : q 0 ≡ 0) (img img′ : List ℕ) (m : ImagesMatch p q img img′) (moved : ℕ) (u u′ : UpdatedImage) where
-  visit-by : (n place : ℕ) (isDone isMoved : Bool) → (u .strays ≡ 0 → UpdatesMatch p q u u′) → visitBy n place isDone isMoved moved u img .row .strays ≡ 0
+  visit-by : (n place : ℕ) (isDone isMoved : Bool) → (u .answer .tally .strays ≡ 0 → UpdatesMatch p q u u′) → visitBy n place isDone isMoved moved u img .row .strays ≡ 0
       → VisitsMatch p q (visitBy n place isDone isMoved moved u img) (visitBy n place isDone isMoved (q moved) u′ img′)
   visit-by (suc n) place isDone isMoved h s = record { row = no-holder q zero-stays _ place 0 0 0; image = m }
   visit-by zero place true isMoved h s = record { row = no-holder q zero-stays 1 0 0 0 0; image = m }
   visit-by zero place false true h s = record { row = no-holder q zero-stays 2 0 0 0 0; image = m }
   visit-by zero place false false h s =
-      let k = h (sym (row-strays (u .status) moved (u .rounds) (u .strays)) ∙ s) in
-      record { row = rw (k .status, k .rounds, k .strays) (row-match q zero-stays (u .status) moved (u .rounds) (u .strays)); image = k .images }
+      let k = h (sym (row-strays (u .answer .status) moved (u .answer .tally .rounds) (u .answer .tally .strays)) ∙ s) in
+      record { row = rw (k .answer) (row-match q zero-stays (u .answer .status) moved (u .answer .tally .rounds) (u .answer .tally .strays)); image = k .images }
 
 finished-match : (p q : ℕ → ℕ) (img img′ : List ℕ) → ImagesMatch p q img img′ → isFinished img′ ≡ isFinished img
 unfolding isFinished

@@ -9,7 +9,7 @@ use Rattle.image.specs.Image.{pathCount}
 use Rattle.image_reader.specs.Reader.{freeOf}
 use Rattle.image_fault.specs.ImageFault.{noFault, refused, orElse, imageFault}
 use Rattle.image_fault.specs.declared.Fault.{Fault}
-use Rattle.train_update.specs.Update.{Status, Success, Blocked, Faulty, Refused as UpdateRefused}
+use Rattle.train_update.specs.Update.{Answer as UpdateAnswer, Status, Success, Blocked, Faulty, Refused as UpdateRefused}
 use Rattle.update_image.specs.UpdateImage.{UpdatedImage, callFault, updatedImage}
 use Rattle.yard_check.specs.Yard.{slotCount, partOf, withPart, yardFault}
 
@@ -102,8 +102,8 @@ statusRow (Faulty n) moved rounds strays = record { code = 5; place = 0; rounds 
 statusRow (UpdateRefused n place) moved rounds strays = refusedRow n place rounds strays
 
 -- of a slot that was updated, from the update's answer
-abbrev pub updatedRow : UpdatedImage → ℕ → Row
-updatedRow u moved = statusRow (u .status) moved (u .rounds) (u .strays)
+abbrev pub updatedRow : UpdateAnswer → ℕ → Row
+updatedRow u moved = statusRow (u .status) moved (u .tally .rounds) (u .tally .strays)
 
 abbrev pub isFinishedRow : Row → Bool
 isFinishedRow r = eqb (r .code) 1
@@ -159,7 +159,7 @@ abbrev pub visitBy : ℕ → ℕ → Bool → Bool → ℕ → UpdatedImage → 
 visitBy (suc n) place isDone isMoved moved u img = visit (refusedRow (suc n) place 0 0) img
 visitBy zero place true isMoved moved u img = visit finishedRow img
 visitBy zero place false true moved u img = visit movedRow img
-visitBy zero place false false moved u img = visit (updatedRow u moved) (u .image)
+visitBy zero place false false moved u img = visit (updatedRow (u .answer) moved) (u .image)
 
 -- of slot t with this image
 unfoldable pub visited : List ℕ → CheckArgs → ℕ → List ℕ → Visit

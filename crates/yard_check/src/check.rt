@@ -129,29 +129,29 @@ fn refused_row(number: u16, place: u16, rounds: u16, strays: u32) -> Row
 
 // Success, blocked or faulty.
 fn worked_row(code: u16, u: Updated, holder: TrainIdx, faults: u32) -> Row
-    requires { ⌜ u .strays < 4294967296 ⌝ }
-    ensures { λ r. ⌜ rowOf r ≡ record { code = code; place = 0; rounds = u .rounds; holder = holder .0; strays = u .strays; faults = faults } ⌝ }
+    requires { ⌜ u .tally .strays < 4294967296 ⌝ }
+    ensures { λ r. ⌜ rowOf r ≡ record { code = code; place = 0; rounds = u .tally .rounds; holder = holder .0; strays = u .tally .strays; faults = faults } ⌝ }
 {
     Row {
         code: code,
         place: 0,
-        rounds: u.rounds,
+        rounds: u.tally.rounds,
         holder: holder,
-        strays: u.strays as u32,
+        strays: u.tally.strays as u32,
         faults: faults,
     }
 }
 
 fn updated_row(u: Updated, moved: TrainIdx) -> Row
-    requires { ⌜ ColumnsFit (Updates.statusOf (u .status)) (u .strays) ⌝ }
-    ensures { λ r. ⌜ rowOf r ≡ Check.updatedRow (Updates.updatedOf u []) (moved .0) ⌝ }
+    requires { ⌜ ColumnsFit (Updates.statusOf (u .status)) (u .tally .strays) ⌝ }
+    ensures { λ r. ⌜ rowOf r ≡ Check.updatedRow (Updates.answerOf u) (moved .0) ⌝ }
 {
     let s = u.status;
     match s {
         Status::Success => worked_row(3, u, TrainIdx(0), 0),
         Status::Blocked => worked_row(4, u, moved, 0),
         Status::Faulty(n) => worked_row(5, u, TrainIdx(0), n as u32),
-        Status::Refused(f) => refused_row(f.number, f.place, u.rounds, u.strays as u32),
+        Status::Refused(f) => refused_row(f.number, f.place, u.tally.rounds, u.tally.strays as u32),
     }
 }
 

@@ -48,7 +48,7 @@ returns c =
     let a = c .before .before .before .before .before .before .before .before .before .before .before .before .before .before .before .before .before .before .before .before .before .before .before .before .before .before .before .before .before .args in
     let e = c .before .before .before .before .before .before .before .before .before .before .before .before .before .before .before .before .before .before .before .before .before .before .update-free-path .ensures ∙ ap (λ (b : Bool). updatedImage (now (a .image)) (now (a .occupancy)) (now (a .blocking)) (a .moved) b (a .limit)) (c .before .before .before .before .before .before .before .before .before .before .before .before .before .before .before .before .before .before .before .before .before .before .before .flag-of .ensures) in
     record {
-      word = c .status-word .ensures ∙ ap (λ (u : UpdatedImage). statusWord (u .status)) e;
+      word = c .status-word .ensures ∙ ap (λ (u : UpdatedImage). statusWord (u .answer .status)) e;
       bytes = ap (λ (u : UpdatedImage). u .image) e;
       words = rw (c .before .before .before .put-word4 .ensures, c .before .before .before .before .before .before .before .put-word3 .ensures, c .before .before .before .before .before .before .before .before .before .before .before .before .put-word2 .ensures, c .before .before .before .before .before .before .before .before .before .before .before .before .before .errors-of .ensures, c .before .before .before .before .before .before .before .before .before .before .before .before .before .before .before .before .before .put-word .ensures, c .before .before .before .before .before .before .before .before .before .before .before .before .before .before .before .before .before .before .code-of .ensures) (ap (λ (u : UpdatedImage). updateWords u (now (a .answer))) e);
     }

@@ -26,7 +26,7 @@ answered-requires c κs =
     let a = c .before .before .before .before .before .before .before .before .before .before .before .before .before .before .before .before .before .before .before .before .before .before .before .before .before .before .before .before .before .before .before .before .before .before .before .before .before .before .before .before .before .args in
     let k = c .before .before .before .before .before .before .before .before .before .before .before .before .before .before .before .before .before .before .before .before .before .before .before .before .before .before .before .before .copy-image in
     let r = c .before .before .before .before .before .before .before .before .before .before .before .before .before .before .before .before .before .before .run in
-    (r .ensures .named, λ q. kept-sizes (r .last .0) (k .last .1 .0) (now (a .image)) (k .ensures) (r .ensures .kept q))
+    (r .ensures .named, r .ensures .faultless, λ q. kept-sizes (r .last .0) (k .last .1 .0) (now (a .image)) (k .ensures) (r .ensures .kept q))
 
 same-length : tie.Need-same-length
 same-length c = search needs

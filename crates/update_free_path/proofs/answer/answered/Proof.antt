@@ -1,3 +1,5 @@
+-- `answered` meets its contract. Assumes nothing.
+use native.Mathlib.Omega.{arith}
 use denote.Ref.{now}
 use Rattle.splice.specs.Read.{trainOf}
 use Rattle.update_free_path.specs.Updates.{errorsOf}
@@ -10,13 +12,35 @@ status-by-requires : tie.Need-status-by-requires
 status-by-requires c κs = search needs
 
 leave-requires : tie.Need-leave-requires
-leave-requires c κs = let a = c .before .before .before .before .before .before .before .before .args in λ q. c .before .before .before .before .before .before .before .before .pre .1 (done-stop (c .before .status-by .result) (a .r .stop) (errorsOf (now (a .img)) (now (a .occ)) (a .r .header)) (c .before .status-by .ensures) q)
+leave-requires c κs =
+    let z = c .before .before .before .before .before .before .before .before .before in
+    let a = z .args in
+    λ q. z .pre .2 (done-stop (c .before .before .status-by .result) (a .r .stop) (errorsOf (now (a .img)) (now (a .occ)) (a .r .header)) (c .before .before .status-by .ensures) q)
+
+faults-in-requires : tie.Need-faults-in-requires
+faults-in-requires c κs = search needs
+
+faulted-requires : tie.Need-faulted-requires
+faulted-requires c κs = search needs
 
 same-length : tie.Need-same-length
 same-length c = search needs
 
 returns : tie.Need-returns
-returns c = let a = c .before .before .before .before .before .before .before .before .before .before .before .args in λ was. answered-is (a .r .rounds) (a .r .strays) was (trainOf (now (a .img)) (now (a .dt)) (now (a .dn)) (a .r .header)) (now (a .image)) (a .r .stop) (errorsOf (now (a .img)) (now (a .occ)) (a .r .header)) _ _ (c .before .before .before .before .status-by .ensures) (c .before .before .leave .ensures)
+returns c =
+    let z = c .before .before .before .before .before .before .before .before .before .before .before .before .before .before in
+    let a = z .args in
+    λ was.
+        answered-is (a .r .tally) was (trainOf (now (a .img)) (now (a .dt)) (now (a .dn)) (a .r .header)) (now (a .image)) (z .pre .1) (a .r .stop) (errorsOf (now (a .img)) (now (a .occ)) (a .r .header)) _ (c .before .faults-in .result) _ _
+        (c .before .before .before .before .before .before .before .status-by .ensures) (omega (arith, c .before .faults-in .ok)) (c .before .faults-in .ensures) (c .faulted .ensures) (c .before .before .before .before .leave .ensures)
 
 pub answered-spec : {M : Type 1} → statement M
-answered-spec = tie.close (tie.spec status-by-requires leave-requires same-length returns)
+answered-spec =
+    tie.close
+    (tie.spec
+    status-by-requires
+    leave-requires
+    faults-in-requires
+    faulted-requires
+    same-length
+    returns)

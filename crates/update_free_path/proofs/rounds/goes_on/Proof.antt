@@ -7,10 +7,10 @@ is-due-requires : tie.Need-is-due-requires
 is-due-requires c κs = search needs
 
 returns : tie.Need-returns
-returns c = let a = c .before .before .before .args in rw (lt-ltb (a .w .rounds) (a .limit) (c .before .if1 .taken)) (c .is-due .ensures)
+returns c = let a = c .before .before .before .args in rw (lt-ltb (a .w .tally .rounds) (a .limit) (c .before .if1 .taken)) (c .is-due .ensures)
 
 returns-2 : tie.Need-returns-2
-returns-2 c = let a = c .before .before .args in rw (le-ltb (a .w .rounds) (a .limit) (c .if1 .left))
+returns-2 c = let a = c .before .before .args in rw (le-ltb (a .w .tally .rounds) (a .limit) (c .if1 .left))
 
 pub goes-on-spec : {M : Type 1} → statement M
 goes-on-spec = tie.close (tie.spec is-due-requires returns returns-2)

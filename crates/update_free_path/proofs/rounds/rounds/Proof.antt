@@ -17,7 +17,7 @@ abbrev Inv-loop : tie.InvT-loop
 Inv-loop img₀ occ known g limit col₀ on₀ dt₀ dn₀ w₀ img col on dt dn w = SameSizes col₀ on₀ dt₀ dn₀ col on dt dn × Top occ img col on dt dn w × Going occ known g limit img₀ dt₀ dn₀ w₀ img dt dn w
 
 abbrev μ-loop : tie.MeasureT-loop
-μ-loop img₀ occ known g limit col₀ on₀ dt₀ dn₀ w₀ img col on dt dn w = limit - w .rounds
+μ-loop img₀ occ known g limit col₀ on₀ dt₀ dn₀ w₀ img col on dt dn w = limit - w .tally .rounds
 
 -- src/rounds.rt:174:5
 loop-holds : tie.Need-loop-holds Inv-loop μ-loop
@@ -60,7 +60,7 @@ stopped-requires c κs =
     let x = c .before .before .before .before .before .before .before .before .before .before .before .round in
     let d = due-turn (l .w) (a .limit) (sym (c .before .before .before .before .before .before .before .before .before .before .before .before .before .before .before .before .before .before .goes-on .ensures) ∙ c .before .before .before .before .before .before .before .before .before .before .before .before .before .before .before .before .before .if1 .taken) in
     let s = strays-low (now (a .occ)) (l .img) (l .dt) (l .dn) (l .w .header) (l .inv .1 .held .accepted) (l .col) (now (a .known)) (c .strays-of .result) (c .strays-of .ensures) in
-    (omega (arith, d .0, c .before .before .before .before .before .before .before .before .before .before .before .before .before .before .before .before .before .before .before .before .before .before .before .before .before .before .before .fits), omega (arith, d .0, c .before .before .before .before .before .before .before .before .before .before .before .before .before .before .before .before .before .before .before .before .before .before .before .before .before .before .before .fits, l .inv .1 .few, s))
+    record { rounds = omega (arith, d .0, c .before .before .before .before .before .before .before .before .before .before .before .before .before .before .before .before .before .before .before .before .before .before .before .before .before .before .before .fits); strays = omega (arith, d .0, c .before .before .before .before .before .before .before .before .before .before .before .before .before .before .before .before .before .before .before .before .before .before .before .before .before .before .before .fits, l .inv .1 .few, s); faultless = l .inv .1 .faultless }
 
 -- src/rounds.rt:179:13
 same-length : tie.Need-same-length Inv-loop μ-loop
@@ -153,7 +153,7 @@ next-requires c κs =
     let d = due-turn (l .w) (a .limit) (sym (c .before .before .before .before .before .before .before .before .before .before .before .before .before .before .before .before .before .before .before .before .before .before .before .before .before .before .goes-on .ensures) ∙ c .before .before .before .before .before .before .before .before .before .before .before .before .before .before .before .before .before .before .before .before .before .before .before .before .before .if1 .taken) in
     let t = next-accepted (now (a .occ)) (l .img) (l .col) (l .on) (l .dt) (l .dn) (now (a .known)) (a .g) (l .w) (l .inv .1) (x .last .0) (x .last .1 .1 .1 .1 .1 .1 .1 .1 .0) (x .last .1 .1 .1 .1 .1 .1 .1 .1 .1 .0) (x .result) (x .ensures .0) (sym (c .before .before .before .before .before .before .before .before .before .before .before .is-last .ensures) ∙ c .before .before .before .before .before .before .before .before .before .before .if2 .left) in
     let s = strays-low (now (a .occ)) (x .last .0) (x .last .1 .1 .1 .1 .1 .1 .1 .1 .0) (x .last .1 .1 .1 .1 .1 .1 .1 .1 .1 .0) (x .result .header) t (c .before .before .before .before .before .before .derive .last .1 .1 .0) (now (a .known)) (c .strays-of2 .result) (c .strays-of2 .ensures) in
-    (omega (arith, d .0, c .before .before .before .before .before .before .before .before .before .before .before .before .before .before .before .before .before .before .before .before .before .before .before .before .before .before .before .before .before .before .before .before .before .before .before .fits), omega (arith, d .0, c .before .before .before .before .before .before .before .before .before .before .before .before .before .before .before .before .before .before .before .before .before .before .before .before .before .before .before .before .before .before .before .before .before .before .before .fits, l .inv .1 .few, s))
+    record { rounds = omega (arith, d .0, c .before .before .before .before .before .before .before .before .before .before .before .before .before .before .before .before .before .before .before .before .before .before .before .before .before .before .before .before .before .before .before .before .before .before .before .fits); strays = omega (arith, d .0, c .before .before .before .before .before .before .before .before .before .before .before .before .before .before .before .before .before .before .before .before .before .before .before .before .before .before .before .before .before .before .before .before .before .before .before .fits, l .inv .1 .few, s); faultless = l .inv .1 .faultless }
 
 -- src/rounds.rt:174:5
 loop-less : tie.Need-loop-less Inv-loop μ-loop
@@ -163,7 +163,7 @@ loop-less c =
     let l = c .before .before .before .before .before .before .before .before .before .before .before .before .before .before .before .before .before .before .before .before .before .before .before .before .before .before .before .before .loop in
     let x = c .before .before .before .before .before .before .before .before .before .before .before .before .before .before .before .before .before .before .before .before .round in
     let d = due-turn (l .w) (a .limit) (sym (c .before .before .before .before .before .before .before .before .before .before .before .before .before .before .before .before .before .before .before .before .before .before .before .before .before .before .before .goes-on .ensures) ∙ c .before .before .before .before .before .before .before .before .before .before .before .before .before .before .before .before .before .before .before .before .before .before .before .before .before .before .if1 .taken) in
-    omega (arith, d .0, ap (λ (w : Between). w .rounds) (c .next .ensures))
+    omega (arith, d .0, ap (λ (w : Between). w .tally .rounds) (c .next .ensures))
 
 -- src/rounds.rt:174:5
 loop-again : tie.Need-loop-again Inv-loop μ-loop
@@ -216,7 +216,7 @@ returns-2 c =
     let a = c .before .before .before .before .before .before .before .before .before .before .before .args in
     let l = c .before .before .before .loop in
     subst (λ (r : Ran). Ended (now (a .occ)) (now (a .known)) (a .g) (a .limit) (now (a .img)) (now (a .dt)) (now (a .dn)) (a .start) (l .img) (l .dt) (l .dn) r) (sym (c .closed .ensures))
-    (ended-closed (now (a .occ)) (now (a .known)) (a .g) (a .limit) (now (a .img)) (now (a .dt)) (now (a .dn)) (a .start) (l .img) (l .dt) (l .dn) (l .w) (l .inv .2) (sym (c .before .before .goes-on .ensures) ∙ c .before .if1 .left))
+    (ended-closed (now (a .occ)) (now (a .known)) (a .g) (a .limit) (now (a .img)) (now (a .dt)) (now (a .dn)) (a .start) (l .img) (l .dt) (l .dn) (l .w) (l .inv .2) (l .inv .1 .faultless) (sym (c .before .before .goes-on .ensures) ∙ c .before .if1 .left))
 
 pub rounds-spec : {M : Type 1} → statement M
 rounds-spec =

@@ -1,18 +1,16 @@
 -- `stopped` meets its contract. Assumes nothing.
 use mathlib.Core.Path.{sym, ap, _∙_}
-use Prim.Native.Nat.{ℕ}
 use borrow.Author.Needs.{needs}
 use Rattle.round.specs.declared.End.{End}
 use Rattle.update_free_path.specs.Updates.{ranOf, stoppedBy}
-use Rattle.update_free_path.specs.declared.rounds.Stop.the-variants as Stops
 use Rattle.update_free_path.proofs.rounds.stopped.Statement.{statement}
 use Rattle.update_free_path.proofs.rounds.stopped.Tie as tie
 
-tallied-requires : tie.Need-tallied-requires
-tallied-requires c κs = search needs
-
 enum-known-end : tie.Need-enum-known-end
 enum-known-end c = search needs
+
+tallied-requires : tie.Need-tallied-requires
+tallied-requires c κs = search needs
 
 ran-with-requires : tie.Need-ran-with-requires
 ran-with-requires c κs = search needs
@@ -20,11 +18,17 @@ ran-with-requires c κs = search needs
 enum-told : tie.Need-enum-told
 enum-told c = search needs
 
+tallied-requires-2 : tie.Need-tallied-requires-2
+tallied-requires-2 c κs = search needs
+
 ran-with-requires-2 : tie.Need-ran-with-requires-2
 ran-with-requires-2 c κs = search needs
 
 enum-told-2 : tie.Need-enum-told-2
 enum-told-2 c = search needs
+
+tallied-requires-3 : tie.Need-tallied-requires-3
+tallied-requires-3 c κs = search needs
 
 ran-with-requires-3 : tie.Need-ran-with-requires-3
 ran-with-requires-3 c κs = search needs
@@ -32,47 +36,47 @@ ran-with-requires-3 c κs = search needs
 enum-told-3 : tie.Need-enum-told-3
 enum-told-3 c = search needs
 
+tallied-requires-4 : tie.Need-tallied-requires-4
+tallied-requires-4 c κs = search needs
+
 ran-with-requires-4 : tie.Need-ran-with-requires-4
 ran-with-requires-4 c κs = search needs
 
 returns : tie.Need-returns
 returns c =
-    let a = c .before .before .before .before .before .args in
-    let t = c .before .before .before .before .tallied in
-    c .ran-with .ensures ∙ sym (ap (λ (e : End). stoppedBy e (a .h) (t .result .rounds) (a .w .strays) (a .strays)) (c .before .before .end .given .1)) ∙ ap (λ (n : ℕ). stoppedBy (a .end) (a .h) n (a .w .strays) (a .strays)) (t .ensures .0)
+    let a = c .before .before .before .before .before .before .args in
+    c .ran-with .ensures ∙ ap (ranOf _ (a .h)) (c .before .tallied .ensures) ∙ sym (ap (λ (e : End). stoppedBy e (a .h) (a .w .tally) (a .strays)) (c .before .before .before .end .given .1))
 
 returns-2 : tie.Need-returns-2
 returns-2 c =
-    let a = c .before .before .before .before .args in
-    let t = c .before .before .before .tallied in
-    c .ran-with2 .ensures ∙ ap (λ (s : ℕ). ranOf Stops.Ended (a .h) (t .result .rounds) s) (t .ensures .1)
-    ∙ sym (ap (λ (e : End). stoppedBy e (a .h) (t .result .rounds) (a .w .strays) (a .strays)) (c .before .enum-told .given .1))
-    ∙ ap (λ (n : ℕ). stoppedBy (a .end) (a .h) n (a .w .strays) (a .strays)) (t .ensures .0)
+    let a = c .before .before .before .before .before .args in
+    c .ran-with2 .ensures ∙ ap (ranOf _ (a .h)) (c .before .tallied2 .ensures) ∙ sym (ap (λ (e : End). stoppedBy e (a .h) (a .w .tally) (a .strays)) (c .before .before .enum-told .given .1))
 
 returns-3 : tie.Need-returns-3
 returns-3 c =
-    let a = c .before .before .before .before .args in
-    let t = c .before .before .before .tallied in
-    c .ran-with3 .ensures ∙ sym (ap (λ (e : End). stoppedBy e (a .h) (t .result .rounds) (a .w .strays) (a .strays)) (c .before .enum-told2 .given .1)) ∙ ap (λ (n : ℕ). stoppedBy (a .end) (a .h) n (a .w .strays) (a .strays)) (t .ensures .0)
+    let a = c .before .before .before .before .before .args in
+    c .ran-with3 .ensures ∙ ap (ranOf _ (a .h)) (c .before .tallied3 .ensures) ∙ sym (ap (λ (e : End). stoppedBy e (a .h) (a .w .tally) (a .strays)) (c .before .before .enum-told2 .given .1))
 
 returns-4 : tie.Need-returns-4
 returns-4 c =
-    let a = c .before .before .before .before .args in
-    let t = c .before .before .before .tallied in
-    c .ran-with4 .ensures ∙ sym (ap (λ (e : End). stoppedBy e (a .h) (t .result .rounds) (a .w .strays) (a .strays)) (c .before .enum-told3 .given .1)) ∙ ap (λ (n : ℕ). stoppedBy (a .end) (a .h) n (a .w .strays) (a .strays)) (t .ensures .0)
+    let a = c .before .before .before .before .before .args in
+    c .ran-with4 .ensures ∙ ap (ranOf _ (a .h)) (c .before .tallied4 .ensures) ∙ sym (ap (λ (e : End). stoppedBy e (a .h) (a .w .tally) (a .strays)) (c .before .before .enum-told3 .given .1))
 
 pub stopped-spec : {M : Type 1} → statement M
 stopped-spec =
     tie.close
     (tie.spec
-    tallied-requires
     enum-known-end
+    tallied-requires
     ran-with-requires
     enum-told
+    tallied-requires-2
     ran-with-requires-2
     enum-told-2
+    tallied-requires-3
     ran-with-requires-3
     enum-told-3
+    tallied-requires-4
     ran-with-requires-4
     returns
     returns-2

@@ -47,7 +47,7 @@ update-free-path-requires c κs = search needs
 updated-row-requires : tie.Need-updated-row-requires
 updated-row-requires c κs =
     let a = c .before .before .before .before .before .before .before .before .before .before .before .before .args in
-    subst (λ (x : UpdatedImage). ColumnsFit (x .status) (x .strays)) (sym (c .before .before .update-free-path .ensures))
+    subst (λ (x : UpdatedImage). ColumnsFit (x .answer .status) (x .answer .tally .strays)) (sym (c .before .before .update-free-path .ensures))
     (columns-fit (now (a .img)) (now (a .occ)) (now (a .blocking)) (a .a .moved .0) (a .a .local) (a .a .limit) (c .before .before .before .before .before .before .before .before .before .before .before .before .pre) (λ i. omega (arith, c .before .before .before .before .before .before .before .before .before .before .before .slice-known .given i)) (omega (arith, c .before .before .before .before .before .struct-known .given)))
 
 same-length-3 : tie.Need-same-length-3
@@ -57,7 +57,7 @@ returns-3 : tie.Need-returns-3
 returns-3 c =
     let a = c .before .before .before .before .before .before .before .before .before .before .before .before .before .args in
     ap (λ (r : Check.Row). Check.visit r (c .before .before .before .update-free-path .last .0)) (c .updated-row .ensures)
-    ∙ (ap (λ (x : UpdatedImage). Check.visit (Check.updatedRow x (a .a .moved .0)) (x .image)) (c .before .before .before .update-free-path .ensures)
+    ∙ (ap (λ (x : UpdatedImage). Check.visit (Check.updatedRow (x .answer) (a .a .moved .0)) (x .image)) (c .before .before .before .update-free-path .ensures)
     ∙ sym (updated-at-once (now (a .occ)) (argsOf (now (a .blocking)) (a .a)) (a .t) (now (a .img)) (c .before .before .before .before .before .before .before .before .before .before .before .before .before .pre) (sym (c .before .before .before .before .before .before .before .before .is-finished .ensures) ∙ c .before .before .before .before .before .before .before .if1 .left) (c .before .before .before .before .before .if2 .left)))
 
 pub visit-spec : {M : Type 1} → statement M
