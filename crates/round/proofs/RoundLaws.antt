@@ -18,12 +18,12 @@ use Rattle.free_path.specs.LinkOptType.{Sentinels, calcIdxSentinels, contains, 
 use Rattle.free_path.proofs.CountLaws.{answer-no}
 use Rattle.train_update.specs.State.{atEnd}
 use Rattle.train_update.specs.Update as Update
-use Rattle.train_update.specs.Update.{apart, meeting, splitPoint, searchRound, roundOf}
+use Rattle.train_update.specs.Update.{apart, meeting, splitPoint, beginOf, roundOf}
 use Rattle.update_laws.proofs.Rounds.{sentinel-low, split-low}
 use Rattle.search.specs.Read.{divsOf, pathOf}
 use Rattle.splice.specs.Read.{trainOf}
 use Rattle.round_start.proofs.SplitLaws.{split-is}
-use Rattle.round.specs.Rounds.{Held, givenOf}
+use Rattle.round.specs.Rounds.{Held, givenOf, roundFrom}
 use Rattle.round.specs.declared.Given.{Given}
 
 module _ (occ img dt dn col : List ℕ) (h : PathHeader) (gv : Given) (blocking start : List LinkIdx) (split divSplit : ℕ) (path : listed (h .«path_count») (linkAt col) ≡ linkIdxPath (pathOf img (h .«path_count»))) where
@@ -35,7 +35,7 @@ module _ (occ img dt dn col : List ℕ) (h : PathHeader) (gv : Given) (blocking 
 
   module _ (c : ℕ) (z : Sentinels) (q : answer c z ≡ calcIdxSentinels divSplit (gv .«train_idx_moved») (divsOf (h .«diverge_count») dt dn)) where
     pub sentinels-refused : (c ≡ 0 → ⊥) → no c ≡ roundOf given train split divSplit
-    unfolding roundOf trainOf
+    unfolding roundOf beginOf trainOf
     sentinels-refused n = rw (← q, answer-no c z n)
 
     module _ (o : c ≡ 0) where
@@ -49,7 +49,7 @@ module _ (occ img dt dn col : List ℕ) (h : PathHeader) (gv : Given) (blocking 
         split-point = p ∙ split-is given train (listed (h .«path_count») (linkAt col)) path split (z .node)
 
         pub split-refused : (d ≡ 0 → ⊥) → no d ≡ roundOf given train split divSplit
-        unfolding roundOf
+        unfolding roundOf beginOf
         split-refused n = rw (sentinels-are, ← split-point, answer-no d i n)
 
         module _ (e : d ≡ 0) where
@@ -61,11 +61,11 @@ module _ (occ img dt dn col : List ℕ) (h : PathHeader) (gv : Given) (blocking 
           long = listed-length (h .«path_count») (nodeAt img)
 
           pub round-end : h .«path_count» ≤ i → ok atEnd ≡ roundOf given train split divSplit
-          unfolding roundOf
+          unfolding roundOf beginOf
           round-end l = rw (sentinels-are, split-at, le-leb (length (train .«disp_path»)) i (omega (arith, long)))
 
-          pub round-on : i < h .«path_count» → searchRound given train i divSplit z ≡ roundOf given train split divSplit
-          unfolding roundOf
+          pub round-on : i < h .«path_count» → roundFrom given train i divSplit z ≡ roundOf given train split divSplit
+          unfolding roundOf beginOf
           round-on l = rw (sentinels-are, split-at, lt-leb (length (train .«disp_path»)) i (omega (arith, long)))
 
           pub split-first : (on : List ℕ) → Held occ img on dt dn h → 1 ≤ split → 1 ≤ divSplit → 1 ≤ i

@@ -28,7 +28,7 @@ use Rattle.free_path.specs.SearchLimit.{offsetCancel}
 use Rattle.free_path.proofs.ColumnLaws.{listed-read}
 use Rattle.train_update.specs.State as State
 use Rattle.train_update.specs.Update as Update
-use Rattle.train_update.specs.Update.{searchFrom, turnLimit, searchAt, roundAt, searchRound, divPoint, savePoint}
+use Rattle.train_update.specs.Update.{searchFrom, turnLimit, searchAt, roundAt, divPoint, savePoint}
 use Rattle.train_update.specs.Fits.{Fits}
 use Rattle.update_laws.specs.FitsGood.{TrainFits, DivFits}
 use Rattle.update_laws.proofs.Answers.{ok-same, no-ok, bind-ok}
@@ -42,7 +42,7 @@ use Rattle.splice.specs.Read.{trainOf}
 use Rattle.round_start.specs.Start.{partedAt, dividedAt, withLimit}
 use Rattle.round_start.proofs.LimitLaws.{same-limit}
 use Rattle.round_start.proofs.DivideLaws.{round-is}
-use Rattle.round.specs.Rounds.{Held, Numbers, Searching, givenOf, startAt, zeros, zeroed, zeroedIn}
+use Rattle.round.specs.Rounds.{Held, Numbers, Searching, givenOf, startAt, zeros, zeroed, zeroedIn, roundFrom}
 use Rattle.round.specs.declared.Given.{Given}
 use Rattle.round.proofs.FitLaws.{train-is, round-accepted, path-long, divs-long}
 
@@ -113,17 +113,20 @@ module _ (occ img dt dn : List ℕ) (h : PathHeader) (gv : Given) (blocking star
   abbrev begun : ℕ → ℕ → Res State.Ended
   begun d save = searchFrom (turnLimit (trainOf img dt dn h)) (roundAt (givenOf gv occ blocking start) (trainOf img dt dn h) (nodeAt img split) split) (searchAt (trainOf img dt dn h) split d save)
 
-  searched : searchRound (givenOf gv occ blocking start) (trainOf img dt dn h) split divSplit z ≡ (dividedAt (divsOf (h .«diverge_count») dt dn) split divSplit z >>= λ d. savePoint (pathOf img (h .«path_count»)) (h .fixed) split >>= λ save. begun d save)
-  unfolding trainOf
-  searched = rw (round-is (givenOf gv occ blocking start) (trainOf img dt dn h) split divSplit z, listed-read (h .«path_count») (nodeAt img) split high)
+  abbrev whole : Res State.Ended
+  whole = roundFrom (givenOf gv occ blocking start) (trainOf img dt dn h) split divSplit z
 
-  pub divide-refused : (c i : ℕ) → answer c i ≡ dividedAt (divsOf (h .«diverge_count») dt dn) split divSplit z → (c ≡ 0 → ⊥) → no c ≡ searchRound (givenOf gv occ blocking start) (trainOf img dt dn h) split divSplit z
+  searched : whole ≡ (dividedAt (divsOf (h .«diverge_count») dt dn) split divSplit z >>= λ d. savePoint (pathOf img (h .«path_count»)) (h .fixed) split >>= λ save. begun d save)
+  unfolding trainOf
+  searched = round-is (givenOf gv occ blocking start) (trainOf img dt dn h) split divSplit z (nodeAt img split) (listed-read (h .«path_count») (nodeAt img) split high)
+
+  pub divide-refused : (c i : ℕ) → answer c i ≡ dividedAt (divsOf (h .«diverge_count») dt dn) split divSplit z → (c ≡ 0 → ⊥) → no c ≡ whole
   divide-refused c i q n = rw (searched, ← q, answer-no c i n)
 
-  pub save-refused : (d c i : ℕ) → ok d ≡ dividedAt (divsOf (h .«diverge_count») dt dn) split divSplit z → answer c i ≡ savePoint (pathOf img (h .«path_count»)) (h .fixed) split → (c ≡ 0 → ⊥) → no c ≡ searchRound (givenOf gv occ blocking start) (trainOf img dt dn h) split divSplit z
+  pub save-refused : (d c i : ℕ) → ok d ≡ dividedAt (divsOf (h .«diverge_count») dt dn) split divSplit z → answer c i ≡ savePoint (pathOf img (h .«path_count»)) (h .fixed) split → (c ≡ 0 → ⊥) → no c ≡ whole
   save-refused d c i p q n = rw (searched, ← p, ← q, answer-no c i n)
 
-  pub divide-saved : (d save : ℕ) → ok d ≡ dividedAt (divsOf (h .«diverge_count») dt dn) split divSplit z → ok save ≡ savePoint (pathOf img (h .«path_count»)) (h .fixed) split → begun d save ≡ searchRound (givenOf gv occ blocking start) (trainOf img dt dn h) split divSplit z
+  pub divide-saved : (d save : ℕ) → ok d ≡ dividedAt (divsOf (h .«diverge_count») dt dn) split divSplit z → ok save ≡ savePoint (pathOf img (h .«path_count»)) (h .fixed) split → begun d save ≡ whole
   divide-saved d save p q = rw (searched, ← p, ← q)
 
 module _ (occ img on dt dn : List ℕ) (h : PathHeader) (g : Held occ img on dt dn h) (r : Round) (m : Numbers img h r) where
@@ -193,7 +196,7 @@ module _ (occ img on dt dn : List ℕ) (h : PathHeader) (g : Held occ img on dt 
           ∙ ap (λ (n : TrainIdx). record { train = train; «links_blocked» = occ; «train_idx_moved» = n; «offset_cancel» = r .«offset_cancel»; «idx_split_save» = r .«idx_split_save» }) moved
           ∙ ap (λ (i : ℕ). record { train = train; «links_blocked» = occ; «train_idx_moved» = gv .«train_idx_moved»; «offset_cancel» = r .«offset_cancel»; «idx_split_save» = i }) same
 
-      pub search-is : searchFrom (turnLimit (round .train)) round first ≡ searchRound given train split divSplit z
+      pub search-is : searchFrom (turnLimit (round .train)) round first ≡ roundFrom given train split divSplit z
       unfolding trainOf
       search-is =
           ap (λ (s : State.Search). searchFrom (turnLimit (round .train)) round s) first-is

@@ -9,7 +9,8 @@ use Rattle.link_rules.specs.declared.link_idx.LinkIdx.{LinkIdx}
 use Rattle.disp_structs.specs.Train.{Train}
 use Rattle.image.specs.Image.{estCount, divergeRoom, nodePlace}
 use Rattle.image.specs.declared.codec.PathHeader.{PathHeader}
-use Rattle.free_path.specs.Base.{Res, ok, no}
+use Rattle.free_path.specs.Base.{Res, ok, no, _>>=_}
+use Rattle.free_path.specs.LinkOptType.{Sentinels}
 use Rattle.train_update.specs.State as State
 use Rattle.train_update.specs.State.{Ended, atEnd, blockedAt, again}
 use Rattle.train_update.specs.Update as Update
@@ -81,6 +82,10 @@ givenOf g occ blocking start =
       «link_idxs_blocking» = blocking;
       linksAtStart = start;
     }
+
+-- a round from its split point on
+abbrev pub roundFrom : Update.Given → Train → ℕ → ℕ → Sentinels → Res Ended
+roundFrom g t split divSplit z = Update.beginAt t split divSplit z >>= Update.endFrom g t
 
 -- where a search begins
 abbrev pub startAt : PathHeader → ℕ → ℕ → ℕ → Place

@@ -11,10 +11,10 @@ ghost use Rattle.image.specs.Image.{divergeRoom, nodeAt, distDispPathSearch};
 ghost use Rattle.free_path.specs.Columns.{linkAt};
 ghost use Rattle.free_path.specs.SearchLimit.{offsetCancel};
 ghost use Rattle.free_path.specs.LinkOptType.{linkIdxPath};
-ghost use Rattle.train_update.specs.Update.{roundOf, searchRound};
+ghost use Rattle.train_update.specs.Update.{roundOf};
 ghost use Rattle.search.specs.Read.{pathOf};
 ghost use Rattle.splice.specs.Read.{trainOf, Kept};
-ghost use Rattle.round.specs.Rounds.{Held, Numbers, givenOf, startAt, endedOf, isRefused, isAtEnd};
+ghost use Rattle.round.specs.Rounds.{Held, Numbers, givenOf, roundFrom, startAt, endedOf, isRefused, isAtEnd};
 use crate::End;
 use crate::Given;
 use crate::RoundEnd;
@@ -103,7 +103,7 @@ fn search_at(
     dn: &mut [u16],
 ) -> RoundEnd
     requires { ⌜ Held (now occ) (now img) (now on) (now dt) (now dn) h × (divergeRoom (now img) ≤ length (now dt)) × (divergeRoom (now img) ≤ length (now dn)) × (1 ≤ split) × (split < h .«path_count») ⌝ }
-    ensures { λ x. ⌜ ((blocking start : List LinkIdx) → endedOf x (trainOf (now (img .exit)) (now (dt .exit)) (now (dn .exit)) (x .header)) ≡ searchRound (givenOf g (now (occ .entry)) blocking start) (trainOf (now (img .entry)) (now (dt .entry)) (now (dn .entry)) h) split «div_split» (record { node = z .node; divs = z .divs })) × (isRefused (x .end) ≡ false → Kept (now (img .exit)) (now (img .entry))) × (isAtEnd (x .end) ≡ false) ⌝ }
+    ensures { λ x. ⌜ ((blocking start : List LinkIdx) → endedOf x (trainOf (now (img .exit)) (now (dt .exit)) (now (dn .exit)) (x .header)) ≡ roundFrom (givenOf g (now (occ .entry)) blocking start) (trainOf (now (img .entry)) (now (dt .entry)) (now (dn .entry)) h) split «div_split» (record { node = z .node; divs = z .divs })) × (isRefused (x .end) ≡ false → Kept (now (img .exit)) (now (img .entry))) × (isAtEnd (x .end) ≡ false) ⌝ }
 {
     let m = h.diverge_count as usize;
     let d = diverge::div_at(dn, m, split, div_split, z.node, z.divs);

@@ -19,7 +19,7 @@ use Rattle.free_path.specs.LinkOptType.{Sentinels}
 use Rattle.free_path.proofs.ColumnLaws.{listed-out}
 use Rattle.splice.proofs.ListLaws.{read-in, read-out, read-before, walk-miss, walk-none}
 use Rattle.train_update.specs.State.{Ended}
-use Rattle.train_update.specs.Update.{Given, atSentinel, divPoint, savePoint, searchAt, roundAt, searchRound, searchFrom, turnLimit}
+use Rattle.train_update.specs.Update.{Given, atSentinel, divPoint, savePoint, searchAt, roundAt, Entry, searches, beginAt, endFrom, searchFrom, turnLimit}
 use Rattle.search.specs.Read.{divsOf}
 use Rattle.search.proofs.ListedLaws.{below-or-not}
 use Rattle.round_start.specs.Start.{partedAt, dividedAt}
@@ -130,17 +130,36 @@ parted-then divs split d k = go (before divs d) (at divs d)
     go (ok a) y = ahead (leb (a .«disp_node_idx») split) y
     go (no j) y = refl
 
+bind-then : {A B C : Type 0} (m : Res A) (f : A → Res B) (k : B → Res C) → ((m >>= f) >>= k) ≡ (m >>= λ a. f a >>= k)
+bind-then (ok a) f k = refl
+bind-then (no n) f k = refl
+
 module _ (g : Given) (t : Train) (split divSplit : ℕ) (z : Sentinels) where
-  pub round-is : searchRound g t split divSplit z
-      ≡ (at (t .«disp_path») split >>= λ n. dividedAt (t .«div_nodes») split divSplit z >>= λ d. savePoint (t .«disp_path») (t .«disp_node_idx_fixed») split >>= λ save. searchFrom (turnLimit t) (roundAt g t n split) (searchAt t split d save))
-  unfolding searchRound
-  round-is = ap (λ (f : DispNode → Res Ended). at (t .«disp_path») split >>= f) (fun-ext (λ n. each n (divPoint (t .«div_nodes») split divSplit z)))
+  abbrev beginning : DispNode → ℕ → ℕ → Entry
+  beginning n d save = searches (record { node = n; «idx_split» = split; «div_idx_split» = d; «idx_save» = save })
+
+  begins-is : beginAt t split divSplit z
+      ≡ (at (t .«disp_path») split >>= λ n. dividedAt (t .«div_nodes») split divSplit z >>= λ d. savePoint (t .«disp_path») (t .«disp_node_idx_fixed») split >>= λ save. ok (beginning n d save))
+  unfolding beginAt
+  begins-is = ap (λ (f : DispNode → Res Entry). at (t .«disp_path») split >>= f) (fun-ext (λ n. each n (divPoint (t .«div_nodes») split divSplit z)))
     where
-      searched : DispNode → ℕ → Res Ended
-      searched n d = savePoint (t .«disp_path») (t .«disp_node_idx_fixed») split >>= λ save. searchFrom (turnLimit t) (roundAt g t n split) (searchAt t split d save)
+      saved : DispNode → ℕ → Res Entry
+      saved n d = savePoint (t .«disp_path») (t .«disp_node_idx_fixed») split >>= λ save. ok (beginning n d save)
 
       each : (n : DispNode) (x : Res ℕ)
-          → (x >>= λ d. before (t .«div_nodes») d >>= λ a. need (leb (a .«disp_node_idx») split) >> (at (t .«div_nodes») d >>= λ b. need (ltb split (b .«disp_node_idx»)) >> searched n d))
-          ≡ ((x >>= λ d. partedAt (t .«div_nodes») split d) >>= λ d. searched n d)
-      each n (ok d) = parted-then (t .«div_nodes») split d (searched n)
+          → (x >>= λ d. before (t .«div_nodes») d >>= λ a. need (leb (a .«disp_node_idx») split) >> (at (t .«div_nodes») d >>= λ b. need (ltb split (b .«disp_node_idx»)) >> saved n d))
+          ≡ ((x >>= λ d. partedAt (t .«div_nodes») split d) >>= λ d. saved n d)
+      each n (ok d) = parted-then (t .«div_nodes») split d (saved n)
       each n (no j) = refl
+
+  -- with the node at the split point, the search comes after its two indices
+  pub round-is : (n : DispNode) → at (t .«disp_path») split ≡ ok n → (beginAt t split divSplit z >>= endFrom g t)
+      ≡ (dividedAt (t .«div_nodes») split divSplit z >>= λ d. savePoint (t .«disp_path») (t .«disp_node_idx_fixed») split >>= λ save. searchFrom (turnLimit t) (roundAt g t n split) (searchAt t split d save))
+  round-is n e =
+      ap (λ (x : Res Entry). x >>= endFrom g t) (begins-is ∙ ap (λ (x : Res DispNode). x >>= λ y. after y) e)
+      ∙ bind-then (dividedAt (t .«div_nodes») split divSplit z) (λ d. savePoint (t .«disp_path») (t .«disp_node_idx_fixed») split >>= λ save. ok (beginning n d save)) (endFrom g t)
+      ∙ ap (λ (f : ℕ → Res Ended). dividedAt (t .«div_nodes») split divSplit z >>= f)
+      (fun-ext (λ d. bind-then (savePoint (t .«disp_path») (t .«disp_node_idx_fixed») split) (λ save. ok (beginning n d save)) (endFrom g t)))
+    where
+      after : DispNode → Res Entry
+      after y = dividedAt (t .«div_nodes») split divSplit z >>= λ d. savePoint (t .«disp_path») (t .«disp_node_idx_fixed») split >>= λ save. ok (beginning y d save)

@@ -18,7 +18,7 @@ use Rattle.free_path.specs.declared.link_opt_type.LinkOptType.the-variants.{Non
 use Rattle.free_path.proofs.ListLaws.{All}
 use Rattle.free_path.proofs.PlainLaws.{Link32, same-index}
 use Rattle.free_path.proofs.MapLaws.{map-id, id-map, bind-same}
-use Rattle.train_update.specs.Update.{Given, apart, searchBegin, meeting, splitPoint, searchRound, roundOf, straysOf}
+use Rattle.train_update.specs.Update.{Given, apart, searchBegin, meeting, splitPoint, Entry, pathEnds, searches, beginAt, beginOf, endFrom, roundOf, straysOf}
 use Rattle.train_update.proofs.RoundRenumbering.{given}
 
 apart-plain : (c : LinkOptType) (on : LinkIdx → Bool) → apart (plainly c) on ≡ apart c on
@@ -66,10 +66,19 @@ module _ (occ : List ℕ) (bs ls : List LinkIdx) (b : All Link32 bs) (z : occupi
           find-plain (searchBegin split (t .«disp_node_idx_free») sentinel) sentinel (begins split (t .«disp_node_idx_free») sentinel),
         )
 
-    pub roundOf-plain : (split divSplit : ℕ) → roundOf (g (plainly class)) t split divSplit ≡ roundOf (g class) t split divSplit
-    unfolding roundOf searchRound
-    roundOf-plain split divSplit =
+    beginOf-plain : (split divSplit : ℕ) → beginOf (g (plainly class)) t split divSplit ≡ beginOf (g class) t split divSplit
+    unfolding beginOf
+    beginOf-plain split divSplit =
         map-id _ _
         (bind-same (λ x. x) (calcIdxSentinels divSplit moved (t .«div_nodes»)) _ _ _ refl λ y.
         bind-same (λ x. x) (splitPoint (g class) t split (y .node)) _ _ _ (splitPoint-plain split (y .node)) λ i.
         id-map _ _ refl)
+
+    endFrom-plain : (x : Entry) → endFrom (g (plainly class)) t x ≡ endFrom (g class) t x
+    endFrom-plain pathEnds = refl
+    endFrom-plain (searches b) = refl
+
+    pub roundOf-plain : (split divSplit : ℕ) → roundOf (g (plainly class)) t split divSplit ≡ roundOf (g class) t split divSplit
+    unfolding roundOf
+    roundOf-plain split divSplit =
+        map-id _ _ (bind-same (λ x. x) (beginOf (g class) t split divSplit) _ _ _ (beginOf-plain split divSplit) λ x. id-map _ _ (endFrom-plain x))

@@ -25,7 +25,7 @@ use Rattle.free_path.proofs.MapLaws.{mapRes, map-id, id-map, bind-map, bind-sam
 use Rattle.train_update.specs.State.{Round, Search, Turn, goOn, ends, Ended, atEnd}
 use Rattle.train_update.specs.Look.{Here, lookHere, storedTrains, occupiedNext, moveOf}
 use Rattle.train_update.specs.Moves.{notFake}
-use Rattle.train_update.specs.Update.{doMove, searchStep, searchFrom, turnLimit, Given, apart, searchBegin, meeting, splitPoint, atSentinel, divPoint, savePoint, searchAt, roundAt, searchRound, roundOf}
+use Rattle.train_update.specs.Update.{doMove, searchStep, searchFrom, turnLimit, Given, apart, searchBegin, meeting, splitPoint, atSentinel, divPoint, savePoint, searchAt, roundAt, Begin, Entry, pathEnds, searches, beginAt, beginOf, endFrom, roundOf}
 use Rattle.train_update.specs.declared.Move.{Move}
 use Rattle.train_update.specs.declared.Move.the-variants.{Rewind, Alternate, ChangeDiverge, PushSaved, BlockEmpty, Advance, Join}
 use Rattle.train_update.proofs.StateRenumbering.{rRound, rSearch, rHere, rEnded, rTurn, noTrain-r}
@@ -108,6 +108,11 @@ onPathLinks-r top p rp path l = ap (λ ls. contains ls (rLink p l)) (linksOnPath
 
 -- ---- a round
 
+-- the node at idx_split is renumbered
+abbrev pub rEntry : (ℕ → ℕ) → Entry → Entry
+rEntry p pathEnds = pathEnds
+rEntry p (searches b) = searches (record { node = rNode p (b .node); «idx_split» = b .«idx_split»; «div_idx_split» = b .«div_idx_split»; «idx_save» = b .«idx_save» })
+
 -- what an update is given, with any class
 abbrev pub given : LinkOptType → List ℕ → List LinkIdx → List LinkIdx → TrainIdx → Bool → Metres → Given
 given c occ blocking onStart moved local lowest =
@@ -155,22 +160,31 @@ module _ (p q : ℕ → ℕ) (topT : ℕ) (rq : Renumbering topT q) (occ occ′ 
         (apart-r p (plainly c) (contains (linksOnPath path)) (contains (linksOnPath (map (rNode p) path))) (onPathLinks-r (length occ - 1) p rp path))
         (meeting-r split sentinel)
 
-    searchRound-r : (split divSplit : ℕ) (z : Sentinels) → searchRound g′ (rTrainDisp p q t) split divSplit z ≡ mapRes E (searchRound g t split divSplit z)
-    unfolding searchRound
-    searchRound-r split divSplit z =
-        bind-map (rNode p) E (at path split) _ _ _ (at-map (rNode p) path split) λ n.
-        bind-same E (divPoint (t .«div_nodes») split divSplit z) _ _ _ (divPoint-r q (t .«div_nodes») split divSplit z) λ d.
-        bind-map (rDiv q) E (before (t .«div_nodes») d) _ _ _ (before-map (rDiv q) (t .«div_nodes») d) λ a.
-        need-map E (leb (a .«disp_node_idx») split) _ _ _ refl
-        (bind-map (rDiv q) E (at (t .«div_nodes») d) _ _ _ (at-map (rDiv q) (t .«div_nodes») d) λ b.
-        need-map E (ltb split (b .«disp_node_idx»)) _ _ _ refl
-        (bind-same E (savePoint path (t .«disp_node_idx_fixed») split) _ _ _ (savePoint-r p path (t .«disp_node_idx_fixed») split) λ save.
-        ap₂ (λ k s. searchFrom (3 * k + 1) (rRound p q occ′ (roundAt g t n split)) s) (length-map (t .«est_times») (rEst p)) (searchAt-r p q topT rq t split d save)
-        ∙ searchFrom-r p q topT rq occ′ (roundAt g t n split) rp m (turnLimit t) (searchAt t split d save)))
+    beginAt-r : (split divSplit : ℕ) (z : Sentinels) → beginAt (rTrainDisp p q t) split divSplit z ≡ mapRes (rEntry p) (beginAt t split divSplit z)
+    unfolding beginAt
+    beginAt-r split divSplit z =
+        bind-map (rNode p) (rEntry p) (at path split) _ _ _ (at-map (rNode p) path split) λ n.
+        bind-same (rEntry p) (divPoint (t .«div_nodes») split divSplit z) _ _ _ (divPoint-r q (t .«div_nodes») split divSplit z) λ d.
+        bind-map (rDiv q) (rEntry p) (before (t .«div_nodes») d) _ _ _ (before-map (rDiv q) (t .«div_nodes») d) λ a.
+        need-map (rEntry p) (leb (a .«disp_node_idx») split) _ _ _ refl
+        (bind-map (rDiv q) (rEntry p) (at (t .«div_nodes») d) _ _ _ (at-map (rDiv q) (t .«div_nodes») d) λ b.
+        need-map (rEntry p) (ltb split (b .«disp_node_idx»)) _ _ _ refl
+        (bind-same (rEntry p) (savePoint path (t .«disp_node_idx_fixed») split) _ _ _ (savePoint-r p path (t .«disp_node_idx_fixed») split) λ save. refl))
+
+    beginOf-r : (split divSplit : ℕ) → beginOf g′ (rTrainDisp p q t) split divSplit ≡ mapRes (rEntry p) (beginOf g t split divSplit)
+    unfolding beginOf
+    beginOf-r split divSplit =
+        bind-same (rEntry p) (calcIdxSentinels divSplit moved (t .«div_nodes»)) _ _ _ (calcIdxSentinels-r topT q rq divSplit moved (t .«div_nodes»)) λ z.
+        bind-same (rEntry p) (splitPoint g t split (z .node)) _ _ _ (splitPoint-r split (z .node)) λ i.
+        cond-map (mapRes (rEntry p)) (leb (length path) i) _ (ok pathEnds) (beginAt t i divSplit z) _ _ (ap (λ n. leb n i) (length-map path (rNode p))) refl (beginAt-r i divSplit z)
+
+    endFrom-r : (x : Entry) → endFrom g′ (rTrainDisp p q t) (rEntry p x) ≡ mapRes E (endFrom g t x)
+    endFrom-r pathEnds = refl
+    endFrom-r (searches b) =
+        let r = roundAt g t (b .node) (b .«idx_split») in
+        ap₂ (λ k s. searchFrom (3 * k + 1) (rRound p q occ′ r) s) (length-map (t .«est_times») (rEst p)) (searchAt-r p q topT rq t (b .«idx_split») (b .«div_idx_split») (b .«idx_save»))
+        ∙ searchFrom-r p q topT rq occ′ r rp m (turnLimit t) (searchAt t (b .«idx_split») (b .«div_idx_split») (b .«idx_save»))
 
     pub roundOf-r : (split divSplit : ℕ) → roundOf g′ (rTrainDisp p q t) split divSplit ≡ mapRes E (roundOf g t split divSplit)
     unfolding roundOf
-    roundOf-r split divSplit =
-        bind-same E (calcIdxSentinels divSplit moved (t .«div_nodes»)) _ _ _ (calcIdxSentinels-r topT q rq divSplit moved (t .«div_nodes»)) λ z.
-        bind-same E (splitPoint g t split (z .node)) _ _ _ (splitPoint-r split (z .node)) λ i.
-        cond-map (mapRes E) (leb (length path) i) _ (ok atEnd) (searchRound g t i divSplit z) _ _ (ap (λ n. leb n i) (length-map path (rNode p))) refl (searchRound-r i divSplit z)
+    roundOf-r split divSplit = bind-map (rEntry p) E (beginOf g t split divSplit) _ _ _ (beginOf-r split divSplit) endFrom-r

@@ -130,9 +130,21 @@ roundAt g t n split =
       «idx_split_save» = split;
     }
 
--- the search from the split point (316-633)
-unfoldable pub searchRound : Given → Train → ℕ → ℕ → Sentinels → Res Ended
-searchRound g t split divSplit z = do
+-- where the search of a round begins: the node at idx_split, div_idx_split and idx_save
+pub record Begin : Type 0 where
+  pub node : DispNode
+  pub «idx_split» : ℕ
+  pub «div_idx_split» : ℕ
+  pub «idx_save» : ℕ
+
+-- a round ends at the end of the path, or searches
+pub data Entry : Type 0 where
+  pathEnds : Entry
+  searches : Begin → Entry
+
+-- what is found at the split point (316-341)
+unfoldable pub beginAt : Train → ℕ → ℕ → Sentinels → Res Entry
+beginAt t split divSplit z = do
   n ← at (t .«disp_path») split
   d ← divPoint (t .«div_nodes») split divSplit z
   a ← before (t .«div_nodes») d
@@ -140,15 +152,27 @@ searchRound g t split divSplit z = do
   b ← at (t .«div_nodes») d
   need (ltb split (b .«disp_node_idx»))
   save ← savePoint (t .«disp_path») (t .«disp_node_idx_fixed») split
-  searchFrom (turnLimit t) (roundAt g t n split) (searchAt t split d save)
+  ok (searches (record { node = n; «idx_split» = split; «div_idx_split» = d; «idx_save» = save }))
+
+-- what a round finds before its search (279-341)
+unfoldable pub beginOf : Given → Train → ℕ → ℕ → Res Entry
+beginOf g t split divSplit = do
+  z ← calcIdxSentinels divSplit (g .«train_idx_moved») (t .«div_nodes»)
+  i ← splitPoint g t split (z .node)
+  let begun = beginAt t i divSplit z
+  cond (leb (length (t .«disp_path»)) i) (ok pathEnds) begun
+
+-- the search from there (343-633)
+abbrev pub begunSearch : Given → Train → Begin → Res Ended
+begunSearch g t b = searchFrom (turnLimit t) (roundAt g t (b .node) (b .«idx_split»)) (searchAt t (b .«idx_split») (b .«div_idx_split») (b .«idx_save»))
+
+abbrev pub endFrom : Given → Train → Entry → Res Ended
+endFrom g t pathEnds = ok atEnd
+endFrom g t (searches b) = begunSearch g t b
 
 -- 279-633
 unfoldable pub roundOf : Given → Train → ℕ → ℕ → Res Ended
-roundOf g t split divSplit = do
-  z ← calcIdxSentinels divSplit (g .«train_idx_moved») (t .«div_nodes»)
-  i ← splitPoint g t split (z .node)
-  let searched = searchRound g t i divSplit z
-  cond (leb (length (t .«disp_path»)) i) (ok atEnd) searched
+roundOf g t split divSplit = beginOf g t split divSplit >>= endFrom g t
 
 -- ---- the answer
 

@@ -25,7 +25,7 @@ use Rattle.train_update.specs.Look.{Here, current, lookFrom, blockBy, Stored, s
 use Rattle.train_update.specs.Moves.{shiftSave, rewindDivs, oneBack, rewind, alternate, changeDiverge, pushSaved, advance}
 use Rattle.train_update.specs.Join.{without, removeLinks, insertLinks, shiftOffsets, moveEnds, newEnds, updateFreePathHelpers, shiftDivs, updateDivNodes, freeIsCorrect, spliceAt, join}
 use Rattle.tally.specs.declared.Tally.{Tally}
-use Rattle.train_update.specs.Update.{Given, Between, Updated, Refused, doMove, searchStep, searchFrom, meeting, splitPoint, searchRound, roundOf, finish, afterRound, due, faultsOf, refused, roundsFrom}
+use Rattle.train_update.specs.Update.{Given, Between, Updated, Refused, doMove, searchStep, searchFrom, meeting, splitPoint, Entry, pathEnds, searches, beginAt, beginOf, endFrom, roundOf, finish, afterRound, due, faultsOf, refused, roundsFrom}
 use Rattle.train_update.specs.declared.Move.{Move}
 use Rattle.train_update.specs.declared.Move.the-variants.{Rewind, Alternate, ChangeDiverge, PushSaved, BlockEmpty, Advance, Join}
 
@@ -300,13 +300,21 @@ few-split : (g : Given) (t : Train) (split sentinel : ℕ) → Few (splitPoint g
 unfolding splitPoint
 few-split g t split sentinel = search (few, few-meeting) depth 20
 
-few-search-round : (g : Given) (t : Train) (split k : ℕ) (z : Sentinels) → Few (searchRound g t split k z)
-unfolding searchRound
-few-search-round g t split k z = search (few, few-search) depth 30
+few-begin-at : (t : Train) (split k : ℕ) (z : Sentinels) → Few (beginAt t split k z)
+unfolding beginAt
+few-begin-at t split k z = search few depth 30
+
+few-begin : (g : Given) (t : Train) (split k : ℕ) → Few (beginOf g t split k)
+unfolding beginOf
+few-begin g t split k = search (few, few-sentinels, few-split, few-begin-at) depth 20
+
+few-end : (g : Given) (t : Train) (x : Entry) → Few (endFrom g t x)
+few-end g t pathEnds = goes atEnd
+few-end g t (searches b) = few-search _ _ _
 
 few-round : (g : Given) (t : Train) (split k : ℕ) → Few (roundOf g t split k)
 unfolding roundOf
-few-round g t split k = search (few, few-sentinels, few-split, few-search-round) depth 20
+few-round g t split k = few-bind (few-begin g t split k) (few-end g t)
 
 -- ---- the errors of the path
 

@@ -16,7 +16,7 @@ use Rattle.free_path.specs.Validate.{isStray, strays, stepsNext, badStep, badSt
 use Rattle.image.specs.Image.{typeOf, pathHeader, estFrom, nodeFrom, divergeFrom, putNode, putDiverge, zeroWords, putPathHeader}
 use Rattle.image.specs.Codec.{decoded, putEach, putRecords, storedInto}
 use Rattle.image_fault.specs.ImageFault.{firstUnfit, countsFit, partsFit, trainFits, estTypeFits, nodeTypeFits, zeroWord, unusedZero, recordsFit, imageFits, floatFits, timeFits, distFits, eventFits, estLinksFit, estFits, nodeFits, indicesFit, headerFits, valueFault, cycleFault, stepsTo as steps, comesFrom, endsAt, arrivesOn, arrived, firstArrival, onRoute, innerFits, divergeFits, routeFault, imageFault}
-use Rattle.train_update.specs.Update.{Success, Faulty, answerOf, splitPoint, roundOf, finish, afterRound, roundsFrom, adjustSentinel, updateFreePath}
+use Rattle.train_update.specs.Update.{Success, Faulty, answerOf, splitPoint, beginOf, roundOf, finish, afterRound, roundsFrom, adjustSentinel, updateFreePath}
 use Rattle.update_image.specs.UpdateImage.{linksBelow, callFault, refusedAnswer, updateFault, updatedImage}
 
 -- numbers of 4 bytes
@@ -39,7 +39,7 @@ slot free end =
 
 -- what the examples compute with
 unfoldable everything : ℕ
-unfolding ofBits toBits add sub div neg lt le eq ne leAt putLe allBelow occupied realOf bitsOf inReach magnitude nearFloat listed follow via reach firstAt at walkFrom stepsTo count any linksOnPath contains classWalk linkOptType calcIdxSentinels isStray strays stepsNext badStep badSteps inConflict validateFreePath typeOf pathHeader estFrom nodeFrom divergeFrom putNode putDiverge zeroWords putPathHeader decoded putEach putRecords storedInto firstUnfit countsFit partsFit trainFits estTypeFits nodeTypeFits zeroWord unusedZero recordsFit imageFits floatFits timeFits distFits eventFits estLinksFit estFits nodeFits indicesFit headerFits valueFault cycleFault steps comesFrom endsAt arrivesOn arrived firstArrival onRoute innerFits divergeFits routeFault imageFault splitPoint roundOf finish afterRound roundsFrom adjustSentinel updateFreePath words slot linksBelow callFault updateFault updatedImage
+unfolding ofBits toBits add sub div neg lt le eq ne leAt putLe allBelow occupied realOf bitsOf inReach magnitude nearFloat listed follow via reach firstAt at walkFrom stepsTo count any linksOnPath contains classWalk linkOptType calcIdxSentinels isStray strays stepsNext badStep badSteps inConflict validateFreePath typeOf pathHeader estFrom nodeFrom divergeFrom putNode putDiverge zeroWords putPathHeader decoded putEach putRecords storedInto firstUnfit countsFit partsFit trainFits estTypeFits nodeTypeFits zeroWord unusedZero recordsFit imageFits floatFits timeFits distFits eventFits estLinksFit estFits nodeFits indicesFit headerFits valueFault cycleFault steps comesFrom endsAt arrivesOn arrived firstArrival onRoute innerFits divergeFits routeFault imageFault splitPoint beginOf roundOf finish afterRound roundsFrom adjustSentinel updateFreePath words slot linksBelow callFault updateFault updatedImage
 everything = 0
 
 -- the update of the sheet example: train 2 moved, nothing held, one round; the last diverge node gets train 2

@@ -22,7 +22,7 @@ use Rattle.free_path.specs.declared.link_opt_type.LinkOptType.{LinkOptType}
 use Rattle.train_update.specs.State.{Round, Search, Turn, ends, Ended, atEnd}
 use Rattle.train_update.specs.Look.{Here}
 use Rattle.train_update.specs.Moves.{notFake}
-use Rattle.train_update.specs.Update.{searchStep, searchFrom, turnLimit, Given, apart, searchBegin, meeting, splitPoint, divPoint, savePoint, searchAt, roundAt, searchRound, roundOf}
+use Rattle.train_update.specs.Update.{searchStep, searchFrom, turnLimit, Given, apart, searchBegin, meeting, splitPoint, divPoint, savePoint, searchAt, roundAt, Begin, Entry, pathEnds, searches, beginAt, beginOf, begunSearch, endFrom, roundOf}
 use Rattle.train_update.specs.Accepted.{Chain, Accepted, DivsAccepted, Leads}
 use Rattle.est_times.proofs.Counting.{two}
 use Rattle.update_laws.specs.Turns.{SomeTrain, Stands, Did}
@@ -218,9 +218,16 @@ module _ (links : ℕ) (v : Given) (t : Train) (g : Accepted links t) where
       (λ c. let w = walk-ok notFake (t .«disp_path») split (c .1) in omega (arith, at-below (t .«disp_path») k (w .1)))
       (cond-cases (leb (t .«disp_node_idx_fixed») split) h)
 
-  round-begins : (split divSplit : ℕ) (z : Sentinels) {e : Ended} → 1 ≤ split → searchRound v t split divSplit z ≡ ok e → Begun links (v .«links_blocked») t (ok e)
-  unfolding searchRound
-  round-begins split divSplit z {e} l h =
+  begin-same : {a b : Begin} → _≡_ {A = Res Entry} (ok (searches a)) (ok (searches b)) → a ≡ b
+  begin-same h = cc
+
+  ends-not : {b : Begin} {B : Type 0} → _≡_ {A = Res Entry} (ok pathEnds) (ok (searches b)) → B
+  ends-not h = let z : _≡_ {A = ℕ} 0 1 = cc in absurd (omega arith)
+
+  -- the search that is found at a split point, however it ends
+  begins-at : (split divSplit : ℕ) (z : Sentinels) (b : Begin) (x : Res Ended) → 1 ≤ split → beginAt t split divSplit z ≡ ok (searches b) → begunSearch v t b ≡ x → Begun links (v .«links_blocked») t x
+  unfolding beginAt
+  begins-at split divSplit z y x l h q =
       let n = bind-ok (at (t .«disp_path») split) h in
       let d = bind-ok (divPoint (t .«div_nodes») split divSplit z) (n .2) in
       let a = bind-ok (before (t .«div_nodes») (d .0)) (d .2) in
@@ -242,8 +249,19 @@ module _ (links : ℕ) (v : Given) (t : Train) (g : Accepted links t) where
             let i : a .0 .«disp_node_idx» ≡ x .«disp_node_idx» = ap (λ (m : DivergeNode). m .«disp_node_idx») (ok-same (sym (a .1) ∙ p)) in
             let j : b .0 .«disp_node_idx» ≡ y .«disp_node_idx» = ap (λ (m : DivergeNode). m .«disp_node_idx») (ok-same (sym (b .1) ∙ q)) in
             omega (arith, leb-true (a .0 .«disp_node_idx») split (u .0), ltb-true split (b .0 .«disp_node_idx») (o .0))) (omega arith);
-        searched = s .2;
+        searched = ap (begunSearch v t) (begin-same (s .2)) ∙ q;
       }
+
+  -- a round that searches, however its search ends
+  pub search-begun : (split divSplit : ℕ) (b : Begin) (x : Res Ended) → 1 ≤ split → 1 ≤ divSplit → beginOf v t split divSplit ≡ ok (searches b) → begunSearch v t b ≡ x → Begun links (v .«links_blocked») t x
+  unfolding beginOf
+  search-begun split divSplit b x l m h q =
+      let z = bind-ok (calcIdxSentinels divSplit (v .«train_idx_moved») (t .«div_nodes»)) h in
+      let i = bind-ok (splitPoint v t split (z .0 .node)) (z .2) in
+      let low = split-low v t split (z .0 .node) l (sentinel-low (length (t .«disp_path»)) (t .divergeRoom) divSplit (v .«train_idx_moved») (t .«div_nodes») (g .divs) (g .path .some) m (z .1)) (i .1) in ⊎-elim
+      (λ c. ends-not (c .1))
+      (λ c. begins-at (i .0) divSplit (z .0) b x low (c .1) q)
+      (cond-cases (leb (length (t .«disp_path»)) (i .0)) (i .2))
 
   begun-good : {e : Ended} → Begun links (v .«links_blocked») t (ok e) → EndsGood links t e
   begun-good {e} w = go (w .round) (w .search) (w .train-is) (w .good) (w .searched)
@@ -254,13 +272,11 @@ module _ (links : ℕ) (v : Given) (t : Train) (g : Accepted links t) where
   -- a round is at its end, or searches
   pub round-begun : (split divSplit : ℕ) {e : Ended} → 1 ≤ split → 1 ≤ divSplit → roundOf v t split divSplit ≡ ok e → (e ≡ atEnd) ⊎ Begun links (v .«links_blocked») t (ok e)
   unfolding roundOf
-  round-begun split divSplit {e} l m h =
-      let z = bind-ok (calcIdxSentinels divSplit (v .«train_idx_moved») (t .«div_nodes»)) h in
-      let i = bind-ok (splitPoint v t split (z .0 .node)) (z .2) in
-      let low = split-low v t split (z .0 .node) l (sentinel-low (length (t .«disp_path»)) (t .divergeRoom) divSplit (v .«train_idx_moved») (t .«div_nodes») (g .divs) (g .path .some) m (z .1)) (i .1) in ⊎-elim
-      (λ c. inl (sym (ok-same (c .1))))
-      (λ c. inr (round-begins (i .0) divSplit (z .0) low (c .1)))
-      (cond-cases (leb (length (t .«disp_path»)) (i .0)) (i .2))
+  round-begun split divSplit {e} l m h = let y = bind-ok (beginOf v t split divSplit) h in go (y .0) (y .1) (y .2)
+    where
+      go : (x : Entry) → beginOf v t split divSplit ≡ ok x → endFrom v t x ≡ ok e → (e ≡ atEnd) ⊎ Begun links (v .«links_blocked») t (ok e)
+      go pathEnds p q = inl (sym (ok-same q))
+      go (searches b) p q = inr (search-begun split divSplit b (ok e) l m p q)
 
   pub round-good : (split divSplit : ℕ) {e : Ended} → 1 ≤ split → 1 ≤ divSplit → roundOf v t split divSplit ≡ ok e → EndsGood links t e
   round-good split divSplit {e} l m h = ⊎-elim (λ q. subst (λ (y : Ended). EndsGood links t y) (sym q) tt) (λ w. begun-good w) (round-begun split divSplit l m h)

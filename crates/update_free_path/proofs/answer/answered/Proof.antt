@@ -31,8 +31,8 @@ returns c =
     let z = c .before .before .before .before .before .before .before .before .before .before .before .before .before .before in
     let a = z .args in
     λ was.
-        answered-is (a .r .tally) was (trainOf (now (a .img)) (now (a .dt)) (now (a .dn)) (a .r .header)) (now (a .image)) (z .pre .1) (a .r .stop) (errorsOf (now (a .img)) (now (a .occ)) (a .r .header)) _ (c .before .faults-in .result) _ _
-        (c .before .before .before .before .before .before .before .status-by .ensures) (omega (arith, c .before .faults-in .ok)) (c .before .faults-in .ensures) (c .faulted .ensures) (c .before .before .before .before .leave .ensures)
+    answered-is (a .r .tally) was (trainOf (now (a .img)) (now (a .dt)) (now (a .dn)) (a .r .header)) (now (a .image)) (z .pre .1) (a .r .stop) (errorsOf (now (a .img)) (now (a .occ)) (a .r .header)) _ (c .before .faults-in .result) _ _
+    (c .before .before .before .before .before .before .before .status-by .ensures) (omega (arith, c .before .faults-in .ok)) (c .before .faults-in .ensures) (c .faulted .ensures) (c .before .before .before .before .leave .ensures)
 
 pub answered-spec : {M : Type 1} → statement M
 answered-spec =
