@@ -4,14 +4,13 @@ use mathlib.Core.Bool.{Bool, true, false, not}
 use mathlib.Core.List.{List}
 use Prim.Native.Nat.{ℕ, zero, suc, _*_, _-_, _%_, _≤_, _<_}
 use native.Mathlib.Omega.{arith}
-use lib.Dec.{eqb, lit<}
+use lib.Dec.{eqb}
 use lib.ListN.{length, getD}
 use borrow.Author.Tests.{eq-eqb}
 use Rattle.link_rules.specs.LinkIdx.{noLink, occupied}
 use Rattle.link_rules.specs.Renumbering.{Renumbering}
 use Rattle.link_rules.specs.Matching.{OccupanciesMatch}
 use Rattle.link_rules.proofs.OctetLaws.{Bytes}
-use Rattle.link_rules.proofs.RenumberingLaws.{within}
 use Rattle.image_fault.specs.ImageFault.{imageFault}
 use Rattle.image_fault.specs.declared.Fault.{Fault}
 use Rattle.train_update.specs.Update.{Status, Success, Blocked, Faulty, Refused}
@@ -95,7 +94,8 @@ pub record ChecksMatch (p q : ℕ → ℕ) (slots : ℕ) (c c′ : Checked) : Ty
   pub report : NotRefused (ReportsMatch q slots (c .report) (c′ .report)) (c .answer)
   pub yards : YardsMatch p q (c .yard) (c′ .yard)
 
-module _ (p q : ℕ → ℕ) (yard yard′ occ occ′ : List ℕ) (a a′ : CheckArgs) (report report′ : List ℕ) (links : Renumbering (length occ - 1) p) (trains : Renumbering 65535 q)
+module _ (top : ℕ) (few-trains : top < 65536) (p q : ℕ → ℕ) (yard yard′ occ occ′ : List ℕ) (a a′ : CheckArgs) (report report′ : List ℕ)
+    (links : Renumbering (length occ - 1) p) (trains : Renumbering top q)
     (among : (t : ℕ) → t ≤ slotCount yard → q t ≤ slotCount yard) (ok : yardFits yard ≡ true) (ok′ : yardFits yard′ ≡ true) (m : YardsMatch p q yard yard′)
     (o : OccupanciesMatch p q occ occ′) (b : Bytes yard) (b′ : Bytes yard′) (w : Trains16 occ) (g : ArgsMatch p q a a′) (long : length report′ ≡ length report) where
   abbrev S : ℕ
@@ -105,7 +105,7 @@ module _ (p q : ℕ → ℕ) (yard yard′ occ occ′ : List ℕ) (a a′ : Chec
   f = checkFault yard occ a (length report)
 
   calls : CallsMatch p q occ occ′ (a .blocking) (a′ .blocking)
-  calls = record { links = links; lastTrain = 65535; fewTrains = lit< tt; trains = trains; occupancies = o; order = g .blocking }
+  calls = record { links = links; lastTrain = top; fewTrains = few-trains; trains = trains; occupancies = o; order = g .blocking }
 
   -- the same refusal, or none in both
   fault-same : checkFault yard′ occ′ a′ (length report′) ≡ f
@@ -119,7 +119,7 @@ module _ (p q : ℕ → ℕ) (yard yard′ occ occ′ : List ℕ) (a a′ : Chec
         ok,
         ok′,
         m .slots,
-        leb-slots 65535 S q trains among (a .moved),
+        leb-slots top S q trains among (a .moved),
         long,
       )
 
@@ -143,7 +143,7 @@ module _ (p q : ℕ → ℕ) (yard yard′ occ occ′ : List ℕ) (a a′ : Chec
 
       -- the renumbered slot
       slot : (t : ℕ) → 1 ≤ t → t ≤ S → (1 ≤ q t) × (q t ≤ slotCount yard′)
-      slot t l k = (some 65535 S q trains t l, omega (arith, among t k, m .slots))
+      slot t l k = (some top S q trains t l, omega (arith, among t k, m .slots))
 
       slots-match : (t : ℕ) → 1 ≤ t → t ≤ S → VisitsMatch p q (slotVisit yard occ a t) (slotVisit yard′ occ′ a′ (q t))
       slots-match t l k =
@@ -157,21 +157,23 @@ module _ (p q : ℕ → ℕ) (yard yard′ occ occ′ : List ℕ) (a a′ : Chec
       -- as many rows of a kind that does not see the numbering
       many : (test : Row → Bool) → ((r : Row) → test (rRow q r) ≡ test r) → howMany (λ t. test (row′ t)) S ≡ howMany (λ t. test (row t)) S
       many test h =
-          sym (many-renumbered 65535 S q trains among (λ t. test (row′ t)))
+          sym (many-renumbered top S q trains among (λ t. test (row′ t)))
           ∙ many-same (λ t. test (row′ (q t))) (λ t. test (row t)) S (λ t l k. ap test (slots-match t l k .row) ∙ h (row t))
 
-      holder-fits : (t : ℕ) → 1 ≤ t → row t .holder < 65536
-      holder-fits t l = omega (arith, ap (λ (v : Visit). v .row .holder) (visited-slot yard occ a t begins l), holder-few occ a t (partOf yard t), moved-few)
+      holder-low : (t : ℕ) → 1 ≤ t → row t .holder ≤ S
+      holder-low t l =
+          omega (arith, ap (λ (v : Visit). v .row .holder) (visited-slot yard occ a t begins l), holder-few occ a t (partOf yard t), taken yard occ a (length report) clean .moved)
 
       reports : ReportsMatch q S (reportAfter row report S) (reportAfter row′ report′ (slotCount yard′))
       reports =
           record {
             long = report-length row′ report′ (slotCount yard′) ∙ (long ∙ sym (report-length row report S));
             rows = λ t l k.
-                let few = holder-fits t l in
+                let low = holder-low t l in
+                let few = fits yard ok .few in
                 report-row row′ report′ (slotCount yard′) (omega (arith, m .slots, long, report-long)) (q t) (slot t l k .0) (slot t l k .1)
                 ∙ (ap keptRow (slots-match t l k .row)
-                ∙ (kept-renumbered q (row t) few (omega (arith, within 65535 q trains (row t .holder) (omega arith)))
+                ∙ (kept-renumbered q (row t) (omega arith) (omega (arith, among (row t .holder) low))
                 ∙ ap (rRow q) (sym (report-row row report S (omega (arith, report-long)) t l k))));
           }
 

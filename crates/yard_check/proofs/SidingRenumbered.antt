@@ -16,7 +16,7 @@ use Rattle.free_path.specs.Order.{swap}
 use Rattle.yard_check.specs.Yard.{partOf}
 use Rattle.yard_check.specs.Check.{rowFrom, Done}
 use Rattle.yard_check.specs.Calls.{World, Call, mark, check, marked, checked, run, runAll}
-use Rattle.yard_check.specs.DemandThree.{OneYard, CallsMatch, Each, Premises, OutcomesMatch}
+use Rattle.yard_check.specs.DemandThree.{OneYard, OfTypes, CallsMatch, CallsOfTypes, Each, Premises, OutcomesMatch}
 use Rattle.yard_check.proofs.Siding.{words, siding, diverted, plain, twoSlots, everything}
 use Rattle.yard_check.proofs.MatchTests.{entriesBelow, entries-below, sameBytes, renumbered, imagesMatch, images-match}
 use Rattle.yard_check.proofs.DemandThree.{demand-three}
@@ -123,7 +123,7 @@ among (suc zero) h = omega arith
 among (suc (suc zero)) h = omega arith
 among (suc (suc (suc t))) h = h
 
-one-yard : OneYard swapped swapped first second
+one-yard : OneYard 65535 swapped swapped first second
 unfolding world
 one-yard =
     record {
@@ -138,18 +138,27 @@ one-yard =
       yard = refl;
       yard′ = refl;
       yards = record { slots = refl; images = two-cases _ (images-match swapped swapped (partOf (first .yard) 1) (partOf (second .yard) 2) refl) (images-match swapped swapped (partOf (first .yard) 2) (partOf (second .yard) 1) refl) };
+    }
+
+of-types : OfTypes 65535 first second
+unfolding world
+of-types =
+    record {
       bytes = entries-below 256 (first .yard) (lit< tt) refl;
       bytes′ = entries-below 256 (second .yard) (lit< tt) refl;
-      entries = entries-below 65536 (first .occupancy) (lit< tt) refl;
+      entries = λ i. omega (arith, entries-below 65536 (first .occupancy) (lit< tt) refl i);
     }
 
 same-calls : Each (CallsMatch swapped swapped) calls calls′
 unfolding swapped
 same-calls = ((refl, refl), ((record { blocking = swap 2 3 []; moved = refl; begin = refl; local = refl; limit = refl }, refl), ((refl, refl), tt)))
 
+calls-of-types : CallsOfTypes 65535 calls
+calls-of-types = (omega arith, (lit< tt, (omega arith, tt)))
+
 premises : Premises first calls
 unfolding world
-premises = (lit< tt, ((lit< tt, λ h. record { begin = refl; zero-empty = refl; strays = two-cases _ refl refl }), (lit< tt, tt)))
+premises = (tt, ((λ h. record { begin = refl; zero-empty = refl; strays = two-cases _ refl refl }), (tt, tt)))
 
 matched : Each (OutcomesMatch swapped swapped) (runAll first calls) (runAll second calls′)
-matched = demand-three swapped swapped first second calls calls′ one-yard same-calls premises
+matched = demand-three swapped swapped first second calls calls′ one-yard of-types same-calls calls-of-types premises

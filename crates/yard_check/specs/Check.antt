@@ -27,11 +27,11 @@ pub record CheckArgs : Type 0 where
 abbrev pub rowSize : ℕ
 rowSize = 16
 
--- of the record of slot t
+-- where the record of slot t stands
 abbrev pub rowPlace : ℕ → ℕ
 rowPlace t = rowSize * (t - 1)
 
--- of each column, in a record from k on
+-- where each column stands in the record from k on
 abbrev pub codeAt : ℕ → ℕ
 codeAt k = k
 

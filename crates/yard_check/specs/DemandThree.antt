@@ -15,10 +15,11 @@ use Rattle.yard_check.specs.Calls.{World, Call, mark, check, Answered, m
 
 -- ---- the two worlds before the first call
 
-pub record OneYard (p q : ℕ → ℕ) (w w′ : World) : Type 0 where
-  -- links are permuted within 1 to L - 1; trains one to one on 1 to 65,535, with 1 to S among themselves; other numbers stay themselves
+-- document 01's premises; top is the largest train
+pub record OneYard (top : ℕ) (p q : ℕ → ℕ) (w w′ : World) : Type 0 where
+  -- links are permuted within 1 to L - 1; trains one to one on 1 to top, with 1 to S among themselves; other numbers stay themselves
   pub links : Renumbering (linkCount (w .table) - 1) p
-  pub trains : Renumbering 65535 q
+  pub trains : Renumbering top q
   pub slots : (t : ℕ) → t ≤ slotCount (w .yard) → q t ≤ slotCount (w .yard)
   -- the link tables, which mark accepts, match
   pub table : tableFits (w .table) ≡ true
@@ -31,10 +32,16 @@ pub record OneYard (p q : ℕ → ℕ) (w w′ : World) : Type 0 where
   pub yard : yardFits (w .yard) ≡ true
   pub yard′ : yardFits (w′ .yard) ≡ true
   pub yards : YardsMatch p q (w .yard) (w′ .yard)
-  -- the yards are of u8, the occupancy of u16
+
+-- no entry is above top
+abbrev pub TrainsUpTo : ℕ → List ℕ → Type 0
+TrainsUpTo top occ = (i : ℕ) → getD occ i 0 ≤ top
+
+-- what the types say: yards are of u8, an occupancy of trains up to top, which for u16 is 65,535
+pub record OfTypes (top : ℕ) (w w′ : World) : Type 0 where
   pub bytes : (i : ℕ) → getD (w .yard) i 0 < 256
   pub bytes′ : (i : ℕ) → getD (w′ .yard) i 0 < 256
-  pub entries : (i : ℕ) → getD (w .occupancy) i 0 < 65536
+  pub entries : TrainsUpTo top (w .occupancy)
 
 -- ---- the calls
 
@@ -44,6 +51,15 @@ CallsMatch p q (mark l t) (mark l′ t′) = (l′ ≡ rLink p l) × (t′ ≡ r
 CallsMatch p q (mark l t) (check a r) = ⊥
 CallsMatch p q (check a r) (mark l t) = ⊥
 CallsMatch p q (check a r) (check a′ r′) = ArgsMatch p q a a′ × (length r′ ≡ length r)
+
+-- what the types say of a call: the train of a mark is up to top, the round limit of a check is u16
+abbrev pub CallOfTypes : ℕ → Call → Type 0
+CallOfTypes top (mark l t) = t .0 ≤ top
+CallOfTypes top (check a report) = a .limit < 65536
+
+abbrev pub CallsOfTypes : ℕ → List Call → Type 0
+CallsOfTypes top [] = Unit {0}
+CallsOfTypes top (c ∷ cs) = CallOfTypes top c × CallsOfTypes top cs
 
 -- one by one, in lists of the same length
 abbrev pub Each : {A : Type 0} → (A → A → Type 0) → List A → List A → Type 0
@@ -60,10 +76,10 @@ pub record Plain (yard occ : List ℕ) (a : CheckArgs) (report : List ℕ) : Typ
   pub zero-empty : getD occ 0 0 ≡ 0
   pub strays : (t : ℕ) → 1 ≤ t → t ≤ slotCount yard → rowAt (checkedWith yard occ a report .report) t .strays ≡ 0
 
--- each check that is not refused is such a one; the train of a mark and the round limit of a check are u16
+-- each check that is not refused is such a one
 abbrev pub Premise : World → Call → Type 0
-Premise w (mark l t) = t .0 < 65536
-Premise w (check a report) = (a .limit < 65536) × (checkFault (w .yard) (w .occupancy) a (length report) .number ≡ 0 → Plain (w .yard) (w .occupancy) a report)
+Premise w (mark l t) = Unit {0}
+Premise w (check a report) = checkFault (w .yard) (w .occupancy) a (length report) .number ≡ 0 → Plain (w .yard) (w .occupancy) a report
 
 -- each call's on what the calls before it left
 abbrev pub Premises : World → List Call → Type 0
@@ -85,7 +101,13 @@ pub record OutcomesMatch (p q : ℕ → ℕ) (o o′ : Outcome) : Type 0 where
   pub occupancies : OccupanciesMatch p q (o .world .occupancy) (o′ .world .occupancy)
   pub yards : YardsMatch p q (o .world .yard) (o′ .world .yard)
 
-abbrev pub DemandThree : Type 0
-DemandThree =
-    (p q : ℕ → ℕ) (w w′ : World) (calls calls′ : List Call) → OneYard p q w w′ → Each (CallsMatch p q) calls calls′ → Premises w calls
+-- for trains up to top
+abbrev pub DemandThreeUpTo : ℕ → Type 0
+DemandThreeUpTo top =
+    (p q : ℕ → ℕ) (w w′ : World) (calls calls′ : List Call)
+    → OneYard top p q w w′ → OfTypes top w w′ → Each (CallsMatch p q) calls calls′ → CallsOfTypes top calls → Premises w calls
     → Each (OutcomesMatch p q) (runAll w calls) (runAll w′ calls′)
+
+-- what is promised, of trains of u16
+abbrev pub DemandThree : Type 0
+DemandThree = DemandThreeUpTo 65535
