@@ -5,3 +5,4 @@ pub mod Parts
 pub mod CodecLaws
 pub mod MatchLaws
 pub mod MatchEncoded
+pub mod MatchOneToOne

@@ -422,6 +422,7 @@ module _ (p q : ℕ → ℕ) (p0 : p 0 ≡ 0) (q0 : q 0 ≡ 0) (t : Train) (k : 
         est = λ i l. est-matched i (omega (arith, e));
         node = λ i l. rw e (node-matched i (omega (arith, e)));
         diverge = λ i l. rw e (diverge-matched i (omega (arith, room-read t k bs lb)));
+        rest = λ i l n. absurd (omega (arith, e, room-read t k bs lb, long-indices t (k .room) bs, lb));
       }
 
 module _ (p q : ℕ → ℕ) (p0 : p 0 ≡ 0) (q0 : q 0 ≡ 0) (t : Train) (k : Held t) (k′ : Held (rState p q t)) where

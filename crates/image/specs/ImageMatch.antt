@@ -16,10 +16,12 @@ pub record Renumbered (p : ℕ → ℕ) (bs bs′ : List ℕ) (at w k v : ℕ) :
   pub number : leAt v bs′ (at + k) ≡ p (leAt v bs (at + k))
   pub after : SameBytes bs bs′ (at + k + v) (at + w)
 
--- the header's train, the links in est and path records and the trains in diverge records are renumbered
+-- the header's train, the links in est and path records and the trains in diverge records are renumbered; every other byte is the same
 pub record ImagesMatch (p q : ℕ → ℕ) (bs bs′ : List ℕ) : Type 0 where
   pub long : length bs′ ≡ length bs
   pub header : Renumbered q bs bs′ 0 64 32 2
   pub est : (i : ℕ) → i < estCount bs → Renumbered p bs bs′ (estPlace i) 32 24 4
   pub node : (i : ℕ) → i < estCount bs → Renumbered p bs bs′ (nodePlace (estCount bs) i) 32 16 4
   pub diverge : (i : ℕ) → i < divergeRoom bs → Renumbered q bs bs′ (divergePlace (estCount bs) i) 4 0 2
+  -- bytes behind the records, which an image has that 6 refuses
+  pub rest : SameBytes bs bs′ (divergePlace (estCount bs) (divergeRoom bs)) (length bs)

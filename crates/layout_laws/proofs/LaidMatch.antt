@@ -348,7 +348,11 @@ module _ (p q : ℕ → ℕ) (top : ℕ) (est est′ : List ℕ) (o : Order) (si
         est = rw (laid-est-count est o size z sums, first-is, second-is) est-match;
         node = rw (laid-est-count est o size z sums, first-is, second-is) node-match;
         diverge = rw (laid-est-count est o size z sums, room-is, first-is, second-is) diverge-match;
+        rest = rw (laid-est-count est o size z sums, room-is, first-is, second-is) (λ i l n. absurd (omega (arith, first-long, z .size-is)));
       }
     where
       same-long : length (ends (nodes′ base′)) ≡ length (ends (nodes base))
       same-long = rw (length-put, length-put, length-put, length-put, writes′ .long base′, writes .long base, long′, long)
+
+      first-long : length (ends (nodes base)) ≡ size
+      first-long = rw (length-put, length-put, writes .long base) long

@@ -52,11 +52,15 @@ renumbered-is p bs bs′ a w k v h =
       after = same-bytes bs bs′ (a + k + v) (w - k - v) (a + w) (omega arith) (y .1);
     }
 
+-- where the records end
+abbrev recordsEnd : List ℕ → ℕ
+recordsEnd bs = divergePlace (estCount bs) (divergeRoom bs)
+
 unfoldable pub imagesMatch : (ℕ → ℕ) → (ℕ → ℕ) → List ℕ → List ℕ → Bool
 imagesMatch p q bs bs′ =
     eqb (length bs′) (length bs) && (renumbered q bs bs′ 0 64 32 2 && (allBelow (estCount bs) (λ i. renumbered p bs bs′ (estPlace i) 32 24 4)
     && (allBelow (estCount bs) (λ i. renumbered p bs bs′ (nodePlace (estCount bs) i) 32 16 4)
-    && allBelow (divergeRoom bs) (λ i. renumbered q bs bs′ (divergePlace (estCount bs) i) 4 0 2))))
+    && (allBelow (divergeRoom bs) (λ i. renumbered q bs bs′ (divergePlace (estCount bs) i) 4 0 2) && sameBytes bs bs′ (recordsEnd bs) (length bs - recordsEnd bs)))))
 
 pub images-match : (p q : ℕ → ℕ) (bs bs′ : List ℕ) → imagesMatch p q bs bs′ ≡ true → ImagesMatch p q bs bs′
 unfolding imagesMatch
@@ -64,11 +68,13 @@ images-match p q bs bs′ h =
     let a = both (eqb (length bs′) (length bs)) _ h in
     let b = both (renumbered q bs bs′ 0 64 32 2) _ (a .1) in
     let c = both (allBelow (estCount bs) (λ i. renumbered p bs bs′ (estPlace i) 32 24 4)) _ (b .1) in
-    let d = both (allBelow (estCount bs) (λ i. renumbered p bs bs′ (nodePlace (estCount bs) i) 32 16 4)) (allBelow (divergeRoom bs) (λ i. renumbered q bs bs′ (divergePlace (estCount bs) i) 4 0 2)) (c .1) in
+    let d = both (allBelow (estCount bs) (λ i. renumbered p bs bs′ (nodePlace (estCount bs) i) 32 16 4)) _ (c .1) in
+    let e = both (allBelow (divergeRoom bs) (λ i. renumbered q bs bs′ (divergePlace (estCount bs) i) 4 0 2)) (sameBytes bs bs′ (recordsEnd bs) (length bs - recordsEnd bs)) (d .1) in
     record {
       long = eqb-true (length bs′) (length bs) (a .0);
       header = renumbered-is q bs bs′ 0 64 32 2 (b .0);
       est = λ i l. renumbered-is p bs bs′ (estPlace i) 32 24 4 (all-at (λ j. renumbered p bs bs′ (estPlace j) 32 24 4) (estCount bs) i (c .0) l);
       node = λ i l. renumbered-is p bs bs′ (nodePlace (estCount bs) i) 32 16 4 (all-at (λ j. renumbered p bs bs′ (nodePlace (estCount bs) j) 32 16 4) (estCount bs) i (d .0) l);
-      diverge = λ i l. renumbered-is q bs bs′ (divergePlace (estCount bs) i) 4 0 2 (all-at (λ j. renumbered q bs bs′ (divergePlace (estCount bs) j) 4 0 2) (divergeRoom bs) i (d .1) l);
+      diverge = λ i l. renumbered-is q bs bs′ (divergePlace (estCount bs) i) 4 0 2 (all-at (λ j. renumbered q bs bs′ (divergePlace (estCount bs) j) 4 0 2) (divergeRoom bs) i (e .0) l);
+      rest = same-bytes bs bs′ (recordsEnd bs) (length bs - recordsEnd bs) (length bs) (omega arith) (e .1);
     }
