@@ -1,15 +1,72 @@
 // An updated train goes back to the caller's image.
 ghost use mathlib.Core.Path.{_≡_};
+ghost use Prim.Native.Nat.{_+_, _^_, _<_};
+ghost use Rattle.link_rules.specs.Octets.{leAt, putLe};
 ghost use Rattle.disp_structs.specs.Listed.{listed};
 ghost use Rattle.free_path.specs.Columns.{divAt};
 ghost use Rattle.image.specs.Image.{estCount, divergeRoom, nodePlace, divergePlace, nodeAt, putNode, putDiverge};
 ghost use Rattle.image.specs.Codec.{putEach, storedInto};
 ghost use Rattle.splice.specs.Read.{trainOf};
+ghost use Rattle.image_store.specs.Plain.{plainNode};
 use disp_structs::DivergeNode;
 use free_path::columns;
 use image::codec;
 use image::codec::PathHeader;
 use link_rules::link_idx::TrainIdx;
+use link_rules::octets;
+
+// Its bytes are those that writing its node makes. An accepted image has no other path records.
+fn plain_node(img: &[u8], at: usize) -> bool
+    requires { ⌜ at < 2 ^ 48 ⌝ }
+    ensures { λ r. ⌜ r ≡ plainNode (now (img .entry)) at ⌝ }
+{
+    if img.len() < at + 32 {
+        return false;
+    }
+    if 0x7ff0_0000_0000_0000 < octets::u64_at(img, at) % 0x8000_0000_0000_0000 {
+        return false;
+    }
+    if 0x7ff0_0000_0000_0000 < octets::u64_at(img, at + 8) % 0x8000_0000_0000_0000 {
+        return false;
+    }
+    octets::u64_at(img, at + 24) / 65536 <= 2
+}
+
+// The 32 bytes from p on go to the image, from q on, in four words.
+fn put_words(image: &mut [u8], q: usize, img: &[u8], p: usize)
+    requires { ⌜ (p < 2 ^ 48) × (q < 2 ^ 48) ⌝ }
+    ensures { λ _. ⌜ now (image .exit) ≡ putLe 8 (leAt 8 (now (img .entry)) (p + 24)) (q + 24) (putLe 8 (leAt 8 (now (img .entry)) (p + 16)) (q + 16) (putLe 8 (leAt 8 (now (img .entry)) (p + 8)) (q + 8) (putLe 8 (leAt 8 (now (img .entry)) p) q (now (image .entry))))) ⌝ }
+{
+    octets::put_u64(image, q, octets::u64_at(img, p));
+    octets::put_u64(image, q + 8, octets::u64_at(img, p + 8));
+    octets::put_u64(image, q + 16, octets::u64_at(img, p + 16));
+    octets::put_u64(image, q + 24, octets::u64_at(img, p + 24));
+}
+
+// Path node i of one image goes to another, field by field.
+fn put_fields(image: &mut [u8], img: &[u8], i: u32)
+    ensures { λ _. ⌜ now (image .exit) ≡ putNode (nodeAt (now (img .entry)) i) (nodePlace (estCount (now (image .entry))) i) (now (image .entry)) ⌝ }
+{
+    let x = codec::node_at(img, i);
+    codec::put_node(image, i, x);
+}
+
+// The same, and as a whole where the record is plain and lies within both images.
+fn put_whole(image: &mut [u8], img: &[u8], i: u32)
+    ensures { λ _. ⌜ now (image .exit) ≡ putNode (nodeAt (now (img .entry)) i) (nodePlace (estCount (now (image .entry))) i) (now (image .entry)) ⌝ }
+{
+    let p = codec::node_place(codec::est_count(img), i);
+    let q = codec::node_place(codec::est_count(image), i);
+    if image.len() < q + 32 {
+        put_fields(image, img, i);
+        return;
+    }
+    if plain_node(img, p) {
+        put_words(image, q, img, p);
+        return;
+    }
+    put_fields(image, img, i);
+}
 
 // The first n path nodes of one image go to another.
 fn put_nodes(image: &mut [u8], img: &[u8], n: u32)
@@ -17,8 +74,7 @@ fn put_nodes(image: &mut [u8], img: &[u8], n: u32)
 {
     let mut i: u32 = 0;
     while i < n {
-        let x = codec::node_at(img, i);
-        codec::put_node(image, i, x);
+        put_whole(image, img, i);
         i += 1;
     }
 }

@@ -21,11 +21,8 @@ loop-holds : tie.Need-loop-holds Inv-loop μ-loop
 unfolding listed putEach
 loop-holds c = (search needs, refl)
 
-node-at-requires : tie.Need-node-at-requires Inv-loop μ-loop
-node-at-requires c κs = search needs
-
-put-node-requires : tie.Need-put-node-requires Inv-loop μ-loop
-put-node-requires c κs = search needs
+put-whole-requires : tie.Need-put-whole-requires Inv-loop μ-loop
+put-whole-requires c κs = search needs
 
 add-i : tie.Need-add-i Inv-loop μ-loop
 add-i c = search needs
@@ -35,9 +32,9 @@ loop-less c = search needs
 
 loop-again : tie.Need-loop-again Inv-loop μ-loop
 loop-again c =
-    let l = c .before .before .before .before .before .before .loop in
-    let a = c .before .before .before .before .before .before .before .before .before .args in
-    (search needs, nodes-next (l .i) (nodeAt (now (a .img))) (now (a .image)) (c .before .before .before .before .node-at .result) (l .image) (c .before .before .put-node .last .0) (l .inv .1) (c .before .before .before .before .node-at .ensures) (c .before .before .put-node .ensures))
+    let l = c .before .before .before .before .before .loop in
+    let a = c .before .before .before .before .before .before .before .before .args in
+    (search needs, nodes-next (l .i) (nodeAt (now (a .img))) (now (a .image)) (nodeAt (now (a .img)) (l .i)) (l .image) (c .before .before .put-whole .last .0) (l .inv .1) refl (c .before .before .put-whole .ensures))
 
 same-length : tie.Need-same-length Inv-loop μ-loop
 same-length c =
@@ -59,8 +56,7 @@ put-nodes-spec =
     Inv-loop
     μ-loop
     loop-holds
-    node-at-requires
-    put-node-requires
+    put-whole-requires
     add-i
     loop-less
     loop-again
