@@ -18,7 +18,7 @@ use Rattle.image.specs.Codec.{decoded, storedInto, encoded}
 use Rattle.image.proofs.RecordLaws.{Number}
 use Rattle.image.proofs.Parts.{InRoom}
 use Rattle.image.proofs.CodecLaws.{GoodImage, Keeps, encoded-decoded, stored-encoded}
-use Rattle.image_fault.specs.ImageFault.{noFault, refused, CountsFit, countsFit, partsFit, trainFits, estTypeFits, nodeTypeFits, zeroWord, unusedZero, recordsFit, imageFits, orElse, firstUnfit, floatFits, timeFits, distFits, estLinksFit, eventFits, estFits, nodeFits, headerFits, valueFault, cycleFault, routeFault, imageFault}
+use Rattle.image_fault.specs.ImageFault.{refusedUnless, lengthFault, layoutFault, CountsFit, countsFit, partsFit, trainFits, estTypeFits, nodeTypeFits, zeroWord, unusedZero, recordsFit, imageFits, orElse, firstUnfit, floatFits, timeFits, distFits, estLinksFit, eventFits, estFits, nodeFits, headerFits, valueFault, cycleFault, routeFault, imageFault}
 use Rattle.image_fault.specs.declared.Fault.{Fault}
 use Rattle.image_fault.proofs.ScanLaws.{both, first-clean}
 
@@ -29,6 +29,11 @@ or-else-clean a b h = go (eqb (a .number) 0) refl h
     go : (t : Bool) → eqb (a .number) 0 ≡ t → cond t b a .number ≡ 0 → (a .number ≡ 0) × (b .number ≡ 0)
     go true e k = (eqb-true (a .number) 0 e, k)
     go false e k = absurd (eqb-false (a .number) 0 e k)
+
+-- where a test refuses nothing
+pub refused-clean : (t : Bool) (n : ℕ) → 0 < n → refusedUnless t n .number ≡ 0 → t ≡ true
+refused-clean true n l h = refl
+refused-clean false n l h = absurd (omega arith)
 
 pub counts-fit : (bs : List ℕ) → countsFit bs ≡ true → CountsFit bs
 unfolding countsFit
@@ -105,11 +110,7 @@ module _ (bs : List ℕ) (l : ℕ) (clean : valueFault bs l .number ≡ 0) where
   unfolding valueFault
   clean-header =
       let r = or-else-clean (firstUnfit 7 (estFits bs l) (estCount bs) 0) _ clean .1 in
-      go (headerFits bs) (or-else-clean (firstUnfit 7 (nodeFits bs l) (pathCount bs) 0) _ r .1)
-    where
-      go : (b : Bool) → cond b noFault (refused 7 0) .number ≡ 0 → b ≡ true
-      go true h = refl
-      go false h = absurd (omega arith)
+      refused-clean (headerFits bs) 7 (lit< tt) (or-else-clean (firstUnfit 7 (nodeFits bs l) (pathCount bs) 0) _ r .1)
 
 -- ---- an image that passes 6 and 7 has the bytes of an image
 
@@ -230,17 +231,19 @@ pub record Accepted (bs : List ℕ) (l : ℕ) : Type 0 where
 
 pub accepted : (bs : List ℕ) (l : ℕ) → imageFault bs l .number ≡ 0 → Accepted bs l
 unfolding imageFault
-accepted bs l h = go (leb 2 l && leb l 4000) refl (imageFits bs) refl h
-  where
-    go : (a : Bool) → (leb 2 l && leb l 4000) ≡ a → (b : Bool) → imageFits bs ≡ b
-        → cond a (cond b (orElse (valueFault bs l) (orElse (cycleFault bs) (routeFault bs))) (refused 6 0)) (refused 2 0) .number ≡ 0 → Accepted bs l
-    go false e b f k = absurd (omega arith)
-    go true e false f k = absurd (omega arith)
-    go true e true f k =
-        let x = both (leb 2 l) (leb l 4000) e in
-        let v = or-else-clean (valueFault bs l) _ k in
-        let w = or-else-clean (cycleFault bs) (routeFault bs) (v .1) in
-        record { links = (leb-true 2 l (x .0), leb-true l 4000 (x .1)); fits = f; values = v .0; cycle = w .0; route = w .1 }
+accepted bs l h =
+    let a = or-else-clean (lengthFault l) _ h in
+    let b = or-else-clean (layoutFault bs) _ (a .1) in
+    let v = or-else-clean (valueFault bs l) _ (b .1) in
+    let w = or-else-clean (cycleFault bs) (routeFault bs) (v .1) in
+    let x = both (leb 2 l) (leb l 4000) (refused-clean (leb 2 l && leb l 4000) 2 (lit< tt) (a .0)) in
+    record {
+      links = (leb-true 2 l (x .0), leb-true l 4000 (x .1));
+      fits = refused-clean (imageFits bs) 6 (lit< tt) (b .0);
+      values = v .0;
+      cycle = w .0;
+      route = w .1;
+    }
 
 -- an accepted image is what encoding makes of its state
 pub encoded-accepted : (bs : List ℕ) (l : ℕ) → Bytes bs → imageFault bs l .number ≡ 0 → encoded (decoded bs) ≡ bs

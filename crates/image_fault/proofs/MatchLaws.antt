@@ -5,7 +5,7 @@ use mathlib.Core.Bool.{Bool, true, false, cond, _&&_}
 use mathlib.Core.List.{List, map}
 use Prim.Native.Nat.{ℕ, zero, suc, _+_, _*_, _-_, _/_, _%_, _^_, _≤_, _<_}
 use native.Mathlib.Omega.{arith}
-use lib.Dec.{eqb, leb}
+use lib.Dec.{eqb}
 use borrow.Author.Tests.{eqb-true, eqb-false, eq-eqb, ne-eqb}
 use Rattle.link_rules.specs.Octets.{leAt}
 use Rattle.link_rules.specs.Network.{allBelow}
@@ -25,7 +25,7 @@ use Rattle.image.proofs.CodecLaws.{Keeps, Held}
 use Rattle.image.proofs.MatchEncoded.{encoded-match, renumbered-held}
 use Rattle.image.specs.ImageMatch.{ImagesMatch}
 use Rattle.image.proofs.MatchLaws.{le-before, le-after, header-low, header-high, est-count, path-count, diverge-count, diverge-room, path-header, est-match, node-match, diverge-match, decoded-match}
-use Rattle.image_fault.specs.ImageFault.{refused, orElse, firstUnfit, CountsFit, countsFit, partsFit, trainFits, estTypeFits, nodeTypeFits, zeroWord, unusedZero, recordsFit, imageFits, estLinksFit, eventFits, estFits, nodeFits, headerFits, valueFault, nexts, alts, cycleFault, comesFrom, endsAt, arrivesOn, arrived, firstArrival, onRoute, innerFits, divergeFits, routeFault, imageFault}
+use Rattle.image_fault.specs.ImageFault.{refusedUnless, lengthFault, orElse, firstUnfit, CountsFit, countsFit, partsFit, trainFits, estTypeFits, nodeTypeFits, zeroWord, unusedZero, recordsFit, imageFits, estLinksFit, eventFits, estFits, nodeFits, headerFits, valueFault, nexts, alts, cycleFault, comesFrom, endsAt, arrivesOn, arrived, firstArrival, onRoute, innerFits, divergeFits, routeFault, imageFault}
 use Rattle.image_fault.specs.declared.Fault.{Fault}
 use Rattle.image_fault.proofs.ScanLaws.{step-fit, step-unfit}
 use Rattle.image_fault.proofs.AcceptLaws.{counts-fit, fits-counts, clean-node, node-fits, accepted, stored-accepted}
@@ -291,10 +291,11 @@ module _ (p q : ℕ → ℕ) (l top : ℕ) (rp : Renumbering (l - 1) p) (rq : Re
     -- the same refusal with the same place, or none in both
     pub image-fault-match : imageFault bs′ l ≡ imageFault bs l
     unfolding imageFault
-    image-fault-match = rw (image-fits-match) (ap (λ (f : Fault). cond (leb 2 l && leb l 4000) f (refused 2 0)) (go (imageFits bs) refl))
+    image-fault-match = rw (image-fits-match) (ap (orElse (lengthFault l)) (go (imageFits bs) refl))
       where
         go : (t : Bool) → imageFits bs ≡ t
-            → cond t (orElse (valueFault bs′ l) (orElse (cycleFault bs′) (routeFault bs′))) (refused 6 0) ≡ cond t (orElse (valueFault bs l) (orElse (cycleFault bs) (routeFault bs))) (refused 6 0)
+            → orElse (refusedUnless t 6) (orElse (valueFault bs′ l) (orElse (cycleFault bs′) (routeFault bs′)))
+            ≡ orElse (refusedUnless t 6) (orElse (valueFault bs l) (orElse (cycleFault bs) (routeFault bs)))
         go false f = refl
         go true f =
             let c = fits-counts bs f in

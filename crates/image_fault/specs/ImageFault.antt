@@ -35,10 +35,19 @@ refused n i = record { number = n; place = i }
 abbrev pub orElse : Fault → Fault → Fault
 orElse a b = cond (eqb (a .number) 0) b a
 
+-- refusal n with place 0 where a test fails
+abbrev pub refusedUnless : Bool → ℕ → Fault
+refusedUnless fits n = cond fits noFault (refused n 0)
+
 -- refusal n at the first of the k indices from i on that does not fit
 unfoldable pub firstUnfit : ℕ → (ℕ → Bool) → ℕ → ℕ → Fault
 firstUnfit n fits zero i = noFault
 firstUnfit n fits (suc k) i = elim (fits i) [ true ↦ firstUnfit n fits k (i + 1) | false ↦ refused n i ]
+
+-- ---- 2: an L outside 2 to 4,000 is that of no occupancy table
+
+abbrev pub lengthFault : ℕ → Fault
+lengthFault l = refusedUnless (leb 2 l && leb l 4000) 2
 
 -- ---- 6: header, size, types, spare bytes, unused records
 
@@ -94,6 +103,9 @@ recordsFit bs = allBelow (estCount bs) (estTypeFits bs) && (allBelow (pathCount 
 unfoldable pub imageFits : List ℕ → Bool
 imageFits bs = countsFit bs && (partsFit bs && (trainFits bs && recordsFit bs))
 
+abbrev pub layoutFault : List ℕ → Fault
+layoutFault bs = refusedUnless (imageFits bs) 6
+
 -- ---- 7: floats, links, est indices, and the header's indices
 
 -- the pattern of a finite float, at most 1e12 in magnitude
@@ -136,7 +148,7 @@ unfoldable pub valueFault : List ℕ → ℕ → Fault
 valueFault bs l =
     orElse (firstUnfit 7 (estFits bs l) (estCount bs) 0)
     (orElse (firstUnfit 7 (nodeFits bs l) (pathCount bs) 0)
-    (cond (headerFits bs) noFault (refused 7 0)))
+    (refusedUnless (headerFits bs) 7))
 
 -- ---- 8: next and alt form a cycle
 
@@ -209,10 +221,12 @@ divergeFits bs i =
 unfoldable pub routeFault : List ℕ → Fault
 routeFault bs = orElse (firstUnfit 9 (onRoute bs) (pathCount bs) 0) (firstUnfit 9 (divergeFits bs) (divergeCount bs) 0)
 
--- ---- all in order; an L outside 2 to 4,000 is that of no occupancy table (2)
+-- ---- all in order
 
 unfoldable pub imageFault : List ℕ → ℕ → Fault
 imageFault bs l =
-    cond (leb 2 l && leb l 4000)
-    (cond (imageFits bs) (orElse (valueFault bs l) (orElse (cycleFault bs) (routeFault bs))) (refused 6 0))
-    (refused 2 0)
+    orElse (lengthFault l)
+    (orElse (layoutFault bs)
+    (orElse (valueFault bs l)
+    (orElse (cycleFault bs)
+    (routeFault bs))))

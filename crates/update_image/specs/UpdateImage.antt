@@ -7,7 +7,7 @@ use lib.ListN.{length}
 use Rattle.link_rules.specs.declared.link_idx.LinkIdx.{LinkIdx}
 use Rattle.disp_structs.specs.Train.{Train}
 use Rattle.image.specs.Codec.{decoded, storedInto}
-use Rattle.image_fault.specs.ImageFault.{noFault, refused, orElse, imageFault}
+use Rattle.image_fault.specs.ImageFault.{noFault, refused, refusedUnless, orElse, lengthFault, imageFault}
 use Rattle.image_fault.specs.declared.Fault.{Fault}
 use Rattle.tally.specs.Tally.{started}
 use Rattle.train_update.specs.Update.{Status, Success, Blocked, Faulty, Refused, Answer, Updated, answerOf, updateFreePath}
@@ -24,12 +24,19 @@ unfoldable pub linksBelow : ℕ → List ℕ → Bool
 linksBelow l [] = true
 linksBelow l (b ∷ bs) = ltb b l && linksBelow l bs
 
--- 2 occupancy length; 4 blocking links; 5 moved or limit 0
+-- 4: more than 4,000 blocking links, or one that is not below L
+abbrev pub blockingFault : ℕ → List ℕ → Fault
+blockingFault l blocking = refusedUnless (leb (length blocking) 4000 && linksBelow l blocking) 4
+
+-- 5: moved or limit 0
+abbrev pub orderFault : ℕ → ℕ → Fault
+orderFault moved limit = cond (eqb moved 0 || eqb limit 0) (refused 5 0) noFault
+
 unfoldable pub callFault : List ℕ → List ℕ → ℕ → ℕ → Fault
 callFault occ blocking moved limit =
-    orElse (cond (leb 2 (length occ) && leb (length occ) 4000) noFault (refused 2 0))
-    (orElse (cond (leb (length blocking) 4000 && linksBelow (length occ) blocking) noFault (refused 4 0))
-    (cond (eqb moved 0 || eqb limit 0) (refused 5 0) noFault))
+    orElse (lengthFault (length occ))
+    (orElse (blockingFault (length occ) blocking)
+    (orderFault moved limit))
 
 -- ---- the update
 

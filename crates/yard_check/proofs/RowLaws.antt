@@ -16,7 +16,7 @@ use Rattle.est_times.specs.declared.Cycle.{Cycle}
 use Rattle.est_times.specs.declared.Cycle.the-variants.{None, At}
 use Rattle.est_times.specs.Cycles.{firstOnCycle}
 use Rattle.image.specs.Codec.{decoded}
-use Rattle.image_fault.specs.ImageFault.{noFault, refused, orElse, firstUnfit, imageFits, estFits, nodeFits, headerFits, valueFault, cycleRefused, cycleFault, nexts, alts, onRoute, divergeFits, routeFault, imageFault}
+use Rattle.image_fault.specs.ImageFault.{lengthFault, layoutFault, noFault, refused, orElse, firstUnfit, imageFits, estFits, nodeFits, headerFits, valueFault, cycleRefused, cycleFault, nexts, alts, onRoute, divergeFits, routeFault, imageFault}
 use Rattle.image_fault.specs.declared.Fault.{Fault}
 use Rattle.image.specs.Image.{estCount, pathCount, divergeCount}
 use Rattle.image_fault.proofs.ScanLaws.{step-fit, step-unfit}
@@ -78,9 +78,11 @@ unfolding imageFault
 image-number bs l =
     let rest = orElse (cycleFault bs) (routeFault bs) in
     let all = orElse (valueFault bs l) rest in
-    cond-low (leb 2 l && leb l 4000) (cond (imageFits bs) all (refused 6 0)) (refused 2 0)
-    (cond-low (imageFits bs) all (refused 6 0) (or-low (valueFault bs l) rest (value-low bs l) (or-low (cycleFault bs) (routeFault bs) (cycle-fault-low bs) (route-low bs))) (omega arith))
-    (omega arith)
+    or-low (lengthFault l) (orElse (layoutFault bs) all)
+    (cond-low (leb 2 l && leb l 4000) noFault (refused 2 0) (omega arith) (omega arith))
+    (or-low (layoutFault bs) all
+    (cond-low (imageFits bs) noFault (refused 6 0) (omega arith) (omega arith))
+    (or-low (valueFault bs l) rest (value-low bs l) (or-low (cycleFault bs) (routeFault bs) (cycle-fault-low bs) (route-low bs))))
 
 update-number : (occ : List ℕ) (blocking : List LinkIdx) (moved : TrainIdx) (local : Bool) (limit : ℕ) (t : Train) (n place : ℕ)
     → updateFreePath occ blocking moved local limit t .answer .status ≡ Refused n place → n ≤ 13
