@@ -2,10 +2,10 @@
 use Prim.Native.Nat.{ℕ, _+_, _*_, _-_}
 use mathlib.Core.List.{List, [], _∷_}
 use lib.ListN.{length, replicate}
-use Rattle.link_rules.specs.Octets.{leAt, putLe}
 use Rattle.disp_structs.specs.Floats.{bitsOf}
 use Rattle.disp_structs.specs.Listed.{listed}
 use Rattle.disp_structs.specs.Train.{Train}
+use Rattle.image.specs.Fields.{sizeField, estCountField, divergeRoomField, estOffsetField, pathOffsetField, divergeOffsetField, trainField, fixedField, freeField, frontField, backField, spareField, spareRestField, searchField, fixedMaxField, readField, putField}
 use Rattle.image.specs.Image.{estCount, pathCount, divergeCount, divergeRoom, trainIdx, distDispPathSearch, distFixedMax, estPlace, nodePlace, divergePlace, imageSize, estAt, nodeAt, divergeAt, putEst, putNode, putDiverge, zeroWords, putPathHeader}
 use Rattle.image.specs.declared.codec.PathHeader.{PathHeader}
 
@@ -17,10 +17,10 @@ decoded bs =
       «disp_path» = listed (pathCount bs) (nodeAt bs);
       «div_nodes» = listed (divergeCount bs) (divergeAt bs);
       divergeRoom = divergeRoom bs;
-      «disp_node_idx_fixed» = leAt 2 bs 34;
-      «disp_node_idx_free» = leAt 2 bs 36;
-      «disp_node_idx_front» = leAt 2 bs 38;
-      «disp_node_idx_back» = leAt 2 bs 40;
+      «disp_node_idx_fixed» = readField fixedField bs;
+      «disp_node_idx_free» = readField freeField bs;
+      «disp_node_idx_front» = readField frontField bs;
+      «disp_node_idx_back» = readField backField bs;
       «train_idx» = trainIdx bs;
       «dist_disp_path_search» = distDispPathSearch bs;
       «dist_fixed_max» = distFixedMax bs;
@@ -62,25 +62,25 @@ storedInto t bs = putPathHeader (pathHeaderOf t) (putRecords t bs)
 -- ---- what no update changes: the rest of the header in its three parts, and the est records
 
 unfoldable pub putSize : Train → List ℕ → List ℕ
-putSize t bs = putLe 4 (length (t .«est_times»)) 4 (putLe 4 (imageSize (length (t .«est_times»)) (t .divergeRoom)) 0 bs)
+putSize t bs = putField estCountField (length (t .«est_times»)) (putField sizeField (imageSize (length (t .«est_times»)) (t .divergeRoom)) bs)
 
 -- Q, the three offsets, the train
 unfoldable pub putOffsets : Train → List ℕ → List ℕ
 putOffsets t bs =
     let e = length (t .«est_times») in
-    putLe 2 (t .«train_idx» .0) 32
-    (putLe 4 (divergePlace e 0) 28
-    (putLe 4 (nodePlace e 0) 24
-    (putLe 4 (estPlace 0) 20
-    (putLe 4 (t .divergeRoom) 16 bs))))
+    putField trainField (t .«train_idx» .0)
+    (putField divergeOffsetField (divergePlace e 0)
+    (putField pathOffsetField (nodePlace e 0)
+    (putField estOffsetField (estPlace 0)
+    (putField divergeRoomField (t .divergeRoom) bs))))
 
 -- six spare bytes, the two distances
 unfoldable pub putDists : Train → List ℕ → List ℕ
 putDists t bs =
-    putLe 8 (bitsOf (t .«dist_fixed_max» .0)) 56
-    (putLe 8 (bitsOf (t .«dist_disp_path_search» .0)) 48
-    (putLe 4 0 44
-    (putLe 2 0 42 bs)))
+    putField fixedMaxField (bitsOf (t .«dist_fixed_max» .0))
+    (putField searchField (bitsOf (t .«dist_disp_path_search» .0))
+    (putField spareRestField 0
+    (putField spareField 0 bs)))
 
 unfoldable pub constantInto : Train → List ℕ → List ℕ
 constantInto t bs = putEach putEst 32 (t .«est_times») (estPlace 0) (putDists t (putOffsets t (putSize t bs)))

@@ -4,7 +4,7 @@ use mathlib.Core.Bool.{cond}
 use mathlib.Core.List.{List, []}
 use lib.Dec.{eqb, ltb}
 use lib.ListN.{length}
-use Rattle.link_rules.specs.Octets.{leAt, putLe}
+use Rattle.link_rules.specs.Octets.{putLe}
 use Rattle.link_rules.specs.declared.link_idx.TrainIdx.{TrainIdx}
 use Rattle.disp_structs.specs.Floats.{realOf, bitsOf}
 use Rattle.disp_structs.specs.declared.Metres.{Metres}
@@ -13,31 +13,32 @@ use Rattle.disp_structs.specs.declared.EstType.the-variants.{Arrive, Clear, Fak
 use Rattle.disp_structs.specs.declared.EstTime.{EstTime}
 use Rattle.disp_structs.specs.declared.DispNode.{DispNode}
 use Rattle.disp_structs.specs.declared.DivergeNode.{DivergeNode}
+use Rattle.image.specs.Fields.{sizeField, estCountField, pathCountField, divergeCountField, divergeRoomField, trainField, fixedField, freeField, frontField, backField, searchField, fixedMaxField, estDistField, estNextField, estNextAltField, estPrevField, estPrevAltField, estLinkField, estTypeField, estKindField, nodeOffsetField, nodeTimeField, nodeLinkField, nodeEstField, nodeAuthField, nodeTypeField, nodeKindField, nodeSpareField, divergeTrainField, divergeNodeField, readField, putField, readIn, putIn, readFirst, putFirst}
 use Rattle.image.specs.declared.codec.PathHeader.{PathHeader}
 
--- ---- header
+-- ---- header; the places and widths of all fields stand in Fields
 
 abbrev pub sizeOf : List ℕ → ℕ
-sizeOf bs = leAt 4 bs 0
+sizeOf bs = readField sizeField bs
 
 -- E
 abbrev pub estCount : List ℕ → ℕ
-estCount bs = leAt 4 bs 4
+estCount bs = readField estCountField bs
 
 -- N
 abbrev pub pathCount : List ℕ → ℕ
-pathCount bs = leAt 4 bs 8
+pathCount bs = readField pathCountField bs
 
 -- M
 abbrev pub divergeCount : List ℕ → ℕ
-divergeCount bs = leAt 4 bs 12
+divergeCount bs = readField divergeCountField bs
 
 -- Q
 abbrev pub divergeRoom : List ℕ → ℕ
-divergeRoom bs = leAt 4 bs 16
+divergeRoom bs = readField divergeRoomField bs
 
 abbrev pub trainIdx : List ℕ → TrainIdx
-trainIdx bs = record { 0 = leAt 2 bs 32 }
+trainIdx bs = record { 0 = readField trainField bs }
 
 -- the header's numbers that an update changes
 unfoldable pub pathHeader : List ℕ → PathHeader
@@ -45,17 +46,17 @@ pathHeader bs =
     record {
       «path_count» = pathCount bs;
       «diverge_count» = divergeCount bs;
-      fixed = leAt 2 bs 34;
-      free = leAt 2 bs 36;
-      front = leAt 2 bs 38;
-      back = leAt 2 bs 40;
+      fixed = readField fixedField bs;
+      free = readField freeField bs;
+      front = readField frontField bs;
+      back = readField backField bs;
     }
 
 abbrev pub distDispPathSearch : List ℕ → Metres
-distDispPathSearch bs = record { 0 = realOf (leAt 8 bs 48) }
+distDispPathSearch bs = record { 0 = realOf (readField searchField bs) }
 
 abbrev pub distFixedMax : List ℕ → Metres
-distFixedMax bs = record { 0 = realOf (leAt 8 bs 56) }
+distFixedMax bs = record { 0 = realOf (readField fixedMaxField bs) }
 
 -- ---- where the records of index i begin
 
@@ -87,28 +88,28 @@ typeNumber Fake = 2
 unfoldable pub estFrom : List ℕ → ℕ → EstTime
 estFrom bs at =
     record {
-      «dist_to_next» = record { 0 = realOf (leAt 8 bs at) };
-      «idx_next» = record { 0 = leAt 4 bs (at + 8) };
-      «idx_next_alt» = record { 0 = leAt 4 bs (at + 12) };
-      «idx_prev» = record { 0 = leAt 4 bs (at + 16) };
-      «idx_prev_alt» = record { 0 = leAt 4 bs (at + 20) };
-      «link_event» = record { «link_idx» = record { 0 = leAt 4 bs (at + 24) }; «est_type» = typeOf (leAt 1 bs (at + 28)) };
+      «dist_to_next» = record { 0 = realOf (readFirst estDistField bs at) };
+      «idx_next» = record { 0 = readIn estNextField bs at };
+      «idx_next_alt» = record { 0 = readIn estNextAltField bs at };
+      «idx_prev» = record { 0 = readIn estPrevField bs at };
+      «idx_prev_alt» = record { 0 = readIn estPrevAltField bs at };
+      «link_event» = record { «link_idx» = record { 0 = readIn estLinkField bs at }; «est_type» = typeOf (readIn estTypeField bs at) };
     }
 
 -- the path record in the 32 bytes from at
 unfoldable pub nodeFrom : List ℕ → ℕ → DispNode
 nodeFrom bs at =
     record {
-      offset = record { 0 = realOf (leAt 8 bs at) };
-      «time_pass» = record { 0 = realOf (leAt 8 bs (at + 8)) };
-      «link_event» = record { «link_idx» = record { 0 = leAt 4 bs (at + 16) }; «est_type» = typeOf (leAt 1 bs (at + 26)) };
-      «est_idx» = record { 0 = leAt 4 bs (at + 20) };
-      «disp_auth_idx_entry» = leAt 2 bs (at + 24);
+      offset = record { 0 = realOf (readFirst nodeOffsetField bs at) };
+      «time_pass» = record { 0 = realOf (readIn nodeTimeField bs at) };
+      «link_event» = record { «link_idx» = record { 0 = readIn nodeLinkField bs at }; «est_type» = typeOf (readIn nodeTypeField bs at) };
+      «est_idx» = record { 0 = readIn nodeEstField bs at };
+      «disp_auth_idx_entry» = readIn nodeAuthField bs at;
     }
 
 -- the diverge record in the 4 bytes from at
 unfoldable pub divergeFrom : List ℕ → ℕ → DivergeNode
-divergeFrom bs at = record { «train_idx» = record { 0 = leAt 2 bs at }; «disp_node_idx» = leAt 2 bs (at + 2) }
+divergeFrom bs at = record { «train_idx» = record { 0 = readFirst divergeTrainField bs at }; «disp_node_idx» = readIn divergeNodeField bs at }
 
 -- est_times[i], disp_path[i], div_nodes[i]
 abbrev pub estAt : List ℕ → ℕ → EstTime
@@ -138,26 +139,26 @@ wholeNode bs i = cond (ltb (length bs) (nodePlace (estCount bs) i + 32)) zeroNod
 
 unfoldable pub putEst : EstTime → ℕ → List ℕ → List ℕ
 putEst x at bs =
-    putLe 4 (typeNumber (x .«link_event» .«est_type»)) (at + 28)
-    (putLe 4 (x .«link_event» .«link_idx» .0) (at + 24)
-    (putLe 4 (x .«idx_prev_alt» .0) (at + 20)
-    (putLe 4 (x .«idx_prev» .0) (at + 16)
-    (putLe 4 (x .«idx_next_alt» .0) (at + 12)
-    (putLe 4 (x .«idx_next» .0) (at + 8)
-    (putLe 8 (bitsOf (x .«dist_to_next» .0)) at bs))))))
+    putIn estKindField (typeNumber (x .«link_event» .«est_type»)) at
+    (putIn estLinkField (x .«link_event» .«link_idx» .0) at
+    (putIn estPrevAltField (x .«idx_prev_alt» .0) at
+    (putIn estPrevField (x .«idx_prev» .0) at
+    (putIn estNextAltField (x .«idx_next_alt» .0) at
+    (putIn estNextField (x .«idx_next» .0) at
+    (putFirst estDistField (bitsOf (x .«dist_to_next» .0)) at bs))))))
 
 unfoldable pub putNode : DispNode → ℕ → List ℕ → List ℕ
 putNode x at bs =
-    putLe 4 0 (at + 28)
-    (putLe 2 (typeNumber (x .«link_event» .«est_type»)) (at + 26)
-    (putLe 2 (x .«disp_auth_idx_entry») (at + 24)
-    (putLe 4 (x .«est_idx» .0) (at + 20)
-    (putLe 4 (x .«link_event» .«link_idx» .0) (at + 16)
-    (putLe 8 (bitsOf (x .«time_pass» .0)) (at + 8)
-    (putLe 8 (bitsOf (x .offset .0)) at bs))))))
+    putIn nodeSpareField 0 at
+    (putIn nodeKindField (typeNumber (x .«link_event» .«est_type»)) at
+    (putIn nodeAuthField (x .«disp_auth_idx_entry») at
+    (putIn nodeEstField (x .«est_idx» .0) at
+    (putIn nodeLinkField (x .«link_event» .«link_idx» .0) at
+    (putIn nodeTimeField (bitsOf (x .«time_pass» .0)) at
+    (putFirst nodeOffsetField (bitsOf (x .offset .0)) at bs))))))
 
 unfoldable pub putDiverge : DivergeNode → ℕ → List ℕ → List ℕ
-putDiverge x at bs = putLe 2 (x .«disp_node_idx») (at + 2) (putLe 2 (x .«train_idx» .0) at bs)
+putDiverge x at bs = putIn divergeNodeField (x .«disp_node_idx») at (putFirst divergeTrainField (x .«train_idx» .0) at bs)
 
 -- k numbers of 4 bytes from at are 0
 unfoldable pub zeroWords : ℕ → ℕ → List ℕ → List ℕ
@@ -173,9 +174,9 @@ clearDiverges m bs = zeroWords (divergeRoom bs - m) (divergePlace (estCount bs) 
 
 unfoldable pub putPathHeader : PathHeader → List ℕ → List ℕ
 putPathHeader h bs =
-    putLe 2 (h .back) 40
-    (putLe 2 (h .front) 38
-    (putLe 2 (h .free) 36
-    (putLe 2 (h .fixed) 34
-    (putLe 4 (h .«diverge_count») 12
-    (putLe 4 (h .«path_count») 8 bs)))))
+    putField backField (h .back)
+    (putField frontField (h .front)
+    (putField freeField (h .free)
+    (putField fixedField (h .fixed)
+    (putField divergeCountField (h .«diverge_count»)
+    (putField pathCountField (h .«path_count») bs)))))

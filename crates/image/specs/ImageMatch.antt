@@ -4,6 +4,7 @@ use mathlib.Core.List.{List}
 use Prim.Native.Nat.{ℕ, _+_, _≤_, _<_}
 use lib.ListN.{length, getD}
 use Rattle.link_rules.specs.Octets.{leAt}
+use Rattle.image.specs.Fields.{trainField, estLinkField, nodeLinkField, divergeTrainField}
 use Rattle.image.specs.Image.{estCount, divergeRoom, estPlace, nodePlace, divergePlace}
 
 -- the same bytes from a up to e
@@ -19,9 +20,9 @@ pub record Renumbered (p : ℕ → ℕ) (bs bs′ : List ℕ) (at w k v : ℕ) :
 -- the header's train, the links in est and path records and the trains in diverge records are renumbered; every other byte is the same
 pub record ImagesMatch (p q : ℕ → ℕ) (bs bs′ : List ℕ) : Type 0 where
   pub long : length bs′ ≡ length bs
-  pub header : Renumbered q bs bs′ 0 64 32 2
-  pub est : (i : ℕ) → i < estCount bs → Renumbered p bs bs′ (estPlace i) 32 24 4
-  pub node : (i : ℕ) → i < estCount bs → Renumbered p bs bs′ (nodePlace (estCount bs) i) 32 16 4
-  pub diverge : (i : ℕ) → i < divergeRoom bs → Renumbered q bs bs′ (divergePlace (estCount bs) i) 4 0 2
+  pub header : Renumbered q bs bs′ 0 64 (trainField .place) (trainField .width)
+  pub est : (i : ℕ) → i < estCount bs → Renumbered p bs bs′ (estPlace i) 32 (estLinkField .place) (estLinkField .width)
+  pub node : (i : ℕ) → i < estCount bs → Renumbered p bs bs′ (nodePlace (estCount bs) i) 32 (nodeLinkField .place) (nodeLinkField .width)
+  pub diverge : (i : ℕ) → i < divergeRoom bs → Renumbered q bs bs′ (divergePlace (estCount bs) i) 4 (divergeTrainField .place) (divergeTrainField .width)
   -- bytes behind the records, which an image has that 6 refuses
   pub rest : SameBytes bs bs′ (divergePlace (estCount bs) (divergeRoom bs)) (length bs)

@@ -1,3 +1,4 @@
+pub mod Fields
 pub mod Image
 pub mod Codec
 pub mod ImageMatch

@@ -5,8 +5,8 @@ use mathlib.Core.Bool.{Bool, not, _&&_, _||_}
 use mathlib.Core.List.{List}
 use lib.Dec.{leb, ltb, eqb}
 use lib.ListN.{length}
-use Rattle.link_rules.specs.Octets.{leAt}
 use Rattle.link_rules.specs.Network.{allBelow}
+use Rattle.image.specs.Fields.{estDistField, estNextField, estNextAltField, estPrevField, estPrevAltField, estLinkField, estKindField, nodeOffsetField, nodeTimeField, nodeLinkField, nodeEstField, nodeKindField, nodeSpareField, readIn, readFirst}
 use Rattle.image.specs.Image.{estCount, pathCount, divergeCount, estPlace, nodePlace}
 use Rattle.image_fault.specs.ImageFault.{countsFit, partsFit, trainFits, unusedZero, floatFits, timeFits, headerFits, onRoute, divergeFits}
 
@@ -22,22 +22,22 @@ stepPasses e i t = ltb t e && (eqb t 0 || ltb i t)
 unfoldable pub estPasses : List ℕ → ℕ → ℕ → Bool
 estPasses bs l i =
     leb (estPlace i + 32) (length bs)
-    && (floatFits (leAt 8 bs (estPlace i))
-    && (eventPasses l (leAt 4 bs (estPlace i + 24)) (leAt 4 bs (estPlace i + 28))
-    && (stepPasses (estCount bs) i (leAt 4 bs (estPlace i + 8))
-    && (stepPasses (estCount bs) i (leAt 4 bs (estPlace i + 12))
-    && (ltb (leAt 4 bs (estPlace i + 16)) (estCount bs)
-    && ltb (leAt 4 bs (estPlace i + 20)) (estCount bs))))))
+    && (floatFits (readFirst estDistField bs (estPlace i))
+    && (eventPasses l (readIn estLinkField bs (estPlace i)) (readIn estKindField bs (estPlace i))
+    && (stepPasses (estCount bs) i (readIn estNextField bs (estPlace i))
+    && (stepPasses (estCount bs) i (readIn estNextAltField bs (estPlace i))
+    && (ltb (readIn estPrevField bs (estPlace i)) (estCount bs)
+    && ltb (readIn estPrevAltField bs (estPlace i)) (estCount bs))))))
 
 -- a path record lies within the image, and passes 6 and 7
 unfoldable pub nodePasses : List ℕ → ℕ → ℕ → Bool
 nodePasses bs l i =
     leb (nodePlace (estCount bs) i + 32) (length bs)
-    && (floatFits (leAt 8 bs (nodePlace (estCount bs) i))
-    && (timeFits (leAt 8 bs (nodePlace (estCount bs) i + 8))
-    && (eventPasses l (leAt 4 bs (nodePlace (estCount bs) i + 16)) (leAt 2 bs (nodePlace (estCount bs) i + 26))
-    && (ltb (leAt 4 bs (nodePlace (estCount bs) i + 20)) (estCount bs)
-    && eqb (leAt 4 bs (nodePlace (estCount bs) i + 28)) 0))))
+    && (floatFits (readFirst nodeOffsetField bs (nodePlace (estCount bs) i))
+    && (timeFits (readIn nodeTimeField bs (nodePlace (estCount bs) i))
+    && (eventPasses l (readIn nodeLinkField bs (nodePlace (estCount bs) i)) (readIn nodeKindField bs (nodePlace (estCount bs) i))
+    && (ltb (readIn nodeEstField bs (nodePlace (estCount bs) i)) (estCount bs)
+    && eqb (readIn nodeSpareField bs (nodePlace (estCount bs) i)) 0))))
 
 -- and 9
 unfoldable pub pathPasses : List ℕ → ℕ → ℕ → Bool

@@ -19,6 +19,7 @@ use Rattle.disp_structs.specs.Listed.{listed}
 use Rattle.est_times.specs.Cycles.{firstOnCycle}
 use Rattle.est_times.specs.declared.Cycle.{Cycle}
 use Rattle.est_times.specs.declared.Cycle.the-variants.{None, At}
+use Rattle.image.specs.Fields.{estOffsetField, pathOffsetField, divergeOffsetField, spareField, spareRestField, searchField, fixedMaxField, estDistField, estKindField, nodeOffsetField, nodeTimeField, nodeKindField, nodeSpareField, readField, readIn, readFirst}
 use Rattle.image.specs.Image.{sizeOf, estCount, pathCount, divergeCount, divergeRoom, trainIdx, pathHeader, estPlace, nodePlace, divergePlace, imageSize, estAt, nodeAt, divergeAt}
 use Rattle.image.specs.declared.codec.PathHeader.{PathHeader}
 use Rattle.image_fault.specs.declared.Fault.{Fault}
@@ -70,19 +71,19 @@ pub record CountsFit (bs : List ℕ) : Type 0 where
 -- the parts follow without gaps, and the size is that of the whole buffer
 unfoldable pub partsFit : List ℕ → Bool
 partsFit bs =
-    eqb (leAt 4 bs 20) (estPlace 0) && (eqb (leAt 4 bs 24) (nodePlace (estCount bs) 0) && (eqb (leAt 4 bs 28) (divergePlace (estCount bs) 0)
+    eqb (readField estOffsetField bs) (estPlace 0) && (eqb (readField pathOffsetField bs) (nodePlace (estCount bs) 0) && (eqb (readField divergeOffsetField bs) (divergePlace (estCount bs) 0)
     && (eqb (sizeOf bs) (imageSize (estCount bs) (divergeRoom bs)) && eqb (sizeOf bs) (length bs))))
 
 -- the train is not 0, and the six spare bytes are
 unfoldable pub trainFits : List ℕ → Bool
-trainFits bs = not (eqb (trainIdx bs .0) 0) && (eqb (leAt 2 bs 42) 0 && eqb (leAt 4 bs 44) 0)
+trainFits bs = not (eqb (trainIdx bs .0) 0) && (eqb (readField spareField bs) 0 && eqb (readField spareRestField bs) 0)
 
 -- a type is at most 2, and the spare bytes behind it are 0
 unfoldable pub estTypeFits : List ℕ → ℕ → Bool
-estTypeFits bs i = leb (leAt 4 bs (estPlace i + 28)) 2
+estTypeFits bs i = leb (readIn estKindField bs (estPlace i)) 2
 
 unfoldable pub nodeTypeFits : List ℕ → ℕ → Bool
-nodeTypeFits bs i = leb (leAt 2 bs (nodePlace (estCount bs) i + 26)) 2 && eqb (leAt 4 bs (nodePlace (estCount bs) i + 28)) 0
+nodeTypeFits bs i = leb (readIn nodeKindField bs (nodePlace (estCount bs) i)) 2 && eqb (readIn nodeSpareField bs (nodePlace (estCount bs) i)) 0
 
 -- the four bytes of number j from at are 0
 unfoldable pub zeroWord : List ℕ → ℕ → ℕ → Bool
@@ -129,11 +130,11 @@ unfoldable pub estLinksFit : ℕ → EstTime → Bool
 estLinksFit e x = ltb (x .«idx_next» .0) e && (ltb (x .«idx_next_alt» .0) e && (ltb (x .«idx_prev» .0) e && ltb (x .«idx_prev_alt» .0) e))
 
 unfoldable pub estFits : List ℕ → ℕ → ℕ → Bool
-estFits bs l i = floatFits (leAt 8 bs (estPlace i)) && (estLinksFit (estCount bs) (estAt bs i) && eventFits l (estAt bs i .«link_event»))
+estFits bs l i = floatFits (readFirst estDistField bs (estPlace i)) && (estLinksFit (estCount bs) (estAt bs i) && eventFits l (estAt bs i .«link_event»))
 
 unfoldable pub nodeFits : List ℕ → ℕ → ℕ → Bool
 nodeFits bs l i =
-    floatFits (leAt 8 bs (nodePlace (estCount bs) i)) && (timeFits (leAt 8 bs (nodePlace (estCount bs) i + 8))
+    floatFits (readFirst nodeOffsetField bs (nodePlace (estCount bs) i)) && (timeFits (readIn nodeTimeField bs (nodePlace (estCount bs) i))
     && (ltb (nodeAt bs i .«est_idx» .0) (estCount bs) && eventFits l (nodeAt bs i .«link_event»)))
 
 -- fixed and free at most N, front and back below N
@@ -141,7 +142,7 @@ unfoldable pub indicesFit : PathHeader → Bool
 indicesFit h = leb (h .fixed) (h .«path_count») && (leb (h .free) (h .«path_count») && (ltb (h .front) (h .«path_count») && ltb (h .back) (h .«path_count»)))
 
 unfoldable pub headerFits : List ℕ → Bool
-headerFits bs = distFits (leAt 8 bs 48) && (distFits (leAt 8 bs 56) && indicesFit (pathHeader bs))
+headerFits bs = distFits (readField searchField bs) && (distFits (readField fixedMaxField bs) && indicesFit (pathHeader bs))
 
 -- est records come first, then path records, then the header
 unfoldable pub valueFault : List ℕ → ℕ → Fault

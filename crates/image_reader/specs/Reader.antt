@@ -3,11 +3,11 @@ use Prim.Native.Nat.{ℕ, _+_}
 use mathlib.Core.Bool.{cond}
 use mathlib.Core.List.{List}
 use lib.Dec.{ltb}
-use Rattle.link_rules.specs.Octets.{leAt}
+use Rattle.image.specs.Fields.{freeField, readField}
 
 -- the header's free number
 abbrev pub freeOf : List ℕ → ℕ
-freeOf bs = leAt 2 bs 36
+freeOf bs = readField freeField bs
 
 -- the index after i; the largest u32 has none and stays
 abbrev pub indexAfter : ℕ → ℕ

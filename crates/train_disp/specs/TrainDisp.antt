@@ -6,13 +6,13 @@ use lib.Dec.{leb, eqb}
 use lib.Ieee.{Float, ne}
 use lib.ListN.{length, replicate}
 use lib.Seq.{paste}
-use Rattle.link_rules.specs.Octets.{putLe}
 use Rattle.disp_structs.specs.Floats.{bitsOf}
 use Rattle.disp_structs.specs.Values.{noEst, sameEst, plus, zeroMetres, within, never}
 use Rattle.disp_structs.specs.declared.Metres.{Metres}
 use Rattle.disp_structs.specs.declared.EstTime.{EstTime}
 use Rattle.disp_structs.specs.declared.DispNode.{DispNode}
 use Rattle.image.specs.Image.{nodePlace, divergePlace, imageSize, estFrom, putNode}
+use Rattle.image.specs.Fields.{sizeField, estCountField, pathCountField, divergeCountField, divergeRoomField, estOffsetField, pathOffsetField, divergeOffsetField, trainField, searchField, fixedMaxField, divergeNodeField, putField, putIn}
 use Rattle.image.specs.Codec.{putEach}
 use Rattle.image_fault.specs.ImageFault.{imageFault}
 use Rattle.image_fault.specs.declared.Fault.{Fault}
@@ -61,16 +61,16 @@ settingBits x = cond (ne x x) 0x7ff8_0000_0000_0000 (bitsOf x)
 -- the header but N; M is 2, and fixed, free, front and back are 0
 unfoldable pub withHeader : ℕ → Order → List ℕ → List ℕ
 withHeader e o bs =
-    putLe 4 e 4
-    (putLe 8 (settingBits (o .«dist_fixed_max» .0)) 56
-    (putLe 8 (settingBits (o .«dist_disp_path_search» .0)) 48
-    (putLe 2 (o .«train_idx» .0) 32
-    (putLe 4 (64 + 64 * e) 28
-    (putLe 4 (64 + 32 * e) 24
-    (putLe 4 64 20
-    (putLe 4 (o .«diverge_room») 16
-    (putLe 4 2 12
-    (putLe 4 (imageSize e (o .«diverge_room»)) 0 bs)))))))))
+    putField estCountField e
+    (putField fixedMaxField (settingBits (o .«dist_fixed_max» .0))
+    (putField searchField (settingBits (o .«dist_disp_path_search» .0))
+    (putField trainField (o .«train_idx» .0)
+    (putField divergeOffsetField (64 + 64 * e)
+    (putField pathOffsetField (64 + 32 * e)
+    (putField estOffsetField 64
+    (putField divergeRoomField (o .«diverge_room»)
+    (putField divergeCountField 2
+    (putField sizeField (imageSize e (o .«diverge_room»)) bs)))))))))
 
 -- the est records as they are
 unfoldable pub withEst : List ℕ → List ℕ → List ℕ
@@ -82,7 +82,7 @@ putNodes = putEach putNode 32
 
 -- N, and the ending diverge node (0, N) behind the starting one (0, 0) (165-171)
 unfoldable pub withEnds : ℕ → ℕ → List ℕ → List ℕ
-withEnds e n bs = putLe 2 n (divergePlace e 1 + 2) (putLe 4 n 8 bs)
+withEnds e n bs = putIn divergeNodeField n (divergePlace e 1) (putField pathCountField n bs)
 
 -- size bytes
 unfoldable pub laidImage : Bool → List ℕ → Order → ℕ → List ℕ

@@ -5,6 +5,7 @@ use mathlib.Core.List.{List, _++_}
 use lib.Dec.{ltb, leb, eqb}
 use lib.ListN.{length, take, drop}
 use Rattle.link_rules.specs.Octets.{leAt}
+use Rattle.image.specs.Fields.{trainField, readIn}
 use Rattle.link_rules.specs.Network.{allBelow}
 use Rattle.image_fault.specs.ImageFault.{noFault, refused}
 use Rattle.image_fault.specs.declared.Fault.{Fault}
@@ -43,7 +44,7 @@ withPart yard t img = take (partBegin yard t) yard ++ (img ++ drop (partEnd yard
 
 -- at least 64 bytes, and the train in its header is the slot's
 unfoldable pub partFits : List ℕ → ℕ → Bool
-partFits yard t = leb (partBegin yard t + 64) (partEnd yard t) && eqb (leAt 2 yard (partBegin yard t + 32)) t
+partFits yard t = leb (partBegin yard t + 64) (partEnd yard t) && eqb (readIn trainField yard (partBegin yard t)) t
 
 -- the size is that of the whole buffer, S from 1 to 63, the first part right behind the offsets; the others follow without gaps
 unfoldable pub yardFits : List ℕ → Bool
