@@ -1,7 +1,7 @@
 // A check of a yard. Arguments: moved, begin, local, limit.
 use crate::case;
 use crate::print;
-use link_rules::link_idx::TrainIdx;
+use link_rules::link_idx::NarrowTrainIdx;
 use yard_check::check;
 use yard_check::check::Answer;
 
@@ -92,7 +92,7 @@ fn print_answer(
     blocking: &[u32],
     report: &mut [u8],
 ) -> bool {
-    let moved = TrainIdx((case::argument(head, 0) % 65536) as u16);
+    let moved = NarrowTrainIdx((case::argument(head, 0) % 65536) as u16);
     let begin = begin_of(case::argument(head, 1));
     let local = 0 < case::argument(head, 2);
     let limit = (case::argument(head, 3) % 65536) as u16;

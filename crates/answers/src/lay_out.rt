@@ -3,7 +3,7 @@ use crate::case;
 use crate::print;
 use disp_structs::Metres;
 use disp_structs::floats;
-use link_rules::link_idx::TrainIdx;
+use link_rules::link_idx::NarrowTrainIdx;
 use link_rules::refusal::Answer;
 use train_disp::Order;
 
@@ -19,7 +19,7 @@ pub(crate) fn answer(head: &[u8], body: &[u8], sums: bool) -> bool {
 fn answer_in(head: &[u8], body: &[u8], image: &mut [u8], sums: bool) -> bool {
     case::copy(image, case::second_input(head, body));
     let order = Order {
-        train_idx: TrainIdx((case::argument(head, 0) % 65536) as u16),
+        train_idx: NarrowTrainIdx((case::argument(head, 0) % 65536) as u16),
         dist_disp_path_search: Metres(setting(case::argument(head, 3), case::argument(head, 4))),
         dist_fixed_max: Metres(setting(case::argument(head, 5), case::argument(head, 6))),
         diverge_room: case::argument(head, 1),

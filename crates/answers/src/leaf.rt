@@ -110,6 +110,17 @@ fn no_pool() -> [u16; 2048]
     [0u16; 2048]
 }
 
+// A column of u16 numbers of a case.
+fn trains_in(bytes: &[u8], first: usize, step: usize) -> [u32; 4096]
+    ensures { λ r. ⌜ 4096 ≡ length r ⌝ }
+{
+    let mut narrow = no_trains();
+    case::u16s(&mut narrow, bytes, first, step);
+    let mut wide = no_links();
+    columns::widen(&narrow, &mut wide);
+    wide
+}
+
 // ---- class
 
 fn answer_class(head: &[u8], body: &[u8]) -> bool {
@@ -147,13 +158,11 @@ fn print_class(class: LinkOptType) -> bool {
 // ---- sentinels
 
 fn answer_sentinels(head: &[u8], body: &[u8]) -> bool {
-    let mut trains = no_trains();
-    let mut nodes = no_trains();
     let divs = case::first_input(head, body);
-    case::u16s(&mut trains, divs, 0, 4);
-    case::u16s(&mut nodes, divs, 2, 4);
+    let trains = trains_in(divs, 0, 4);
+    let nodes = trains_in(divs, 2, 4);
     let i = case::argument(head, 0) as usize;
-    let moved = TrainIdx((case::argument(head, 1) % 65536) as u16);
+    let moved = TrainIdx(case::argument(head, 1) % 65536);
     let r = link_opt_type::calc_idx_sentinels(i, moved, &trains, &nodes, divs.len() / 4);
     print_line(r.code, r.node, r.divs)
 }
@@ -176,10 +185,9 @@ fn class_in(head: &[u8]) -> LinkOptType {
 
 fn answer_intersection(head: &[u8], body: &[u8]) -> bool {
     let mut path = no_links();
-    let mut occ = no_trains();
     let links = case::first_input(head, body);
     case::u32s(&mut path, links);
-    case::u16s(&mut occ, case::second_input(head, body), 0, 2);
+    let occ = trains_in(case::second_input(head, body), 0, 2);
     let split = case::argument(head, 0) as usize;
     let sentinel = case::argument(head, 1) as usize;
     let n = links.len() / 4;
@@ -197,17 +205,36 @@ fn view_in(head: &[u8], i: u32, j: u32) -> TrainIdxsView {
 }
 
 fn answer_union(head: &[u8], body: &[u8], sums: bool) -> bool {
-    let mut pool = no_pool();
-    answer_union_in(head, body, &mut pool, sums)
+    let mut narrow = no_pool();
+    let mut pool = [0u32; 2048];
+    answer_union_in(head, body, &mut narrow, &mut pool, sums)
 }
 
-fn answer_union_in(head: &[u8], body: &[u8], pool: &mut [u16], sums: bool) -> bool {
+// What is printed of the pool is the column of u16 numbers.
+fn answer_union_in(
+    head: &[u8],
+    body: &[u8],
+    narrow: &mut [u16],
+    pool: &mut [u32],
+    sums: bool,
+) -> bool {
     let was = case::first_input(head, body);
-    case::u16s(pool, was, 0, 2);
+    case::u16s(narrow, was, 0, 2);
+    columns::widen(narrow, pool);
     let v = view_in(head, 0, 1);
     let w = view_in(head, 2, 3);
     let r = train_idxs_view::concat_train_idx_views(pool, was.len() / 2, v, w);
-    print_union(pool, r, sums)
+    narrowed(narrow, pool);
+    print_union(narrow, r, sums)
+}
+
+// The low 16 bits of each number.
+fn narrowed(to: &mut [u16], from: &[u32]) {
+    let mut i = 0;
+    while i < to.len() {
+        to[i] = (columns::u32_of(from, i) % 65536) as u16;
+        i += 1;
+    }
 }
 
 // Of a refused union the pool is of no account.

@@ -3,7 +3,7 @@ use crate::case;
 use crate::print;
 use link_rules::advance_rewind;
 use link_rules::link_idx::LinkIdx;
-use link_rules::link_idx::TrainIdx;
+use link_rules::link_idx::NarrowTrainIdx;
 use link_rules::refusal::Answer;
 
 pub(crate) fn answer(head: &[u8], body: &[u8], sums: bool) -> bool {
@@ -23,7 +23,7 @@ fn answer_in(head: &[u8], body: &[u8], occupancy: &mut [u16], sums: bool) -> boo
 // From an occupancy that is there.
 pub(crate) fn answer_from(head: &[u8], table: &[u8], occupancy: &mut [u16], sums: bool) -> bool {
     let link = LinkIdx(case::argument(head, 0));
-    let train = TrainIdx((case::argument(head, 1) % 65536) as u16);
+    let train = NarrowTrainIdx((case::argument(head, 1) % 65536) as u16);
     match advance_rewind::update_links_blocked(table, occupancy, link, train) {
         Answer::Done => print_done(occupancy, sums),
         Answer::Refused(r) => print_refused(r.number, r.place, occupancy, sums),

@@ -2,7 +2,7 @@
 use crate::case;
 use crate::print;
 use image_fault;
-use link_rules::link_idx::TrainIdx;
+use link_rules::link_idx::NarrowTrainIdx;
 use update_free_path;
 use update_free_path::answer::Status;
 use update_free_path::answer::Updated;
@@ -45,7 +45,7 @@ fn answer_by(
 ) -> bool {
     case::u32s(blocking, case::third_input(head, body));
     case::copy(image, case::first_input(head, body));
-    let moved = TrainIdx((case::argument(head, 0) % 65536) as u16);
+    let moved = NarrowTrainIdx((case::argument(head, 0) % 65536) as u16);
     let local = 0 < case::argument(head, 1);
     let limit = (case::argument(head, 2) % 65536) as u16;
     let x = update_free_path::update_free_path(image, occ, blocking, moved, local, limit);

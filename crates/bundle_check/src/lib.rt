@@ -6,7 +6,7 @@ ghost use Prim.Native.Nat.{_≤_};
 ghost use lib.ListN.{length, take};
 ghost use Rattle.yard_check.specs.Sheet.{bundleFits};
 ghost use Rattle.bundle_check.specs.BundleCheck.{Lends, reportLength, numbersOf, checkedFrom, leaves, checkedInBundle, bundleChecked, bundleOf};
-use link_rules::link_idx::TrainIdx;
+use link_rules::link_idx::NarrowTrainIdx;
 use link_rules::octets;
 use link_rules::refusal::Refusal;
 use yard_check::bundle;
@@ -15,7 +15,7 @@ use yard_check::check::Answer;
 
 // The numbers of a check.
 pub struct Numbers {
-    pub moved: TrainIdx,
+    pub moved: NarrowTrainIdx,
     pub begin: u16,
     pub local: bool,
     pub limit: u16,
@@ -37,7 +37,7 @@ fn numbers_of(bundle: &[u8]) -> Numbers
     ensures { λ r. ⌜ r ≡ numbersOf (now (bundle .entry)) ⌝ }
 {
     Numbers {
-        moved: TrainIdx(octets::u16_at(bundle, 24)),
+        moved: NarrowTrainIdx(octets::u16_at(bundle, 24)),
         begin: octets::u16_at(bundle, 26),
         local: octets::u16_at(bundle, 30) == 1,
         limit: octets::u16_at(bundle, 28),

@@ -43,7 +43,7 @@ pub struct DispNode {
 
 pub struct DivergeNode {
     pub train_idx: TrainIdx,
-    pub disp_node_idx: u16,
+    pub disp_node_idx: u32,
 }
 
 // A view (0, 0) is free; (1, 1) is blocked by nobody.

@@ -1,13 +1,13 @@
 // Readers over arrays of numbers that a caller lends. What stands past an array's end reads as 0.
 ghost use mathlib.Core.Path.{_≡_};
 ghost use mathlib.Core.Bool.{cond};
-ghost use lib.ListN.{getD};
+ghost use lib.ListN.{length, getD};
 ghost use Rattle.link_rules.specs.LinkIdx.{occupied};
 ghost use Rattle.free_path.specs.Columns.{links, linkAt, flagged, flagLink, flagLinks, kept};
 ghost use Rattle.disp_structs.specs.Listed.{listed};
 use link_rules::link_idx::LinkIdx;
 
-pub fn u16_of(col: &[u16], i: usize) -> u16
+pub fn u32_of(col: &[u32], i: usize) -> u32
     ensures { λ r. ⌜ r ≡ getD (now (col .entry)) i 0 ⌝ }
 {
     if col.len() <= i {
@@ -25,11 +25,26 @@ pub fn link_of(col: &[u32], i: usize) -> LinkIdx
     LinkIdx(col[i])
 }
 
+// The entries of a column of u16 go into one of u32 that has as many.
+pub fn widen(from: &[u16], to: &mut [u32])
+    ensures { λ _. ⌜ (length (now (to .entry)) ≡ length (now (from .entry)) → now (to .exit) ≡ now (from .entry)) ⌝ }
+{
+    let n = from.len();
+    if to.len() != n {
+        return;
+    }
+    let mut i = 0;
+    while i < n {
+        to[i] = from[i] as u32;
+        i += 1;
+    }
+}
+
 // Is the link held by a train?
-pub fn is_occupied(occ: &[u16], l: LinkIdx) -> bool
+pub fn is_occupied(occ: &[u32], l: LinkIdx) -> bool
     ensures { λ r. ⌜ r ≡ occupied (now (occ .entry)) l ⌝ }
 {
-    u16_of(occ, l.0 as usize) != 0
+    u32_of(occ, l.0 as usize) != 0
 }
 
 // Is the link in the set?

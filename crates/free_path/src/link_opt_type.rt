@@ -109,12 +109,12 @@ pub struct IdxSentinels {
 }
 
 // From i on the first of n entries that is x, else n or i.
-fn walk_to(col: &[u16], n: usize, i: usize, x: u16) -> usize
+fn walk_to(col: &[u32], n: usize, i: usize, x: u32) -> usize
     ensures { λ r. ⌜ ended n r ≡ walkFrom (λ y. eqb y x) (entries n (now (col .entry))) i ⌝ }
 {
     let mut j = i;
     while j < n {
-        if columns::u16_of(col, j) == x {
+        if columns::u32_of(col, j) == x {
             return j;
         }
         j += 1;
@@ -123,12 +123,12 @@ fn walk_to(col: &[u16], n: usize, i: usize, x: u16) -> usize
 }
 
 // From i on the first of n entries that is not x, else n or i.
-fn walk_past(col: &[u16], n: usize, i: usize, x: u16) -> usize
+fn walk_past(col: &[u32], n: usize, i: usize, x: u32) -> usize
     ensures { λ r. ⌜ ended n r ≡ walkFrom (λ y. not (eqb y x)) (entries n (now (col .entry))) i ⌝ }
 {
     let mut j = i;
     while j < n {
-        if columns::u16_of(col, j) != x {
+        if columns::u32_of(col, j) != x {
             return j;
         }
         j += 1;
@@ -150,8 +150,8 @@ fn no_sentinels() -> IdxSentinels
 pub fn calc_idx_sentinels(
     i: usize,
     moved: TrainIdx,
-    trains: &[u16],
-    nodes: &[u16],
+    trains: &[u32],
+    nodes: &[u32],
     n: usize,
 ) -> IdxSentinels
     ensures { λ r. ⌜ answer (r .code) (record { node = r .node; divs = r .divs }) ≡ calcIdxSentinels i moved (listed n (divAt (now (trains .entry)) (now (nodes .entry)))) ⌝ }
@@ -159,14 +159,14 @@ pub fn calc_idx_sentinels(
     if n <= i {
         return no_sentinels();
     }
-    if columns::u16_of(trains, n - 1) != moved.0 {
+    if columns::u32_of(trains, n - 1) != moved.0 {
         return no_sentinels();
     }
     let j = walk_to(trains, n, i, moved.0);
     if n <= j {
         return no_sentinels();
     }
-    let node = columns::u16_of(nodes, j);
+    let node = columns::u32_of(nodes, j);
     if n <= j + 1 {
         return IdxSentinels {
             code: 0,
@@ -200,7 +200,7 @@ fn in_range(low: u32, span: u32, l: LinkIdx) -> bool
 }
 
 // Does the walk stop at this link? At a Single it stops whether the link is taken or not.
-fn stops_at(class: LinkOptType, occ: &[u16], l: LinkIdx) -> bool
+fn stops_at(class: LinkOptType, occ: &[u32], l: LinkIdx) -> bool
     ensures { λ r. ⌜ r ≡ stops class (now (occ .entry)) l ⌝ }
 {
     let taken = columns::is_occupied(occ, l);
@@ -230,7 +230,7 @@ fn intersect_from(
     class: LinkOptType,
     col: &[u32],
     n: usize,
-    occ: &[u16],
+    occ: &[u32],
 ) -> usize
     requires { ⌜ (split ≤ sentinel) × (sentinel ≤ n) ⌝ }
     ensures { λ r. ⌜ r ≡ intersect split sentinel class (listed n (linkAt (now (col .entry)))) (now (occ .entry)) ⌝ }
@@ -259,7 +259,7 @@ pub fn find_train_intersect(
     class: LinkOptType,
     col: &[u32],
     n: usize,
-    occ: &[u16],
+    occ: &[u32],
 ) -> Intersection
     ensures { λ r. ⌜ answer (r .code) (r .idx) ≡ findTrainIntersect split sentinel class (listed n (linkAt (now (col .entry)))) (now (occ .entry)) ⌝ }
 {

@@ -32,7 +32,7 @@ pub fn is_blocked(v: TrainIdxsView) -> bool
 }
 
 // Does t stand in the pool from b up to e?
-fn has(pool: &[u16], b: usize, e: usize, t: u16) -> bool
+fn has(pool: &[u32], b: usize, e: usize, t: u32) -> bool
     requires { ⌜ e ≤ length (now pool) ⌝ }
     ensures { λ r. ⌜ r ≡ any (sameTrain (tr t)) (part b e (trains (now (pool .entry)))) ⌝ }
 {
@@ -47,7 +47,7 @@ fn has(pool: &[u16], b: usize, e: usize, t: u16) -> bool
 }
 
 // One train of the added view: the sentinel's place takes it; it is pushed if base has it not.
-fn add_one(pool: &mut [u16], len: usize, base: TrainIdxsView, i: usize) -> Grown
+fn add_one(pool: &mut [u32], len: usize, base: TrainIdxsView, i: usize) -> Grown
     requires { ⌜ (length (now pool) ≡ 2048) × (len ≤ 2048) × (base .«idx_end» < len) ⌝ }
     ensures { λ r. ⌜ Grows r len (now (pool .exit)) (addOne base i (take len (trains (now (pool .entry))))) ⌝ }
 {
@@ -72,7 +72,7 @@ fn add_one(pool: &mut [u16], len: usize, base: TrainIdxsView, i: usize) -> Grown
 }
 
 // The trains of the added view, from begin up to end.
-fn add_from(pool: &mut [u16], len: usize, base: TrainIdxsView, begin: usize, end: usize) -> Grown
+fn add_from(pool: &mut [u32], len: usize, base: TrainIdxsView, begin: usize, end: usize) -> Grown
     requires { ⌜ (length (now pool) ≡ 2048) × (len ≤ 2048) × (base .«idx_end» < len) ⌝ }
     ensures { λ r. ⌜ Grows r len (now (pool .exit)) (addFrom base (end - begin) begin (take len (trains (now (pool .entry))))) ⌝ }
 {
@@ -90,7 +90,7 @@ fn add_from(pool: &mut [u16], len: usize, base: TrainIdxsView, begin: usize, end
 }
 
 // The last train goes to the sentinel's place.
-fn put_last(pool: &mut [u16], e: usize, m: usize)
+fn put_last(pool: &mut [u32], e: usize, m: usize)
     requires { ⌜ (e < m) × (m < length (now pool)) ⌝ }
     ensures { λ _. ⌜ now (pool .exit) ≡ set (now (pool .entry)) e (getD (now (pool .entry)) m 0) ⌝ }
 {
@@ -98,7 +98,7 @@ fn put_last(pool: &mut [u16], e: usize, m: usize)
 }
 
 // The last train goes to the sentinel's place, or was the sentinel.
-fn close(pool: &mut [u16], len: usize, base: TrainIdxsView) -> Union
+fn close(pool: &mut [u32], len: usize, base: TrainIdxsView) -> Union
     requires { ⌜ (length (now pool) ≡ 2048) × (len ≤ 2048) × (base .«idx_end» < len) ⌝ }
     ensures { λ r. ⌜ Makes r (now (pool .exit)) (closed base (take len (trains (now (pool .entry))))) ⌝ }
 {
@@ -134,7 +134,7 @@ fn refused(code: u32, view: TrainIdxsView, len: usize) -> Union
 }
 
 fn add_blocking_trains(
-    pool: &mut [u16],
+    pool: &mut [u32],
     len: usize,
     base: TrainIdxsView,
     add: TrainIdxsView,
@@ -169,7 +169,7 @@ fn add_blocking_trains(
 }
 
 // extend_from_within: the k trains from a on, once more at the end.
-fn extend(pool: &mut [u16], len: usize, a: usize, k: usize)
+fn extend(pool: &mut [u32], len: usize, a: usize, k: usize)
     requires { ⌜ (length (now pool) ≡ 2048) × (a + k ≤ len) × (len + k ≤ 2048) ⌝ }
     ensures { λ _. ⌜ (take (len + k) (trains (now (pool .exit))) ≡ take len (trains (now (pool .entry))) ++ part a (a + k) (take len (trains (now (pool .entry))))) × (length (now (pool .exit)) ≡ 2048) ⌝ }
 {
@@ -181,7 +181,7 @@ fn extend(pool: &mut [u16], len: usize, a: usize, k: usize)
 }
 
 fn add_all_blocking_trains(
-    pool: &mut [u16],
+    pool: &mut [u32],
     len: usize,
     large: TrainIdxsView,
     small: TrainIdxsView,
@@ -235,7 +235,7 @@ fn extent(v: TrainIdxsView) -> u32
     v.idx_end - v.idx_begin
 }
 
-fn concat_in(pool: &mut [u16], len: usize, v: TrainIdxsView, w: TrainIdxsView) -> Union
+fn concat_in(pool: &mut [u32], len: usize, v: TrainIdxsView, w: TrainIdxsView) -> Union
     requires { ⌜ (length (now pool) ≡ 2048) × (len ≤ 2048) ⌝ }
     ensures { λ r. ⌜ Makes r (now (pool .exit)) (concatTrainIdxViews (take len (trains (now (pool .entry)))) v w) ⌝ }
 {
@@ -267,7 +267,7 @@ fn concat_in(pool: &mut [u16], len: usize, v: TrainIdxsView, w: TrainIdxsView) -
 
 // The union of two views of the pool. What is lent is a pool where it has 2,048 entries and the count is no larger.
 pub fn concat_train_idx_views(
-    pool: &mut [u16],
+    pool: &mut [u32],
     len: usize,
     v: TrainIdxsView,
     w: TrainIdxsView,

@@ -14,7 +14,7 @@ use disp_structs::floats;
 use link_rules::link_idx::LinkIdx;
 
 // An entry of link_idx_path that is an occupied link and not known.
-fn is_stray(occ: &[u16], known: &[u8], l: LinkIdx) -> bool
+fn is_stray(occ: &[u32], known: &[u8], l: LinkIdx) -> bool
     ensures { λ r. ⌜ r ≡ strayLink (now (occ .entry)) (flagged (now (known .entry))) l ⌝ }
 {
     if l.0 == 0 {
@@ -27,7 +27,7 @@ fn is_stray(occ: &[u16], known: &[u8], l: LinkIdx) -> bool
 }
 
 // One more where it is a stray.
-fn stray_more(occ: &[u16], known: &[u8], l: LinkIdx, k: usize) -> usize
+fn stray_more(occ: &[u32], known: &[u8], l: LinkIdx, k: usize) -> usize
     requires { ⌜ k < 2 ^ 64 - 1 ⌝ }
     ensures { λ r. ⌜ r ≡ k + cond (strayLink (now (occ .entry)) (flagged (now (known .entry))) l) 1 0 ⌝ }
 {
@@ -38,7 +38,7 @@ fn stray_more(occ: &[u16], known: &[u8], l: LinkIdx, k: usize) -> usize
 }
 
 // The strays at or after free of a path of n nodes. With no flags these are the occupancy conflicts.
-pub fn strays(col: &[u32], n: usize, free: usize, occ: &[u16], known: &[u8]) -> usize
+pub fn strays(col: &[u32], n: usize, free: usize, occ: &[u32], known: &[u8]) -> usize
     ensures { λ r. ⌜ r ≡ count (strayLink (now (occ .entry)) (flagged (now (known .entry)))) (drop free (listed n (linkAt (now (col .entry))))) ⌝ }
 {
     let mut k = 0;

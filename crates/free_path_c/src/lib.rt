@@ -21,7 +21,7 @@ use image_fault;
 use image_fault::Fault;
 use link_rules::advance_rewind;
 use link_rules::link_idx::LinkIdx;
-use link_rules::link_idx::TrainIdx;
+use link_rules::link_idx::NarrowTrainIdx;
 use link_rules::refusal::Answer;
 use path_page;
 use train_disp::Order;
@@ -40,7 +40,7 @@ pub extern "C" fn lavtoeu_mark(table: &[u8], occupancy: &mut [u16], link: u32, t
         table,
         occupancy,
         LinkIdx(link),
-        TrainIdx(train),
+        NarrowTrainIdx(train),
     ))
 }
 
@@ -91,7 +91,7 @@ pub extern "C" fn lavtoeu_lay_out(
         × (now (image .exit) ≡ laidOut (now (est .entry)) (orderOf train search fixed room links) (now (image .entry)) .image) ⌝ }
 {
     let order = Order {
-        train_idx: TrainIdx(train),
+        train_idx: NarrowTrainIdx(train),
         dist_disp_path_search: Metres(search),
         dist_fixed_max: Metres(fixed),
         diverge_room: room,
@@ -118,7 +118,7 @@ pub extern "C" fn lavtoeu_update(
         image,
         occupancy,
         blocking,
-        TrainIdx(moved),
+        NarrowTrainIdx(moved),
         flag_of(local),
         limit,
     );
@@ -198,7 +198,7 @@ pub extern "C" fn lavtoeu_check(
         yard,
         occupancy,
         blocking,
-        TrainIdx(moved),
+        NarrowTrainIdx(moved),
         begin,
         flag_of(local),
         limit,
@@ -241,7 +241,12 @@ fn put_check(answer: &mut [u64], x: check::Answer)
     match x {
         check::Answer::Refused(r) => {}
         check::Answer::Erred(n) => put_words(answer, n as u64, 0, 0),
-        check::Answer::Done { deadlock, next } => put_words(answer, 0, bit_of(deadlock), next as u64),
+        check::Answer::Done { deadlock, next } => put_words(
+            answer,
+            0,
+            bit_of(deadlock),
+            next as u64,
+        ),
     }
 }
 

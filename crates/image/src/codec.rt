@@ -64,7 +64,7 @@ pub fn diverge_room(img: &[u8]) -> u32
 pub fn train_idx(img: &[u8]) -> TrainIdx
     ensures { λ r. ⌜ r ≡ trainIdx (now (img .entry)) ⌝ }
 {
-    TrainIdx(octets::u16_at(img, 32))
+    TrainIdx(octets::u16_at(img, 32) as u32)
 }
 
 pub fn path_header(img: &[u8]) -> PathHeader
@@ -297,8 +297,8 @@ pub fn diverge_at(img: &[u8], i: u32) -> DivergeNode
 {
     let at = diverge_place(est_count(img), i);
     DivergeNode {
-        train_idx: TrainIdx(octets::u16_at(img, at)),
-        disp_node_idx: octets::u16_at(img, at + 2),
+        train_idx: TrainIdx(octets::u16_at(img, at) as u32),
+        disp_node_idx: octets::u16_at(img, at + 2) as u32,
     }
 }
 
@@ -392,12 +392,13 @@ fn put_node_past(s: &mut [u8], at: usize, x: DispNode)
     octets::put_u32(s, at + 28, 0);
 }
 
+// Of a larger number the low 16 bits are written.
 pub fn put_diverge(img: &mut [u8], i: u32, x: DivergeNode)
     ensures { λ _. ⌜ now (img .exit) ≡ putDiverge x (divergePlace (estCount (now (img .entry))) i) (now (img .entry)) ⌝ }
 {
     let at = diverge_place(est_count(img), i);
-    octets::put_u16(img, at, x.train_idx.0);
-    octets::put_u16(img, at + 2, x.disp_node_idx);
+    octets::put_u16(img, at, (x.train_idx.0 % 65536) as u16);
+    octets::put_u16(img, at + 2, (x.disp_node_idx % 65536) as u16);
 }
 
 // The path records from n on become zero.

@@ -601,7 +601,7 @@ fn inner_fits(n: u32, d: DivergeNode, b: DivergeNode) -> bool
     if d.disp_node_idx < 1 {
         return false;
     }
-    if n <= d.disp_node_idx as u32 {
+    if n <= d.disp_node_idx {
         return false;
     }
     b.disp_node_idx <= d.disp_node_idx
@@ -619,7 +619,7 @@ fn diverge_fits(img: &[u8], i: u32) -> bool
         return false;
     }
     if (i as usize) + 1 == codec::diverge_count(img) as usize {
-        return d.disp_node_idx as u32 == n;
+        return d.disp_node_idx == n;
     }
     inner_fits(n, d, codec::diverge_at(img, i - 1))
 }

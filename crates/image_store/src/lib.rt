@@ -80,14 +80,14 @@ fn put_nodes(image: &mut [u8], img: &[u8], n: u32)
 }
 
 // The first m diverge nodes of two columns go to an image.
-fn put_diverges(image: &mut [u8], dt: &[u16], dn: &[u16], m: u32)
+fn put_diverges(image: &mut [u8], dt: &[u32], dn: &[u32], m: u32)
     ensures { λ _. ⌜ now (image .exit) ≡ putEach putDiverge 4 (listed m (divAt (now (dt .entry)) (now (dn .entry)))) (divergePlace (estCount (now (image .entry))) 0) (now (image .entry)) ⌝ }
 {
     let mut i: u32 = 0;
     while i < m {
         let d = DivergeNode {
-            train_idx: TrainIdx(columns::u16_of(dt, i as usize)),
-            disp_node_idx: columns::u16_of(dn, i as usize),
+            train_idx: TrainIdx(columns::u32_of(dt, i as usize)),
+            disp_node_idx: columns::u32_of(dn, i as usize),
         };
         codec::put_diverge(image, i, d);
         i += 1;
@@ -95,7 +95,7 @@ fn put_diverges(image: &mut [u8], dt: &[u16], dn: &[u16], m: u32)
 }
 
 // What an update changes goes to the image: the path and the diverge nodes with their unused records, and the header's numbers.
-pub fn store(image: &mut [u8], img: &[u8], h: PathHeader, dt: &[u16], dn: &[u16])
+pub fn store(image: &mut [u8], img: &[u8], h: PathHeader, dt: &[u32], dn: &[u32])
     requires { ⌜ (estCount (now image) ≡ estCount (now img)) × (divergeRoom (now image) ≡ divergeRoom (now img)) ⌝ }
     ensures { λ _. ⌜ now (image .exit) ≡ storedInto (trainOf (now (img .entry)) (now (dt .entry)) (now (dn .entry)) h) (now (image .entry)) ⌝ }
 {

@@ -3,7 +3,6 @@ use mathlib.Core.Path.{_≡_}
 use mathlib.Core.List.{List}
 use Prim.Native.Nat.{ℕ, _*_, _<_}
 use lib.ListN.{length}
-use Rattle.link_rules.specs.Renumbering.{rTrain}
 use Rattle.image.specs.ImageMatch.{Renumbered}
 use Rattle.train_disp.specs.TrainDisp.{estLength}
 use Rattle.train_disp.specs.declared.Order.{Order}
@@ -17,7 +16,7 @@ pub record EstsMatch (p : ℕ → ℕ) (est est′ : List ℕ) : Type 0 where
 abbrev pub rOrder : (ℕ → ℕ) → Order → Order
 rOrder q o =
     record {
-      «train_idx» = rTrain q (o .«train_idx»);
+      «train_idx» = record { 0 = q (o .«train_idx» .0) };
       «dist_disp_path_search» = o .«dist_disp_path_search»;
       «dist_fixed_max» = o .«dist_fixed_max»;
       «diverge_room» = o .«diverge_room»;

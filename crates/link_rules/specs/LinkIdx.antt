@@ -6,12 +6,17 @@ use lib.Dec.{eqb}
 use lib.ListN.{getD, set}
 use Rattle.link_rules.specs.declared.link_idx.LinkIdx.{LinkIdx}
 use Rattle.link_rules.specs.declared.link_idx.TrainIdx.{TrainIdx}
+use Rattle.link_rules.specs.declared.link_idx.NarrowTrainIdx.{NarrowTrainIdx}
 
 abbrev pub noLink : LinkIdx
 noLink = record { 0 = 0 }
 
 abbrev pub noTrain : TrainIdx
 noTrain = record { 0 = 0 }
+
+-- the train of a narrow number
+abbrev pub wideTrain : NarrowTrainIdx → TrainIdx
+wideTrain t = record { 0 = t .0 }
 
 abbrev pub sameLink : LinkIdx → LinkIdx → Bool
 sameLink a b = eqb (a .0) (b .0)

@@ -1,11 +1,11 @@
 // Marking and releasing a link: update_links_blocked and reset_link_train_idx (advance_rewind.rs 549-584).
 ghost use mathlib.Core.Path.{_≡_};
 ghost use lib.ListN.{length, getD, set};
-ghost use Rattle.link_rules.specs.LinkIdx.{occupied};
+ghost use Rattle.link_rules.specs.LinkIdx.{occupied, wideTrain};
 ghost use Rattle.link_rules.specs.Network.{linkAt};
 ghost use Rattle.link_rules.specs.AdvanceRewind.{holdAll, refilled, resetLinkTrainIdx, resetAll, updateLinksBlocked, markRefusal, marked, markOf};
 use crate::link_idx::LinkIdx;
-use crate::link_idx::TrainIdx;
+use crate::link_idx::NarrowTrainIdx;
 use crate::network;
 use crate::refusal::Answer;
 use crate::refusal::Refusal;
@@ -15,9 +15,9 @@ pub fn update_links_blocked(
     table: &[u8],
     occupancy: &mut [u16],
     link: LinkIdx,
-    train: TrainIdx,
+    train: NarrowTrainIdx,
 ) -> Answer
-    ensures { λ r. ⌜ marked r (now (occupancy .exit)) ≡ markOf (now (table .entry)) (now (occupancy .entry)) link train ⌝ }
+    ensures { λ r. ⌜ marked r (now (occupancy .exit)) ≡ markOf (now (table .entry)) (now (occupancy .entry)) link (wideTrain train) ⌝ }
 {
     let number = mark_refusal(table, occupancy.len(), link);
     if number != 0 {
@@ -49,8 +49,8 @@ fn mark_refusal(table: &[u8], n: usize, link: LinkIdx) -> u16
     0
 }
 
-fn mark(table: &[u8], occupancy: &mut [u16], link: LinkIdx, train: TrainIdx)
-    ensures { λ _. ⌜ now (occupancy .exit) ≡ updateLinksBlocked (now (table .entry)) (now (occupancy .entry)) link train ⌝ }
+fn mark(table: &[u8], occupancy: &mut [u16], link: LinkIdx, train: NarrowTrainIdx)
+    ensures { λ _. ⌜ now (occupancy .exit) ≡ updateLinksBlocked (now (table .entry)) (now (occupancy .entry)) link (wideTrain train) ⌝ }
 {
     let flip = network::idx_flip(table, link);
     hold(occupancy, flip.0, train.0);
@@ -81,8 +81,8 @@ fn train_at(occupancy: &[u16], l: u32) -> u16
     0
 }
 
-fn hold_lockouts(table: &[u8], occupancy: &mut [u16], link: LinkIdx, train: TrainIdx)
-    ensures { λ _. ⌜ now (occupancy .exit) ≡ holdAll (now (occupancy .entry)) (linkAt (now (table .entry)) link .«link_idxs_lockout») train ⌝ }
+fn hold_lockouts(table: &[u8], occupancy: &mut [u16], link: LinkIdx, train: NarrowTrainIdx)
+    ensures { λ _. ⌜ now (occupancy .exit) ≡ holdAll (now (occupancy .entry)) (linkAt (now (table .entry)) link .«link_idxs_lockout») (wideTrain train) ⌝ }
 {
     let start = network::start_at(table, link.0) as u64;
     let n = network::count_at(table, link.0) as u64;

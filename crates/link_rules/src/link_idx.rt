@@ -4,4 +4,7 @@
 pub struct LinkIdx(pub u32);
 
 // disp_structs.rs: TrainIdx, whose None is 0
-pub struct TrainIdx(pub u16);
+pub struct TrainIdx(pub u32);
+
+// A train of an occupancy of u16 entries.
+pub struct NarrowTrainIdx(pub u16);

@@ -37,8 +37,8 @@ use Rattle.round.specs.declared.RoundEnd.{RoundEnd}
 pub record Held (occ img on dt dn : List ℕ) (h : PathHeader) : Type 0 where
   pub links : length occ ≤ 4000
   pub accepted : Accepted (length occ) (trainOf img dt dn h)
-  pub fits : Fits (2 ^ 16) (trainOf img dt dn h)
-  pub trains : (l : LinkIdx) → TrainFits (2 ^ 16) (holder occ l)
+  pub fits : Fits (2 ^ 32) (trainOf img dt dn h)
+  pub trains : (l : LinkIdx) → TrainFits (2 ^ 32) (holder occ l)
   pub size : nodePlace (estCount img) (estCount img) ≤ length img
   pub marked : Marked on (pathOf img (h .«path_count»))
 

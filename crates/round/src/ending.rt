@@ -119,10 +119,10 @@ pub(crate) fn joined(
     h: PathHeader,
     q: Reached,
     here: Here,
-    dt: &mut [u16],
-    dn: &mut [u16],
-    nt: &mut [u16],
-    nn: &mut [u16],
+    dt: &mut [u32],
+    dn: &mut [u32],
+    nt: &mut [u32],
+    nn: &mut [u32],
 ) -> RoundEnd
     requires { ⌜ JoinFits (now img) (now fresh) (now dt) (now dn) (now nt) (now nn) h q (here .«est_curr» .«idx_next») ⌝ }
     ensures { λ x. ⌜ ((R : State.Round) (S : State.Search) (f : State.Search → Res State.Ended) → Stands (now (img .entry)) (now (dt .entry)) (now (dn .entry)) h q (here .«est_curr») R (hereOf here) S → Joins (now (fresh .entry)) (now (nt .entry)) (now (nn .entry)) q (here .«disp_node_curr») (hereOf here) S → endedOf x (trainOf (now (img .exit)) (now (dt .exit)) (now (dn .exit)) (x .header)) ≡ endOf f (Joined.join R (hereOf here) S)) × (isRefused (x .end) ≡ false → Kept (now (img .exit)) (now (img .entry))) × (isAtEnd (x .end) ≡ false) ⌝ }
@@ -140,13 +140,13 @@ pub(crate) fn changed(
     here: Here,
     p: Place,
     n: usize,
-    pool: &[u16],
+    pool: &[u32],
     begins: &[u32],
     ends: &[u32],
-    dt: &mut [u16],
-    dn: &mut [u16],
-    nt: &mut [u16],
-    nn: &mut [u16],
+    dt: &mut [u32],
+    dn: &mut [u32],
+    nt: &mut [u32],
+    nn: &mut [u32],
 ) -> RoundEnd
     requires { ⌜ ChangeFits (now img) (now dt) (now dn) (now nt) (now nn) (now pool) (p .«pool_count») h q ⌝ }
     ensures { λ x. ⌜ ((R : State.Round) (S : State.Search) (f : State.Search → Res State.Ended) → Stands (now (img .entry)) (now (dt .entry)) (now (dn .entry)) h q (here .«est_curr») R (hereOf here) S → Changes (now (pool .entry)) (p .«pool_count») (here .«est_curr» .«idx_next_alt») (viewOf (viewsOf n (now (begins .entry)) (now (ends .entry))) (here .«est_curr» .«idx_next»)) q (hereOf here) S → endedOf x (trainOf (now (img .entry)) (now (dt .exit)) (now (dn .exit)) (x .header)) ≡ endOf f (changeDiverge R (hereOf here) S)) × (isAtEnd (x .end) ≡ false) ⌝ }

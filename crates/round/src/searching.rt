@@ -18,18 +18,18 @@ use search_moves::turn;
 fn search_round(
     img: &mut [u8],
     fresh: &mut [u8],
-    occ: &[u16],
+    occ: &[u32],
     on: &[u8],
     h: PathHeader,
     r: Round,
     start: Place,
-    dt: &mut [u16],
-    dn: &mut [u16],
-    pool: &mut [u16],
+    dt: &mut [u32],
+    dn: &mut [u32],
+    pool: &mut [u32],
     begins: &mut [u32],
     ends: &mut [u32],
-    nt: &mut [u16],
-    nn: &mut [u16],
+    nt: &mut [u32],
+    nn: &mut [u32],
 ) -> RoundEnd
     requires { ⌜ Held (now occ) (now img) (now on) (now dt) (now dn) h × Room (estCount (now img)) (divergeRoom (now img)) (length (now fresh)) (now fresh) (now dt) (now dn) (now pool) (now begins) (now ends) (now nt) (now nn) × Searching (now occ) (now img) (now dt) (now dn) h r start (now pool) (now begins) (now ends) (now nt) (now nn) ⌝ }
     ensures { λ x. ⌜ SearchEnded (now (occ .entry)) (now (img .entry)) (now (dt .entry)) (now (dn .entry)) h r (searchIn (r .«est_count») start [] (divsOf (start .«div_count») (now (nt .entry)) (now (nn .entry))) (arrays (now (pool .entry)) (now (begins .entry)) (now (ends .entry)))) x (now (img .exit)) (now (dt .exit)) (now (dn .exit)) ⌝ }
@@ -81,23 +81,23 @@ fn search_round(
 // The search in room of its own, that of the largest train.
 fn search_large(
     img: &mut [u8],
-    occ: &[u16],
+    occ: &[u32],
     on: &[u8],
     h: PathHeader,
     r: Round,
     start: Place,
-    dt: &mut [u16],
-    dn: &mut [u16],
+    dt: &mut [u32],
+    dn: &mut [u32],
 ) -> RoundEnd
     requires { ⌜ Held (now occ) (now img) (now on) (now dt) (now dn) h × (divergeRoom (now img) ≤ length (now dt)) × (divergeRoom (now img) ≤ length (now dn)) × Searching (now occ) (now img) (now dt) (now dn) h r start (zeros .pool) (zeros .begins) (zeros .ends) (replicate 1024 0) (replicate 1024 0) ⌝ }
     ensures { λ x. ⌜ SearchEnded (now (occ .entry)) (now (img .entry)) (now (dt .entry)) (now (dn .entry)) h r (zeroed (r .«est_count») start) x (now (img .exit)) (now (dt .exit)) (now (dn .exit)) ⌝ }
 {
     let mut fresh = [0u8; 16448];
-    let mut pool = [0u16; 2048];
+    let mut pool = [0u32; 2048];
     let mut begins = [0u32; 512];
     let mut ends = [0u32; 512];
-    let mut nt = [0u16; 1024];
-    let mut nn = [0u16; 1024];
+    let mut nt = [0u32; 1024];
+    let mut nn = [0u32; 1024];
     search_round(
         img,
         &mut fresh,
@@ -119,23 +119,23 @@ fn search_large(
 // The same for a train of at most 64 est records and with room for 64 diverge nodes, which takes less time to clear.
 fn search_small(
     img: &mut [u8],
-    occ: &[u16],
+    occ: &[u32],
     on: &[u8],
     h: PathHeader,
     r: Round,
     start: Place,
-    dt: &mut [u16],
-    dn: &mut [u16],
+    dt: &mut [u32],
+    dn: &mut [u32],
 ) -> RoundEnd
     requires { ⌜ Held (now occ) (now img) (now on) (now dt) (now dn) h × (divergeRoom (now img) ≤ length (now dt)) × (divergeRoom (now img) ≤ length (now dn)) × Searching (now occ) (now img) (now dt) (now dn) h r start (zeros .pool) (zeros .begins) (zeros .ends) (replicate 1024 0) (replicate 1024 0) × (estCount (now img) ≤ 64) × (divergeRoom (now img) ≤ 64) ⌝ }
     ensures { λ x. ⌜ SearchEnded (now (occ .entry)) (now (img .entry)) (now (dt .entry)) (now (dn .entry)) h r (zeroed (r .«est_count») start) x (now (img .exit)) (now (dt .exit)) (now (dn .exit)) ⌝ }
 {
     let mut fresh = [0u8; 2112];
-    let mut pool = [0u16; 2048];
+    let mut pool = [0u32; 2048];
     let mut begins = [0u32; 64];
     let mut ends = [0u32; 64];
-    let mut nt = [0u16; 64];
-    let mut nn = [0u16; 64];
+    let mut nt = [0u32; 64];
+    let mut nn = [0u32; 64];
     search_round(
         img,
         &mut fresh,
@@ -157,13 +157,13 @@ fn search_small(
 // The search from start, by the size of the train.
 pub(crate) fn search(
     img: &mut [u8],
-    occ: &[u16],
+    occ: &[u32],
     on: &[u8],
     h: PathHeader,
     r: Round,
     start: Place,
-    dt: &mut [u16],
-    dn: &mut [u16],
+    dt: &mut [u32],
+    dn: &mut [u32],
 ) -> RoundEnd
     requires { ⌜ Held (now occ) (now img) (now on) (now dt) (now dn) h × (divergeRoom (now img) ≤ length (now dt)) × (divergeRoom (now img) ≤ length (now dn)) × Searching (now occ) (now img) (now dt) (now dn) h r start (zeros .pool) (zeros .begins) (zeros .ends) (replicate 1024 0) (replicate 1024 0) ⌝ }
     ensures { λ x. ⌜ SearchEnded (now (occ .entry)) (now (img .entry)) (now (dt .entry)) (now (dn .entry)) h r (zeroed (r .«est_count») start) x (now (img .exit)) (now (dt .exit)) (now (dn .exit)) ⌝ }

@@ -92,15 +92,15 @@ fn place_of(h: PathHeader, split: usize, div_split: usize, save: usize) -> Place
 // The search from the split point.
 fn search_at(
     img: &mut [u8],
-    occ: &[u16],
+    occ: &[u32],
     on: &[u8],
     g: Given,
     h: PathHeader,
     split: usize,
     div_split: usize,
     z: IdxSentinels,
-    dt: &mut [u16],
-    dn: &mut [u16],
+    dt: &mut [u32],
+    dn: &mut [u32],
 ) -> RoundEnd
     requires { ⌜ Held (now occ) (now img) (now on) (now dt) (now dn) h × (divergeRoom (now img) ≤ length (now dt)) × (divergeRoom (now img) ≤ length (now dn)) × (1 ≤ split) × (split < h .«path_count») ⌝ }
     ensures { λ x. ⌜ ((blocking start : List LinkIdx) → endedOf x (trainOf (now (img .exit)) (now (dt .exit)) (now (dn .exit)) (x .header)) ≡ roundFrom (givenOf g (now (occ .entry)) blocking start) (trainOf (now (img .entry)) (now (dt .entry)) (now (dn .entry)) h) split «div_split» (record { node = z .node; divs = z .divs })) × (isRefused (x .end) ≡ false → Kept (now (img .exit)) (now (img .entry))) × (isAtEnd (x .end) ≡ false) ⌝ }
@@ -122,15 +122,15 @@ fn search_at(
 // One round; col is link_idx_path, on the flags of the path.
 pub fn round(
     img: &mut [u8],
-    occ: &[u16],
+    occ: &[u32],
     col: &[u32],
     on: &[u8],
     g: Given,
     h: PathHeader,
     split: usize,
     div_split: usize,
-    dt: &mut [u16],
-    dn: &mut [u16],
+    dt: &mut [u32],
+    dn: &mut [u32],
 ) -> RoundEnd
     requires { ⌜ Held (now occ) (now img) (now on) (now dt) (now dn) h × (divergeRoom (now img) ≤ length (now dt)) × (divergeRoom (now img) ≤ length (now dn)) × (listed (h .«path_count») (linkAt (now col)) ≡ linkIdxPath (pathOf (now img) (h .«path_count»))) × (1 ≤ split) × (1 ≤ «div_split») ⌝ }
     ensures { λ x. ⌜ ((blocking start : List LinkIdx) → endedOf x (trainOf (now (img .exit)) (now (dt .exit)) (now (dn .exit)) (x .header)) ≡ roundOf (givenOf g (now (occ .entry)) blocking start) (trainOf (now (img .entry)) (now (dt .entry)) (now (dn .entry)) h) split «div_split») × (isRefused (x .end) ≡ false → Kept (now (img .exit)) (now (img .entry))) × (isAtEnd (x .end) ≡ true → trainOf (now (img .exit)) (now (dt .exit)) (now (dn .exit)) (x .header) ≡ trainOf (now (img .entry)) (now (dt .entry)) (now (dn .entry)) h) ⌝ }

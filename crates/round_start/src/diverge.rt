@@ -11,7 +11,7 @@ ghost use Rattle.search.specs.Read.{divsOf};
 ghost use Rattle.round_start.specs.Start.{partedAt, dividedAt};
 
 // div_idx_split at the sentinel.
-fn at_sentinel(dn: &[u16], m: usize, split: usize, k: usize) -> Index
+fn at_sentinel(dn: &[u32], m: usize, split: usize, k: usize) -> Index
     ensures { λ x. ⌜ ((ts : List ℕ) → answer (x .code) (x .index) ≡ atSentinel (divsOf m ts (now (dn .entry))) split k) ⌝ }
 {
     if k == 0 {
@@ -20,15 +20,15 @@ fn at_sentinel(dn: &[u16], m: usize, split: usize, k: usize) -> Index
     if m < k {
         return Index { code: 13, index: 0 };
     }
-    if columns::u16_of(dn, k - 1) as usize != split {
+    if columns::u32_of(dn, k - 1) as usize != split {
         return Index { code: 13, index: 0 };
     }
     Index { code: 0, index: k }
 }
 
-// div_idx_split; node and divs are the sentinels. No diverge node is above 65,535.
+// div_idx_split; node and divs are the sentinels. No diverge node is above 4,294,967,295.
 pub fn div_point(
-    dn: &[u16],
+    dn: &[u32],
     m: usize,
     split: usize,
     div_split: usize,
@@ -40,7 +40,7 @@ pub fn div_point(
     if split == node {
         return at_sentinel(dn, m, split, divs);
     }
-    if 65535 < split {
+    if 4294967295 < split {
         return Index { code: 13, index: 0 };
     }
     let k = diverge::walk_above(dn, m, div_split, split as u32);
@@ -52,7 +52,7 @@ pub fn div_point(
 
 // div_idx_split with its asserts.
 pub fn div_at(
-    dn: &[u16],
+    dn: &[u32],
     m: usize,
     split: usize,
     div_split: usize,
@@ -69,7 +69,7 @@ pub fn div_at(
 }
 
 // The diverge node before k is at most at the split node, and the one at k above it.
-fn parted(dn: &[u16], m: usize, split: usize, k: usize) -> Index
+fn parted(dn: &[u32], m: usize, split: usize, k: usize) -> Index
     ensures { λ x. ⌜ ((ts : List ℕ) → answer (x .code) (x .index) ≡ partedAt (divsOf m ts (now (dn .entry))) split k) × (x .code ≡ 0 → (1 ≤ x .index) × (x .index < m)) ⌝ }
 {
     if k == 0 {
@@ -78,10 +78,10 @@ fn parted(dn: &[u16], m: usize, split: usize, k: usize) -> Index
     if m <= k {
         return Index { code: 13, index: 0 };
     }
-    if split < columns::u16_of(dn, k - 1) as usize {
+    if split < columns::u32_of(dn, k - 1) as usize {
         return Index { code: 13, index: 0 };
     }
-    if columns::u16_of(dn, k) as usize <= split {
+    if columns::u32_of(dn, k) as usize <= split {
         return Index { code: 13, index: 0 };
     }
     Index { code: 0, index: k }

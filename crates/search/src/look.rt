@@ -54,7 +54,7 @@ pub struct Placed {
 }
 
 // There are diverge nodes before and at i, the one before at a lower node.
-fn between_divs(dn: &[u16], m: usize, i: usize) -> bool
+fn between_divs(dn: &[u32], m: usize, i: usize) -> bool
     ensures { λ r. ⌜ ((t : List ℕ) → need r ≡ rising (divsOf m t (now (dn .entry))) i) ⌝ }
 {
     if i == 0 {
@@ -63,7 +63,7 @@ fn between_divs(dn: &[u16], m: usize, i: usize) -> bool
     if m <= i {
         return false;
     }
-    columns::u16_of(dn, i - 1) < columns::u16_of(dn, i)
+    columns::u32_of(dn, i - 1) < columns::u32_of(dn, i)
 }
 
 // The turn is refused by 13; where it stood does not count.
@@ -81,7 +81,7 @@ pub fn nowhere(curr: DispNode) -> Here
 }
 
 // The est records lie within the image.
-pub fn look_here(img: &[u8], r: Round, p: Place, curr: DispNode, ends: &[u32], dn: &[u16]) -> Here
+pub fn look_here(img: &[u8], r: Round, p: Place, curr: DispNode, ends: &[u32], dn: &[u32]) -> Here
     requires { ⌜ Small p × (estPlace (r .«est_count») ≤ length (now img)) ⌝ }
     ensures { λ h. ⌜ Looks h (now (img .entry)) r p curr (now (ends .entry)) (now (dn .entry)) ⌝ }
 {
@@ -114,26 +114,26 @@ pub fn look_here(img: &[u8], r: Round, p: Place, curr: DispNode, ends: &[u32], d
 // ---- an est is blocked by trains
 
 // The k trains of a column from a on go to the end of the pool, at most 2,048 in all.
-fn push_trains(col: &[u16], a: usize, k: usize, pool: &mut [u16], len: usize)
+fn push_trains(col: &[u32], a: usize, k: usize, pool: &mut [u32], len: usize)
     requires { ⌜ (length (now pool) ≡ 2048) × (len + k ≤ 2048) × (a < 2 ^ 32) ⌝ }
     ensures { λ _. ⌜ take (len + k) (trains (now (pool .exit))) ≡ take len (trains (now (pool .entry))) ++ trainsFrom (now (col .entry)) a k ⌝ }
 {
     let mut j = 0;
     while j < k {
-        pool[len + j] = columns::u16_of(col, a + j);
+        pool[len + j] = columns::u32_of(col, a + j);
         j += 1;
     }
 }
 
 // The est e of n is blocked by the k trains of a column from a on.
 fn block_by(
-    col: &[u16],
+    col: &[u32],
     a: usize,
     k: usize,
     n: usize,
     e: EstIdx,
     p: Place,
-    pool: &mut [u16],
+    pool: &mut [u32],
     begins: &mut [u32],
     ends: &mut [u32],
 ) -> Placed
@@ -159,8 +159,8 @@ fn block_by(
 
 // The walk down to the first diverge node before the join.
 fn stored_from(
-    dt: &[u16],
-    dn: &[u16],
+    dt: &[u32],
+    dn: &[u32],
     m: usize,
     join: usize,
     moved: TrainIdx,
@@ -172,14 +172,14 @@ fn stored_from(
     let mut k = from;
     let mut met = false;
     while 0 < k {
-        if columns::u16_of(dn, k - 1) as usize != join {
+        if columns::u32_of(dn, k - 1) as usize != join {
             return Stored {
                 code: 0,
                 div_idx_split: k,
                 met: met,
             };
         }
-        met = met_or(met, columns::u16_of(dt, k - 1), moved);
+        met = met_or(met, columns::u32_of(dt, k - 1), moved);
         k -= 1;
     }
     Stored {
@@ -189,7 +189,7 @@ fn stored_from(
     }
 }
 
-fn met_or(met: bool, t: u16, moved: TrainIdx) -> bool
+fn met_or(met: bool, t: u32, moved: TrainIdx) -> bool
     ensures { λ r. ⌜ r ≡ (met || sameTrain (tr t) moved) ⌝ }
 {
     if met {
@@ -200,12 +200,12 @@ fn met_or(met: bool, t: u16, moved: TrainIdx) -> bool
 
 // The moved train is not among the stored trains from div on: they block the next est.
 fn block_stored(
-    dt: &[u16],
+    dt: &[u32],
     r: Round,
     h: Here,
     p: Place,
     div: usize,
-    pool: &mut [u16],
+    pool: &mut [u32],
     begins: &mut [u32],
     ends: &mut [u32],
 ) -> Placed
@@ -223,13 +223,13 @@ fn block_stored(
 }
 
 fn take_stored(
-    dt: &[u16],
-    dn: &[u16],
+    dt: &[u32],
+    dn: &[u32],
     on: &[u8],
     r: Round,
     h: Here,
     p: Place,
-    pool: &mut [u16],
+    pool: &mut [u32],
     begins: &mut [u32],
     ends: &mut [u32],
 ) -> Placed
@@ -272,7 +272,7 @@ fn take_stored(
 }
 
 // disp_node_idx of div_nodes[i - 1].
-fn node_before(dn: &[u16], m: usize, i: usize) -> Index
+fn node_before(dn: &[u32], m: usize, i: usize) -> Index
     ensures { λ x. ⌜ ((t : List ℕ) → answer (x .code) (x .index) ≡ nodeBefore (divsOf m t (now (dn .entry))) i) ⌝ }
 {
     if i == 0 {
@@ -283,12 +283,12 @@ fn node_before(dn: &[u16], m: usize, i: usize) -> Index
     }
     Index {
         code: 0,
-        index: columns::u16_of(dn, i - 1) as usize,
+        index: columns::u32_of(dn, i - 1) as usize,
     }
 }
 
 // The diverge node before the place that is left stands before the join.
-fn settle(dn: &[u16], m: usize, join: usize, x: Placed) -> Placed
+fn settle(dn: &[u32], m: usize, join: usize, x: Placed) -> Placed
     ensures { λ y. ⌜ (y .place ≡ x .place) × ((t : List ℕ) (new : List DispNode) (divs : List DivergeNode) (pool : List TrainIdx) (views : List TrainIdxsView) → answer (y .code) (searchOf (x .place) new divs pool views) ≡ settled (divsOf m t (now (dn .entry))) join (x .code) (searchOf (x .place) new divs pool views)) ⌝ }
 {
     if x.code != 0 {
@@ -309,13 +309,13 @@ fn settle(dn: &[u16], m: usize, join: usize, x: Placed) -> Placed
 }
 
 pub fn stored_trains(
-    dt: &[u16],
-    dn: &[u16],
+    dt: &[u32],
+    dn: &[u32],
     on: &[u8],
     r: Round,
     h: Here,
     p: Place,
-    pool: &mut [u16],
+    pool: &mut [u32],
     begins: &mut [u32],
     ends: &mut [u32],
 ) -> Placed
@@ -340,7 +340,7 @@ pub fn stored_trains(
 
 // ---- the next est is occupied
 
-fn meets_train(occ: &[u16], n: usize, h: Here, free: usize, ends: &[u32]) -> bool
+fn meets_train(occ: &[u32], n: usize, h: Here, free: usize, ends: &[u32]) -> bool
     ensures { λ x. ⌜ ((p : Place) (new : List DispNode) (divs : List DivergeNode) (pool : List TrainIdx) (b : List ℕ) → p .«disp_node_idx_free» ≡ free → x ≡ meetsTrain (now (occ .entry)) (hereOf h) (searchOf p new divs pool (viewsOf n b (now (ends .entry))))) ⌝ }
 {
     let est = h.est_curr;
@@ -360,11 +360,11 @@ fn meets_train(occ: &[u16], n: usize, h: Here, free: usize, ends: &[u32]) -> boo
 }
 
 pub fn occupied_next(
-    occ: &[u16],
+    occ: &[u32],
     r: Round,
     h: Here,
     p: Place,
-    pool: &mut [u16],
+    pool: &mut [u32],
     begins: &mut [u32],
     ends: &mut [u32],
 ) -> Placed

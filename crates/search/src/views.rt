@@ -3,23 +3,15 @@ use disp_structs::EstIdx;
 use disp_structs::EstType;
 use disp_structs::LinkEvent;
 use disp_structs::TrainIdxsView;
+use free_path::columns;
 ghost use mathlib.Core.Path.{_≡_};
 ghost use mathlib.Core.List.{List};
 ghost use Prim.Native.Nat.{ℕ, _≤_};
-ghost use lib.ListN.{length, getD, set};
+ghost use lib.ListN.{length, set};
 ghost use Rattle.disp_structs.specs.Values.{isArrive, isFake, sameType, sameEvent};
 ghost use Rattle.disp_structs.specs.declared.EstType.the-variants.{Clear};
 ghost use Rattle.train_update.specs.State.{viewOf, blocked};
 ghost use Rattle.search.specs.Read.{viewsOf, onFlag};
-
-pub fn u32_of(col: &[u32], i: usize) -> u32
-    ensures { λ r. ⌜ r ≡ getD (now (col .entry)) i 0 ⌝ }
-{
-    if col.len() <= i {
-        return 0;
-    }
-    col[i]
-}
 
 // The view of an est, of n.
 pub fn view_at(begins: &[u32], ends: &[u32], n: usize, e: EstIdx) -> TrainIdxsView
@@ -33,8 +25,8 @@ pub fn view_at(begins: &[u32], ends: &[u32], n: usize, e: EstIdx) -> TrainIdxsVi
         };
     }
     TrainIdxsView {
-        idx_begin: u32_of(begins, i),
-        idx_end: u32_of(ends, i),
+        idx_begin: columns::u32_of(begins, i),
+        idx_end: columns::u32_of(ends, i),
     }
 }
 
@@ -46,7 +38,7 @@ pub fn is_blocked(ends: &[u32], n: usize, e: EstIdx) -> bool
     if n <= i {
         return false;
     }
-    u32_of(ends, i) != 0
+    columns::u32_of(ends, i) != 0
 }
 
 pub fn put_view(begins: &mut [u32], ends: &mut [u32], n: usize, e: EstIdx, v: TrainIdxsView)

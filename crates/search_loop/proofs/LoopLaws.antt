@@ -271,7 +271,7 @@ module _ (links : ℕ) (r : State.Round) (s₀ : State.Search) (b : Begins links
     pub going-on : (u : State.Search) → x ≡ ok (State.goOn u) → Going links r n₀ s₀ n u
     going-on u y = record {
       good = step-good links r (b .accepted) s u (g .good) (sym q ∙ y);
-      fits = step-fits (2 ^ 16) r (b .room) links (b .accepted) s u (g .good) (g .fits) (sym q ∙ y);
+      fits = step-fits (2 ^ 32) r (b .room) links (b .accepted) s u (g .good) (g .fits) (sym q ∙ y);
       same = sym (going-ends ∙ ap (endOf (searchFrom n r)) y);
     }
 

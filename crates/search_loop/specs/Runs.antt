@@ -59,9 +59,9 @@ pub record FollowsTurn (go : Move) (effect : Effect) (k : ℕ) (x : Next) : Type
 pub record Begins (links : ℕ) (r : State.Round) (s : State.Search) : Type 0 where
   pub few : links ≤ 4000
   pub accepted : Accepted links (r .train)
-  pub room : RoundFits (2 ^ 16) r
+  pub room : RoundFits (2 ^ 32) r
   pub good : Good links r s
-  pub fits : SearchFits (2 ^ 16) s
+  pub fits : SearchFits (2 ^ 32) s
 
 -- what the loop is lent: the flags of the path, arrays with room, an image that has its records, room for as many new nodes as there are est records; and some train of which it begins
 pub record Ready (img occ on dt dn : List ℕ) (r : Round) (start : Place) (fresh : List ℕ) (a : Arrays) (nt nn : List ℕ) : Type 0 where
@@ -81,7 +81,7 @@ pub record Ready (img occ on dt dn : List ℕ) (r : Round) (start : Place) (fres
 -- the search s as it is at the top of a turn, with n of n₀ turns left, when it began as s₀
 pub record Going (links : ℕ) (r : State.Round) (n₀ : ℕ) (s₀ : State.Search) (n : ℕ) (s : State.Search) : Type 0 where
   pub good : Good links r s
-  pub fits : SearchFits (2 ^ 16) s
+  pub fits : SearchFits (2 ^ 32) s
   pub same : searchFrom n r s ≡ searchFrom n₀ r s₀
 
 -- a search that had looked and left its move to do

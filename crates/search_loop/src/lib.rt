@@ -160,18 +160,18 @@ fn out_of_turns(curr: DispNode, p: Place) -> Searched
 // The search from start, its new path in the buffer fresh.
 pub fn run(
     img: &[u8],
-    occ: &[u16],
+    occ: &[u32],
     on: &[u8],
-    dt: &[u16],
-    dn: &[u16],
+    dt: &[u32],
+    dn: &[u32],
     r: Round,
     start: Place,
     fresh: &mut [u8],
-    pool: &mut [u16],
+    pool: &mut [u32],
     begins: &mut [u32],
     ends: &mut [u32],
-    nt: &mut [u16],
-    nn: &mut [u16],
+    nt: &mut [u32],
+    nn: &mut [u32],
 ) -> Searched
     requires { ⌜ Ready (now img) (now occ) (now on) (now dt) (now dn) r start (now fresh) (arrays (now pool) (now begins) (now ends)) (now nt) (now nn) ⌝ }
     ensures { λ x. ⌜ ((t : Train) → Begins (length (now (occ .entry))) (roundOf t (now (occ .entry)) (now (img .entry)) (now (dt .entry)) (now (dn .entry)) r) (searchIn (r .«est_count») start [] (divsOf (start .«div_count») (now (nt .entry)) (now (nn .entry))) (arrays (now (pool .entry)) (now (begins .entry)) (now (ends .entry)))) → Ran (length (now (occ .entry))) (roundOf t (now (occ .entry)) (now (img .entry)) (now (dt .entry)) (now (dn .entry)) r) (searchIn (r .«est_count») start [] (divsOf (start .«div_count») (now (nt .entry)) (now (nn .entry))) (arrays (now (pool .entry)) (now (begins .entry)) (now (ends .entry)))) (x .go) (x .effect) (hereOf (x .here)) (searchIn (r .«est_count») (x .place) (listed (x .«new_count») (nodeAt (now (fresh .exit)))) (divsOf (x .place .«div_count») (now (nt .exit)) (now (nn .exit))) (arrays (now (pool .exit)) (now (begins .exit)) (now (ends .exit))))) × Kept (now (fresh .exit)) (now (fresh .entry)) × (x .place .«pool_count» ≤ 2048) ⌝ }

@@ -236,12 +236,12 @@ fn alternate_free(join: usize, free: usize) -> usize
 
 // The k trains of the pool from b on go behind the count diverge nodes, at a node.
 fn store_divs(
-    pool: &[u16],
+    pool: &[u32],
     b: usize,
     k: usize,
     node: usize,
-    nt: &mut [u16],
-    nn: &mut [u16],
+    nt: &mut [u32],
+    nn: &mut [u32],
     count: usize,
 )
     requires { ⌜ (b + k ≤ length (now pool)) × (count + k ≤ length (now nt)) × (count + k ≤ length (now nn)) × (node < 65536) × (length (now pool) ≡ 2048) × (count + k < 65536) ⌝ }
@@ -250,20 +250,20 @@ fn store_divs(
     let mut j = 0;
     while j < k {
         nt[count + j] = pool[b + j];
-        nn[count + j] = node as u16;
+        nn[count + j] = node as u32;
         j += 1;
     }
 }
 
 // The trains of a view go to the new diverge nodes, at most room in all.
 fn push_divs(
-    pool: &[u16],
+    pool: &[u32],
     len: usize,
     v: TrainIdxsView,
     node: usize,
     room: usize,
-    nt: &mut [u16],
-    nn: &mut [u16],
+    nt: &mut [u32],
+    nn: &mut [u32],
     count: usize,
 ) -> Grown
     requires { ⌜ (length (now pool) ≡ 2048) × (len ≤ 2048) × (node < 65536) × (room ≤ 1024) × (count ≤ 1024) × (room ≤ length (now nt)) × (room ≤ length (now nn)) ⌝ }
@@ -292,11 +292,11 @@ pub(crate) fn alternate(
     r: Round,
     h: Here,
     p: Place,
-    pool: &[u16],
+    pool: &[u32],
     begins: &[u32],
     ends: &[u32],
-    nt: &mut [u16],
-    nn: &mut [u16],
+    nt: &mut [u32],
+    nn: &mut [u32],
 ) -> Moved
     requires { ⌜ Small p × Sized r × (h .«idx_join_new» ≤ p .«idx_split» + p .«new_count») × (length (now pool) ≡ 2048) × (r .«diverge_room» ≤ length (now nt)) × (r .«diverge_room» ≤ length (now nn)) ⌝ }
     ensures { λ x. ⌜ ((t : Train) (occ img dt dn : List ℕ) (new : List DispNode) → effectOf (roundOf t occ img dt dn r) (searchIn (r .«est_count») (x .place) new (divsOf (x .place .«div_count») (now (nt .exit)) (now (nn .exit))) (arrays (now (pool .entry)) (now (begins .entry)) (now (ends .entry)))) (x .effect) ≡ Moves.alternate (roundOf t occ img dt dn r) (hereOf h) (searchIn (r .«est_count») p new (divsOf (p .«div_count») (now (nt .entry)) (now (nn .entry))) (arrays (now (pool .entry)) (now (begins .entry)) (now (ends .entry))))) × Goes r p (x .place) ⌝ }

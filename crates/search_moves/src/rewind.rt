@@ -105,7 +105,7 @@ fn rewind_view(
     n: usize,
     begins: &[u32],
     ends: &[u32],
-    pool: &mut [u16],
+    pool: &mut [u32],
     len: usize,
 ) -> Union
     requires { ⌜ (length (now pool) ≡ 2048) × (len ≤ 2048) ⌝ }
@@ -126,12 +126,12 @@ fn rewind_view(
 // ---- the new diverge nodes
 
 // Those at the join go: how many are left.
-fn rewind_divs(nn: &[u16], count: usize, join: usize) -> Index
+fn rewind_divs(nn: &[u32], count: usize, join: usize) -> Index
     ensures { λ x. ⌜ ((nt : List ℕ) → answer (x .code) (divsOf (x .index) nt (now (nn .entry))) ≡ rewindDivs join (divsOf count nt (now (nn .entry)))) × (x .index ≤ count) ⌝ }
 {
     let mut k = count;
     while 0 < k {
-        let d = columns::u16_of(nn, k - 1) as usize;
+        let d = columns::u32_of(nn, k - 1) as usize;
         if d != join {
             return left_at(d, join, k);
         }
@@ -202,10 +202,10 @@ pub(crate) fn rewind(
     r: Round,
     h: Here,
     p: Place,
-    pool: &mut [u16],
+    pool: &mut [u32],
     begins: &mut [u32],
     ends: &mut [u32],
-    nn: &[u16],
+    nn: &[u32],
 ) -> Moved
     requires { ⌜ Small p × Sized r × Lent (r .«est_count») (arrays (now pool) (now begins) (now ends)) × (h .«idx_join_new» ≤ p .«idx_split» + p .«new_count») ⌝ }
     ensures { λ x. ⌜ ((t : Train) (occ dt dn nt : List ℕ) (new : List DispNode) → length new ≡ p .«new_count» → effectOf (roundOf t occ (now (img .entry)) dt dn r) (searchIn (r .«est_count») (x .place) new (divsOf (x .place .«div_count») nt (now (nn .entry))) (arrays (now (pool .exit)) (now (begins .exit)) (now (ends .exit)))) (x .effect) ≡ Moves.rewind (roundOf t occ (now (img .entry)) dt dn r) (hereOf h) (searchIn (r .«est_count») p new (divsOf (p .«div_count») nt (now (nn .entry))) (arrays (now (pool .entry)) (now (begins .entry)) (now (ends .entry))))) × Goes r p (x .place) ⌝ }

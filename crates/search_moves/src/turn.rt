@@ -54,11 +54,11 @@ fn do_move(
     r: Round,
     h: Here,
     p: Place,
-    pool: &mut [u16],
+    pool: &mut [u32],
     begins: &mut [u32],
     ends: &mut [u32],
-    nt: &mut [u16],
-    nn: &mut [u16],
+    nt: &mut [u32],
+    nn: &mut [u32],
 ) -> Moved
     requires { ⌜ (leaves go ≡ false) × Small p × Sized r × Lent (r .«est_count») (arrays (now pool) (now begins) (now ends)) × (h .«idx_join_new» ≤ p .«idx_split» + p .«new_count») × (r .«diverge_room» ≤ length (now nt)) × (r .«diverge_room» ≤ length (now nn)) ⌝ }
     ensures { λ x. ⌜ ((t : Train) (occ dt dn : List ℕ) (new : List DispNode) → length new ≡ p .«new_count» → effectOf (roundOf t occ (now (img .entry)) dt dn r) (searchIn (r .«est_count») (x .place) new (divsOf (x .place .«div_count») (now (nt .exit)) (now (nn .exit))) (arrays (now (pool .exit)) (now (begins .exit)) (now (ends .exit)))) (x .effect) ≡ doMove go (roundOf t occ (now (img .entry)) dt dn r) (hereOf h) (searchIn (r .«est_count») p new (divsOf (p .«div_count») (now (nt .entry)) (now (nn .entry))) (arrays (now (pool .entry)) (now (begins .entry)) (now (ends .entry))))) × Goes r p (x .place) ⌝ }
@@ -114,18 +114,18 @@ fn stopped(code: u32, h: Here, p: Place) -> Turned
 // A turn that stands at h, from there on.
 fn turn_from(
     img: &[u8],
-    occ: &[u16],
+    occ: &[u32],
     on: &[u8],
-    dt: &[u16],
-    dn: &[u16],
+    dt: &[u32],
+    dn: &[u32],
     r: Round,
     h: Here,
     p: Place,
-    pool: &mut [u16],
+    pool: &mut [u32],
     begins: &mut [u32],
     ends: &mut [u32],
-    nt: &mut [u16],
-    nn: &mut [u16],
+    nt: &mut [u32],
+    nn: &mut [u32],
 ) -> Turned
     requires { ⌜ Small p × Sized r × Lent (r .«est_count») (arrays (now pool) (now begins) (now ends)) × (r .«diverge_room» ≤ length (now nt)) × (r .«diverge_room» ≤ length (now nn)) × Marked (now on) (pathOf (now img) (r .«path_count»)) × (h .«idx_join_new» ≤ p .«idx_split» + p .«new_count») ⌝ }
     ensures { λ x. ⌜ ((t : Train) (new : List DispNode) → length new ≡ p .«new_count» → lookHere (roundOf t (now (occ .entry)) (now (img .entry)) (now (dt .entry)) (now (dn .entry)) r) (searchIn (r .«est_count») p new (divsOf (p .«div_count») (now (nt .entry)) (now (nn .entry))) (arrays (now (pool .entry)) (now (begins .entry)) (now (ends .entry)))) ≡ ok (hereOf h) → (turnOf (x .go) (x .effect) (roundOf t (now (occ .entry)) (now (img .entry)) (now (dt .entry)) (now (dn .entry)) r) (hereOf h) (searchIn (r .«est_count») (x .place) new (divsOf (x .place .«div_count») (now (nt .exit)) (now (nn .exit))) (arrays (now (pool .exit)) (now (begins .exit)) (now (ends .exit)))) ≡ searchStep (roundOf t (now (occ .entry)) (now (img .entry)) (now (dt .entry)) (now (dn .entry)) r) (searchIn (r .«est_count») p new (divsOf (p .«div_count») (now (nt .entry)) (now (nn .entry))) (arrays (now (pool .entry)) (now (begins .entry)) (now (ends .entry))))) × (leaves (x .go) ≡ true → Looked (roundOf t (now (occ .entry)) (now (img .entry)) (now (dt .entry)) (now (dn .entry)) r) (searchIn (r .«est_count») p new (divsOf (p .«div_count») (now (nt .entry)) (now (nn .entry))) (arrays (now (pool .entry)) (now (begins .entry)) (now (ends .entry)))) (hereOf h) (searchIn (r .«est_count») (x .place) new (divsOf (x .place .«div_count») (now (nt .exit)) (now (nn .exit))) (arrays (now (pool .exit)) (now (begins .exit)) (now (ends .exit)))))) × Goes r p (x .place) × (x .here ≡ h) ⌝ }
@@ -157,18 +157,18 @@ fn turn_from(
 // curr is the last node of the new path, or else the node before idx_split.
 pub fn turn(
     img: &[u8],
-    occ: &[u16],
+    occ: &[u32],
     on: &[u8],
-    dt: &[u16],
-    dn: &[u16],
+    dt: &[u32],
+    dn: &[u32],
     r: Round,
     p: Place,
     curr: DispNode,
-    pool: &mut [u16],
+    pool: &mut [u32],
     begins: &mut [u32],
     ends: &mut [u32],
-    nt: &mut [u16],
-    nn: &mut [u16],
+    nt: &mut [u32],
+    nn: &mut [u32],
 ) -> Turned
     requires { ⌜ Small p × Sized r × Lent (r .«est_count») (arrays (now pool) (now begins) (now ends)) × (r .«diverge_room» ≤ length (now nt)) × (r .«diverge_room» ≤ length (now nn)) × Marked (now on) (pathOf (now img) (r .«path_count»)) × (estPlace (r .«est_count») ≤ length (now img)) ⌝ }
     ensures { λ x. ⌜ ((t : Train) (new : List DispNode) → length new ≡ p .«new_count» → current (pathOf (now (img .entry)) (r .«path_count»)) new (p .«idx_split») ≡ ok curr → (turnOf (x .go) (x .effect) (roundOf t (now (occ .entry)) (now (img .entry)) (now (dt .entry)) (now (dn .entry)) r) (hereOf (x .here)) (searchIn (r .«est_count») (x .place) new (divsOf (x .place .«div_count») (now (nt .exit)) (now (nn .exit))) (arrays (now (pool .exit)) (now (begins .exit)) (now (ends .exit)))) ≡ searchStep (roundOf t (now (occ .entry)) (now (img .entry)) (now (dt .entry)) (now (dn .entry)) r) (searchIn (r .«est_count») p new (divsOf (p .«div_count») (now (nt .entry)) (now (nn .entry))) (arrays (now (pool .entry)) (now (begins .entry)) (now (ends .entry))))) × (leaves (x .go) ≡ true → Looked (roundOf t (now (occ .entry)) (now (img .entry)) (now (dt .entry)) (now (dn .entry)) r) (searchIn (r .«est_count») p new (divsOf (p .«div_count») (now (nt .entry)) (now (nn .entry))) (arrays (now (pool .entry)) (now (begins .entry)) (now (ends .entry)))) (hereOf (x .here)) (searchIn (r .«est_count») (x .place) new (divsOf (x .place .«div_count») (now (nt .exit)) (now (nn .exit))) (arrays (now (pool .exit)) (now (begins .exit)) (now (ends .exit)))))) × Goes r p (x .place) ⌝ }

@@ -20,7 +20,7 @@ use image::codec;
 use image::codec::PathHeader;
 
 // The asserts before the change (503-507).
-fn at_split(img: &[u8], n: u32, r: Reached, alt: EstIdx, dn: &[u16], m: usize) -> bool
+fn at_split(img: &[u8], n: u32, r: Reached, alt: EstIdx, dn: &[u32], m: usize) -> bool
     ensures { λ b. ⌜ b ≡ atSplit (now (img .entry)) n r alt (now (dn .entry)) m ⌝ }
 {
     if r.new_count != 0 {
@@ -42,12 +42,12 @@ fn at_split(img: &[u8], n: u32, r: Reached, alt: EstIdx, dn: &[u16], m: usize) -
     if m <= r.div_split {
         return false;
     }
-    let d = columns::u16_of(dn, r.div_split) as u32;
+    let d = columns::u32_of(dn, r.div_split);
     r.split == d
 }
 
 // Where the old diverge nodes of the split node end, after the asserts.
-fn base_end(img: &[u8], n: u32, r: Reached, alt: EstIdx, dn: &[u16], m: usize) -> Found
+fn base_end(img: &[u8], n: u32, r: Reached, alt: EstIdx, dn: &[u32], m: usize) -> Found
     requires { ⌜ r .«div_split» < m ⌝ }
     ensures { λ x. ⌜ ((ts : List ℕ) → answer (x .code) (x .at) ≡ baseEnd (now (img .entry)) n r alt ts (now (dn .entry)) m) ⌝ }
 {
@@ -84,12 +84,12 @@ fn change_at(
     h: PathHeader,
     r: Reached,
     v: TrainIdxsView,
-    pool: &[u16],
+    pool: &[u32],
     count: usize,
-    dt: &mut [u16],
-    dn: &mut [u16],
-    nt: &mut [u16],
-    nn: &mut [u16],
+    dt: &mut [u32],
+    dn: &mut [u32],
+    nt: &mut [u32],
+    nn: &mut [u32],
     k: usize,
 ) -> Again
     requires { ⌜ ChangeFits (now img) (now dt) (now dn) (now nt) (now nn) (now pool) count h r × (r .«div_split» < k) × (k < h .«diverge_count») ⌝ }
@@ -110,7 +110,7 @@ fn change_at(
         return crate::stopped(11, h);
     }
     copies::copy_entries(pool, b, nt, 1, e - b);
-    diverge::fill_entries(nn, 1, e - b, r.split as u16);
+    diverge::fill_entries(nn, 1, e - b, r.split);
     diverge::splice_divs(dt, dn, nt, nn, e - b, r.div_split, k, m);
     changed(h, total as u32, r.split, r.div_split + (e - b))
 }
@@ -122,12 +122,12 @@ pub fn change_diverge(
     r: Reached,
     alt: EstIdx,
     v: TrainIdxsView,
-    pool: &[u16],
+    pool: &[u32],
     count: usize,
-    dt: &mut [u16],
-    dn: &mut [u16],
-    nt: &mut [u16],
-    nn: &mut [u16],
+    dt: &mut [u32],
+    dn: &mut [u32],
+    nt: &mut [u32],
+    nn: &mut [u32],
 ) -> Again
     requires { ⌜ ChangeFits (now img) (now dt) (now dn) (now nt) (now nn) (now pool) count h r ⌝ }
     ensures { λ a. ⌜ ((R : Round) (H : Here) (S : Search) → Stands (now (img .entry)) (now (dt .entry)) (now (dn .entry)) h r (H .«est_curr») R H S → Changes (now (pool .entry)) count alt v r H S → answer (a .code) (ends (again (trainOf (now (img .entry)) (now (dt .exit)) (now (dn .exit)) (a .header)) (a .split) (a .«div_split»))) ≡ changeDiverge R H S) × (a .moves ≡ 0) ⌝ }

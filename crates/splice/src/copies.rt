@@ -15,7 +15,7 @@ pub(crate) fn copy_octets(from: &[u8], a: usize, to: &mut [u8], b: usize, k: usi
     }
 }
 
-pub(crate) fn copy_entries(from: &[u16], a: usize, to: &mut [u16], b: usize, k: usize)
+pub(crate) fn copy_entries(from: &[u32], a: usize, to: &mut [u32], b: usize, k: usize)
     requires { ⌜ (a + k ≤ length (now from)) × (b + k ≤ length (now to)) ⌝ }
     ensures { λ _. ⌜ now (to .exit) ≡ paste (now (to .entry)) b (drop a (now (from .entry))) k ⌝ }
 {

@@ -21,12 +21,12 @@ pub struct Found {
 }
 
 // From i on the first of m entries above x.
-pub fn walk_above(dn: &[u16], m: usize, i: usize, x: u32) -> Found
+pub fn walk_above(dn: &[u32], m: usize, i: usize, x: u32) -> Found
     ensures { λ r. ⌜ ((ts : List ℕ) → answer (r .code) (r .at) ≡ walkFrom (λ d. ltb x (d .«disp_node_idx»)) (listed m (divAt ts (now (dn .entry)))) i) ⌝ }
 {
     let mut k = i;
     while k < m {
-        let d = columns::u16_of(dn, k) as u32;
+        let d = columns::u32_of(dn, k);
         if x < d {
             return Found { code: 0, at: k };
         }
@@ -36,12 +36,12 @@ pub fn walk_above(dn: &[u16], m: usize, i: usize, x: u32) -> Found
 }
 
 // From i on the first of m entries that is not x.
-pub fn walk_past(dn: &[u16], m: usize, i: usize, x: u32) -> Found
+pub fn walk_past(dn: &[u32], m: usize, i: usize, x: u32) -> Found
     ensures { λ r. ⌜ ((ts : List ℕ) → answer (r .code) (r .at) ≡ walkFrom (λ d. not (eqb (d .«disp_node_idx») x)) (listed m (divAt ts (now (dn .entry)))) i) ⌝ }
 {
     let mut k = i;
     while k < m {
-        let d = columns::u16_of(dn, k) as u32;
+        let d = columns::u32_of(dn, k);
         if d != x {
             return Found { code: 0, at: k };
         }
@@ -51,7 +51,7 @@ pub fn walk_past(dn: &[u16], m: usize, i: usize, x: u32) -> Found
 }
 
 // A store past the end is none.
-fn put_entry(col: &mut [u16], i: usize, x: u16)
+fn put_entry(col: &mut [u32], i: usize, x: u32)
     ensures { λ _. ⌜ now (col .exit) ≡ set (now (col .entry)) i x ⌝ }
 {
     if i < col.len() {
@@ -60,7 +60,7 @@ fn put_entry(col: &mut [u16], i: usize, x: u16)
 }
 
 // k entries from a on become x.
-pub(crate) fn fill_entries(col: &mut [u16], a: usize, k: usize, x: u16)
+pub(crate) fn fill_entries(col: &mut [u32], a: usize, k: usize, x: u32)
     requires { ⌜ a + k ≤ length (now col) ⌝ }
     ensures { λ _. ⌜ now (col .exit) ≡ filled k x a (now (col .entry)) ⌝ }
 {
@@ -72,24 +72,24 @@ pub(crate) fn fill_entries(col: &mut [u16], a: usize, k: usize, x: u16)
 }
 
 // Diverge nodes from k on move with their nodes.
-fn shift_divs(dn: &mut [u16], k: usize, m: usize, join: u32, base: u32) -> u32
+fn shift_divs(dn: &mut [u32], k: usize, m: usize, join: u32, base: u32) -> u32
     requires { ⌜ ((i : ℕ) → i < m → getD (now dn) i 0 + join < 2 ^ 16) ⌝ }
     ensures { λ r. ⌜ ((ts : List ℕ) → m ≤ length (now (dn .entry)) → answer r (listed m (divAt ts (now (dn .exit)))) ≡ fromOn (shiftDivs join base) k (listed m (divAt ts (now (dn .entry))))) ⌝ }
 {
     let mut i = k;
     while i < m {
-        let x = columns::u16_of(dn, i) as u32 + join;
+        let x = columns::u32_of(dn, i) + join;
         if x < base {
             return 13;
         }
-        put_entry(dn, i, (x - base) as u16);
+        put_entry(dn, i, x - base);
         i += 1;
     }
     0
 }
 
 // The entries from k up to m of a column go behind the c new ones, and all of them to the column at `at`.
-fn splice_column(col: &mut [u16], fresh: &mut [u16], c: usize, at: usize, k: usize, m: usize)
+fn splice_column(col: &mut [u32], fresh: &mut [u32], c: usize, at: usize, k: usize, m: usize)
     requires { ⌜ (k ≤ m) × (m ≤ length (now col)) × (at + c + (m - k) ≤ length (now col)) × (1 + c + (m - k) ≤ length (now fresh)) ⌝ }
     ensures { λ _. ⌜ Splices (λ i. getD (now (col .exit)) i 0) (λ i. getD (now (col .entry)) i 0) (λ i. getD (now (fresh .entry)) (1 + i) 0) at c k m ⌝ }
 {
@@ -99,10 +99,10 @@ fn splice_column(col: &mut [u16], fresh: &mut [u16], c: usize, at: usize, k: usi
 
 // div_nodes.splice(at..k, the c new ones)
 pub(crate) fn splice_divs(
-    dt: &mut [u16],
-    dn: &mut [u16],
-    nt: &mut [u16],
-    nn: &mut [u16],
+    dt: &mut [u32],
+    dn: &mut [u32],
+    nt: &mut [u32],
+    nn: &mut [u32],
     c: usize,
     at: usize,
     k: usize,
@@ -116,7 +116,7 @@ pub(crate) fn splice_divs(
 }
 
 // Diverge nodes from k on move with their nodes, if those move.
-fn move_divs(dn: &mut [u16], k: usize, m: usize, join: u32, base: u32) -> u32
+fn move_divs(dn: &mut [u32], k: usize, m: usize, join: u32, base: u32) -> u32
     requires { ⌜ ((i : ℕ) → i < m → getD (now dn) i 0 + join < 2 ^ 16) ⌝ }
     ensures { λ r. ⌜ ((ts : List ℕ) → m ≤ length (now (dn .entry)) → answer r (listed m (divAt ts (now (dn .exit)))) ≡ fromOn (λ ds. cond (eqb base join) (ok ds) (shiftDivs join base ds)) k (listed m (divAt ts (now (dn .entry))))) ⌝ }
 {
@@ -135,11 +135,11 @@ pub struct Divs {
 
 // update_div_nodes with c new diverge nodes, the sentinel included.
 pub(crate) fn update_div_nodes(
-    dt: &mut [u16],
-    dn: &mut [u16],
+    dt: &mut [u32],
+    dn: &mut [u32],
     m: usize,
-    nt: &mut [u16],
-    nn: &mut [u16],
+    nt: &mut [u32],
+    nn: &mut [u32],
     c: usize,
     room: usize,
     split: usize,

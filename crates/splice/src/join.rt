@@ -112,10 +112,10 @@ fn divs_at(
     h: PathHeader,
     r: Reached,
     base: u32,
-    dt: &mut [u16],
-    dn: &mut [u16],
-    nt: &mut [u16],
-    nn: &mut [u16],
+    dt: &mut [u32],
+    dn: &mut [u32],
+    nt: &mut [u32],
+    nn: &mut [u32],
 ) -> Divs
     requires { ⌜ DivsFit (now dt) (now dn) (now nt) (now nn) (h .«diverge_count») (r .«div_count») (divergeRoom (now img)) (r .«div_split») (r .join) ⌝ }
     ensures { λ d. ⌜ (answer (d .code) (record { «div_nodes» = listed (d .count) (divAt (now (dt .exit)) (now (dn .exit))); «div_idx_split» = d .split }) ≡ updateDivNodes (divergeRoom (now (img .entry))) (listed (h .«diverge_count») (divAt (now (dt .entry)) (now (dn .entry)))) (listed (r .«div_count») (divAt (now (nt .entry)) (now (nn .entry)))) (r .«div_split») base (r .join)) × (d .count ≤ divergeRoom (now (img .entry))) ⌝ }
@@ -181,10 +181,10 @@ fn splice_at(
     curr: DispNode,
     est: EstTime,
     base: u32,
-    dt: &mut [u16],
-    dn: &mut [u16],
-    nt: &mut [u16],
-    nn: &mut [u16],
+    dt: &mut [u32],
+    dn: &mut [u32],
+    nt: &mut [u32],
+    nn: &mut [u32],
 ) -> Again
     requires { ⌜ JoinFits (now img) (now fresh) (now dt) (now dn) (now nt) (now nn) h r (est .«idx_next») × (walkFrom (λ x. sameEst (est .«idx_next») (x .«est_idx»)) (listed (h .«path_count») (nodeAt (now img))) (r .«split_save») ≡ ok base) ⌝ }
     ensures { λ a. ⌜ ((R : Round) (H : Here) (S : Search) → Stands (now (img .entry)) (now (dt .entry)) (now (dn .entry)) h r est R H S → Joins (now (fresh .entry)) (now (nt .entry)) (now (nn .entry)) r curr H S → answer (a .code) (ends (again (trainOf (now (img .exit)) (now (dt .exit)) (now (dn .exit)) (a .header)) (a .split) (a .«div_split»))) ≡ spliceAt R H S base) × (a .code ≡ 0 → Kept (now (img .exit)) (now (img .entry))) × (a .moves ≡ movesOf (a .code) (r .split + r .«new_count») (h .«path_count») (ok base)) ⌝ }
@@ -217,10 +217,10 @@ pub fn join(
     r: Reached,
     curr: DispNode,
     est: EstTime,
-    dt: &mut [u16],
-    dn: &mut [u16],
-    nt: &mut [u16],
-    nn: &mut [u16],
+    dt: &mut [u32],
+    dn: &mut [u32],
+    nt: &mut [u32],
+    nn: &mut [u32],
 ) -> Again
     requires { ⌜ JoinFits (now img) (now fresh) (now dt) (now dn) (now nt) (now nn) h r (est .«idx_next») ⌝ }
     ensures { λ a. ⌜ ((R : Round) (H : Here) (S : Search) → Stands (now (img .entry)) (now (dt .entry)) (now (dn .entry)) h r est R H S → Joins (now (fresh .entry)) (now (nt .entry)) (now (nn .entry)) r curr H S → answer (a .code) (ends (again (trainOf (now (img .exit)) (now (dt .exit)) (now (dn .exit)) (a .header)) (a .split) (a .«div_split»))) ≡ Rattle.train_update.specs.Join.join R H S) × (a .code ≡ 0 → Kept (now (img .exit)) (now (img .entry))) × (a .moves ≡ movesOf (a .code) (r .split + r .«new_count») (h .«path_count») (walkFrom (λ x. sameEst (est .«idx_next») (x .«est_idx»)) (listed (h .«path_count») (nodeAt (now (img .entry)))) (r .«split_save»))) ⌝ }

@@ -17,14 +17,14 @@ use disp_structs::Seconds;
 use disp_structs::floats;
 use image::codec;
 use image_fault::Fault;
-use link_rules::link_idx::TrainIdx;
+use link_rules::link_idx::NarrowTrainIdx;
 use link_rules::octets;
 use link_rules::refusal::Answer;
 use link_rules::refusal::Refusal;
 
 // What a layout is told besides the est records: the train, the two distance settings, and document 01's Q and L.
 pub struct Order {
-    pub train_idx: TrainIdx,
+    pub train_idx: NarrowTrainIdx,
     pub dist_disp_path_search: Metres,
     pub dist_fixed_max: Metres,
     pub diverge_room: u32,

@@ -70,8 +70,8 @@ pub start-train : (img dt dn : List ℕ) (moved : TrainIdx) → listed (divergeC
 unfolding trainOf decoded pathHeader
 start-train img dt dn moved h = rw h
 
-pub start-fits : (img : List ℕ) (moved : TrainIdx) → Fits 65536 (decoded img) → moved .0 < 65536 → Fits 65536 (withDivNodes (decoded img) (adjustSentinel moved (decoded img .«div_nodes»)))
-start-fits img moved f h = record { ests = f .ests; nodes = f .nodes; divs = adjusted-fits 65536 moved (decoded img .«div_nodes») h (f .divs); train = f .train; search = f .search; fixedMax = f .fixedMax }
+pub start-fits : (top : ℕ) (img : List ℕ) (moved : TrainIdx) → Fits top (decoded img) → moved .0 < top → Fits top (withDivNodes (decoded img) (adjustSentinel moved (decoded img .«div_nodes»)))
+start-fits top img moved f h = record { ests = f .ests; nodes = f .nodes; divs = adjusted-fits top moved (decoded img .«div_nodes») h (f .divs); train = f .train; search = f .search; fixedMax = f .fixedMax }
 
 -- ---- the bytes of an accepted image
 

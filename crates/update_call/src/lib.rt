@@ -55,11 +55,10 @@ fn order_fault(moved: TrainIdx, limit: u16) -> Fault
     }
 }
 
-// 2 occupancy length; 4 blocking links; 5 moved train or limit 0.
-pub fn call_fault(occ: &[u16], blocking: &[u32], moved: TrainIdx, limit: u16) -> Fault
-    ensures { λ r. ⌜ r ≡ callFault (now (occ .entry)) (now (blocking .entry)) (moved .0) limit ⌝ }
+// 2 occupancy length; 4 blocking links; 5 moved train or limit 0. Of the occupancy only the length is asked.
+pub fn call_fault(l: usize, blocking: &[u32], moved: TrainIdx, limit: u16) -> Fault
+    ensures { λ r. ⌜ ((occ : List ℕ) → length occ ≡ l → r ≡ callFault occ (now (blocking .entry)) (moved .0) limit) ⌝ }
 {
-    let l = occ.len();
     if l < 2 {
         return Fault {
             number: 2,
@@ -88,20 +87,14 @@ pub fn call_fault(occ: &[u16], blocking: &[u32], moved: TrainIdx, limit: u16) ->
 }
 
 // Those of the call, else those of the image.
-pub fn update_fault(
-    image: &[u8],
-    occ: &[u16],
-    blocking: &[u32],
-    moved: TrainIdx,
-    limit: u16,
-) -> Fault
-    ensures { λ r. ⌜ r ≡ updateFault (now (image .entry)) (now (occ .entry)) (now (blocking .entry)) (moved .0) limit ⌝ }
+pub fn update_fault(image: &[u8], l: usize, blocking: &[u32], moved: TrainIdx, limit: u16) -> Fault
+    ensures { λ r. ⌜ ((occ : List ℕ) → length occ ≡ l → r ≡ updateFault (now (image .entry)) occ (now (blocking .entry)) (moved .0) limit) ⌝ }
 {
-    let f = call_fault(occ, blocking, moved, limit);
+    let f = call_fault(l, blocking, moved, limit);
     if f.number != 0 {
         return f;
     }
-    image_fault::image_fault(image, occ.len() as u32)
+    image_fault::image_fault(image, l as u32)
 }
 
 // ---- what the first round finds
@@ -118,7 +111,7 @@ pub fn copy_image(image: &[u8], scratch: &mut [u8])
 }
 
 // The first m diverge nodes of the image, into two columns.
-pub fn take_diverges(img: &[u8], m: usize, dt: &mut [u16], dn: &mut [u16])
+pub fn take_diverges(img: &[u8], m: usize, dt: &mut [u32], dn: &mut [u32])
     requires { ⌜ (m ≤ length (now dt)) × (m ≤ length (now dn)) × (m < 2 ^ 32) ⌝ }
     ensures { λ _. ⌜ listed m (divAt (now (dt .exit)) (now (dn .exit))) ≡ listed m (divergeAt (now (img .entry))) ⌝ }
 {
@@ -132,7 +125,7 @@ pub fn take_diverges(img: &[u8], m: usize, dt: &mut [u16], dn: &mut [u16])
 }
 
 // The last of m diverge nodes takes the moved train (275).
-pub fn adjust_sentinel(dt: &mut [u16], m: usize, moved: TrainIdx)
+pub fn adjust_sentinel(dt: &mut [u32], m: usize, moved: TrainIdx)
     requires { ⌜ (1 ≤ m) × (m ≤ length (now dt)) ⌝ }
     ensures { λ _. ⌜ ((ns : List ℕ) → listed m (divAt (now (dt .exit)) ns) ≡ adjustSentinel moved (listed m (divAt (now (dt .entry)) ns))) ⌝ }
 {

@@ -1,5 +1,5 @@
 -- The public call: its refusals before the first round, and the copy on which it runs. Assumes nothing.
-use mathlib.Core.Path.{_≡_, refl, sym, ap, _∙_}
+use mathlib.Core.Path.{_≡_, refl, sym, ap, subst, _∙_}
 use mathlib.Core.List.{List}
 use Prim.Native.Nat.{ℕ, zero, suc, _≤_, _<_}
 use native.Mathlib.Omega.{arith}
@@ -19,7 +19,7 @@ use Rattle.update_image.specs.UpdateImage.{UpdatedImage, callFault, linkIdxs, u
 use Rattle.update_call.proofs.CallLaws.{call-links}
 use Rattle.splice.specs.Read.{Kept}
 use Rattle.splice.proofs.NodeLaws.{kept-count, kept-le}
-use Rattle.update_free_path.specs.Updates.{Begins, updateOf}
+use Rattle.update_free_path.specs.Updates.{Begins, updateOf, Judged}
 use Rattle.update_free_path.specs.declared.start.Order.{Order}
 
 -- what a store asks of the image and the copy
@@ -42,6 +42,9 @@ module _ (img occ blocking : List ℕ) (o : Order) (f : Fault) (e : f ≡ update
       go zero place q = absurd (q refl)
       go (suc n) place q = refl
 
+  pub judged-refused : (f .number ≡ 0 → ⊥) → Judged f img occ blocking o
+  judged-refused q = record { refused = refused-before; begins = λ z. absurd (q z); goes = λ z. absurd (q z) }
+
   module _ (q : f .number ≡ 0) where
     pub not-refused : storedAnswer (updateOf img occ blocking o) img ≡ whole
     not-refused = ap (λ (n : ℕ). answerBy n (f .place) (updateOf img occ blocking o) img) (sym q) ∙ by-fault
@@ -61,3 +64,9 @@ module _ (img occ blocking : List ℕ) (o : Order) (f : Fault) (e : f ≡ update
 
       pub begins : h .free < h .«path_count» → Begins img occ h
       begins l = record { fault = clean .1; few = call-links occ blocking (o .moved .0) (o .limit) (clean .0) .1; header = r; free = l }
+
+      pub judged-ten : h .«path_count» ≤ h .free → Judged (record { number = 10; place = 0 }) img occ blocking o
+      judged-ten l = record { refused = λ _. refused-ten l; begins = λ z. absurd (omega (arith, z)); goes = λ z. absurd (omega (arith, z)) }
+
+      pub judged-fine : h .free < h .«path_count» → Judged f img occ blocking o
+      judged-fine l = record { refused = refused-before; begins = λ _. subst (Begins img occ) r (begins l); goes = λ _. not-refused }

@@ -194,8 +194,8 @@ module _ (occ img col on dt dn flags : List ℕ) (g : Given) (w : Between) (t : 
       pub next-accepted : Accepted (length occ) train′
       next-accepted = good .0 .accepted
 
-      next-fits : Fits (2 ^ 16) train′
-      next-fits = round-fits (length occ) (2 ^ 16) (given [] []) train (w .split) (w .«div_split») (again train′ (x .split) (x .«div_split»)) (t .held .accepted) (t .held .fits) (t .held .trains) (t .split-low) (t .div-low) (goes [] [])
+      next-fits : Fits (2 ^ 32) train′
+      next-fits = round-fits (length occ) (2 ^ 32) (given [] []) train (w .split) (w .«div_split») (again train′ (x .split) (x .«div_split»)) (t .held .accepted) (t .held .fits) (t .held .trains) (t .split-low) (t .div-low) (goes [] [])
 
       -- the next round finds what this one found
       pub next-top : Kept img′ img → (col′ on′ : List ℕ) → listed (x .header .«path_count») (linkAt col′) ≡ linkIdxPath (pathOf img′ (x .header .«path_count»)) → Marked on′ (pathOf img′ (x .header .«path_count»))

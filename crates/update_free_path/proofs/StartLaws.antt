@@ -1,7 +1,7 @@
 -- The first round of an update: its train is accepted, and the loop from there is the update of the image's train. Assumes nothing.
 use mathlib.Core.Path.{_≡_, refl, sym, ap, ap₂, subst, _∙_}
 use mathlib.Core.List.{List}
-use Prim.Native.Nat.{ℕ, _-_, _≤_, _<_}
+use Prim.Native.Nat.{ℕ, _-_, _^_, _≤_, _<_}
 use native.Mathlib.Omega.{arith}
 use lib.ListN.{length, getD, drop, replicate}
 use Rattle.link_rules.specs.declared.link_idx.LinkIdx.{LinkIdx}
@@ -27,7 +27,7 @@ use Rattle.train_update.specs.Accepted.{Accepted}
 use Rattle.train_update.specs.Fits.{Fits}
 use Rattle.update_laws.proofs.Updates.{top-start}
 use Rattle.update_image.specs.UpdateImage.{linkIdxs}
-use Rattle.update_image.proofs.BytesAccepted.{bytes-accepted}
+use Rattle.update_image.proofs.BytesAccepted.{bytes-accepted, fits-wider}
 use Rattle.update_call.proofs.StartLaws.{start-train, start-fits, accepted-size}
 use Rattle.update_call.proofs.RefusalLaws.{refused-number}
 use Rattle.round_start.specs.Start.{Linked}
@@ -51,12 +51,12 @@ status-ran Stops.Blocked f tally was t = refl
 status-ran Stops.Ended (ok n) tally was t = refl
 status-ran Stops.Ended (no n) tally was t = refl
 
-module _ (img occ : List ℕ) (h : PathHeader) (b : Begins img occ h) (bytes : Bytes img) (held : (i : ℕ) → getD occ i 0 < 65536) where
+module _ (img occ : List ℕ) (h : PathHeader) (b : Begins img occ h) (bytes : Bytes img) (held : (i : ℕ) → getD occ i 0 < 2 ^ 32) where
   good : Accepted (length occ) (decoded img)
   good = bytes-accepted img (length occ) bytes (b .fault) .0
 
-  fitting : Fits 65536 (decoded img)
-  fitting = bytes-accepted img (length occ) bytes (b .fault) .1
+  fitting : Fits (2 ^ 32) (decoded img)
+  fitting = fits-wider 65536 (2 ^ 32) (omega arith) (decoded img) (bytes-accepted img (length occ) bytes (b .fault) .1)
 
   pub begin-size : (1 ≤ h .«diverge_count») × (h .«diverge_count» ≤ divergeRoom img)
   unfolding pathHeader
@@ -84,7 +84,7 @@ module _ (img occ : List ℕ) (h : PathHeader) (b : Begins img occ h) (bytes : B
   node-is : ok (nodeAt img (h .free)) ≡ at (decoded img .«disp_path») (decoded img .«disp_node_idx_free»)
   node-is = sym (listed-read (h .«path_count») (nodeAt img) (h .free) (b .free)) ∙ ap₂ (λ (xs : List DispNode) (i : ℕ). at xs i) path-is free-is
 
-  module _ (o : Order) (small : o .moved .0 < 65536) (dt dn : List ℕ) (q : listed (h .«diverge_count») (divAt dt dn) ≡ Update.adjustSentinel (o .moved) (listed (h .«diverge_count») (divergeAt img))) where
+  module _ (o : Order) (small : o .moved .0 < 2 ^ 32) (dt dn : List ℕ) (q : listed (h .«diverge_count») (divAt dt dn) ≡ Update.adjustSentinel (o .moved) (listed (h .«diverge_count») (divergeAt img))) where
     begin-train : trainOf img dt dn h ≡ withDivNodes (decoded img) (Update.adjustSentinel (o .moved) (decoded img .«div_nodes»))
     unfolding pathHeader
     begin-train =
@@ -104,7 +104,7 @@ module _ (img occ : List ℕ) (h : PathHeader) (b : Begins img occ h) (bytes : B
             held = record {
               links = b .few;
               accepted = begin-accepted;
-              fits = subst (λ (y : Train). Fits 65536 y) (sym begin-train) (start-fits img (o .moved) fitting small);
+              fits = subst (λ (y : Train). Fits (2 ^ 32) y) (sym begin-train) (start-fits (2 ^ 32) img (o .moved) fitting small);
               trains = λ i. held (i .0);
               size = accepted-size img (length occ) (b .fault) bytes .0;
               marked = m;

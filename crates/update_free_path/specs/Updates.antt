@@ -12,13 +12,14 @@ use Rattle.disp_structs.specs.Values.{minus}
 use Rattle.image.specs.Image.{estCount, divergeRoom, nodeAt, distFixedMax, pathHeader}
 use Rattle.image.specs.Codec.{decoded}
 use Rattle.image_fault.specs.ImageFault.{imageFault}
+use Rattle.image_fault.specs.declared.Fault.{Fault}
 use Rattle.image.specs.declared.codec.PathHeader.{PathHeader}
 use Rattle.free_path.specs.Base.{Res, ok, no}
 use Rattle.free_path.specs.Columns.{link, links, linkAt, flagged}
 use Rattle.free_path.specs.LinkOptType.{contains, linkIdxPath, linkOptType}
 use Rattle.free_path.specs.Validate.{known, validateFreePath}
 use Rattle.train_update.specs.Update as Update
-use Rattle.update_image.specs.UpdateImage.{UpdatedImage, linkIdxs}
+use Rattle.update_image.specs.UpdateImage.{UpdatedImage, linkIdxs, updatedImage, storedAnswer, refusedAnswer}
 use Rattle.validate.specs.Paths.{estsOf}
 use Rattle.search.specs.Read.{pathOf}
 use Rattle.splice.specs.Read.{trainOf, Kept}
@@ -204,6 +205,12 @@ pub record Space (img occ col on flags known dt dn : List ℕ) : Type 0 where
 -- the update of the train of an image
 abbrev pub updateOf : List ℕ → List ℕ → List ℕ → Order → Update.Updated
 updateOf img occ blocking o = Update.updateFreePath occ (linkIdxs blocking) (o .moved) (o .local) (o .limit) (decoded img)
+
+-- what is asked before the first round: refused as the update is, else an update that begins
+pub record Judged (f : Fault) (img occ blocking : List ℕ) (o : Order) : Type 0 where
+  pub refused : (f .number ≡ 0 → ⊥) → refusedAnswer (f .number) (f .place) img ≡ updatedImage img occ blocking (o .moved .0) (o .local) (o .limit)
+  pub begins : f .number ≡ 0 → Begins img occ (pathHeader img)
+  pub goes : f .number ≡ 0 → storedAnswer (updateOf img occ blocking o) img ≡ updatedImage img occ blocking (o .moved .0) (o .local) (o .limit)
 
 -- its rounds have ended with x
 pub record Finished (img₀ occ blocking : List ℕ) (o : Order) (img dt dn : List ℕ) (x : Ran) : Type 0 where

@@ -65,7 +65,7 @@ fn judged(e: Errors) -> Status
     Status::Faulty(e.count)
 }
 
-fn status_by(img: &[u8], occ: &[u16], stop: Stop, h: PathHeader) -> Status
+fn status_by(img: &[u8], occ: &[u32], stop: Stop, h: PathHeader) -> Status
     requires { ⌜ Named stop (errorsOf (now img) (now occ) h) ⌝ }
     ensures { λ r. ⌜ statusOf r ≡ statusBy stop (errorsOf (now (img .entry)) (now (occ .entry)) h) ⌝ }
 {
@@ -100,7 +100,7 @@ fn faults_in(s: Status) -> u64
 }
 
 // The train goes to the image unless the update is refused.
-fn leave(image: &mut [u8], img: &[u8], s: Status, h: PathHeader, dt: &[u16], dn: &[u16])
+fn leave(image: &mut [u8], img: &[u8], s: Status, h: PathHeader, dt: &[u32], dn: &[u32])
     requires { ⌜ (isRefusal s ≡ false → (estCount (now image) ≡ estCount (now img)) × (divergeRoom (now image) ≡ divergeRoom (now img))) ⌝ }
     ensures { λ _. ⌜ now (image .exit) ≡ leftImage (statusOf s) (trainOf (now (img .entry)) (now (dt .entry)) (now (dn .entry)) h) (now (image .entry)) ⌝ }
 {
@@ -114,10 +114,10 @@ fn leave(image: &mut [u8], img: &[u8], s: Status, h: PathHeader, dt: &[u16], dn:
 pub(crate) fn answered(
     image: &mut [u8],
     img: &[u8],
-    occ: &[u16],
+    occ: &[u32],
     r: Ran,
-    dt: &[u16],
-    dn: &[u16],
+    dt: &[u32],
+    dn: &[u32],
 ) -> Updated
     requires { ⌜ Named (r .stop) (errorsOf (now img) (now occ) (r .header)) × (r .tally .faults ≡ 0) × (isRefused (r .stop) ≡ false → (estCount (now image) ≡ estCount (now img)) × (divergeRoom (now image) ≡ divergeRoom (now img))) ⌝ }
     ensures { λ x. ⌜ ((was : Train) → updatedOf x (now (image .exit)) ≡ storedAnswer (ranBy (r .stop) (errorsOf (now (img .entry)) (now (occ .entry)) (r .header)) (r .tally) was (trainOf (now (img .entry)) (now (dt .entry)) (now (dn .entry)) (r .header))) (now (image .entry))) ⌝ }

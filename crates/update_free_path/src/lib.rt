@@ -5,23 +5,27 @@ pub mod rounds;
 pub mod start;
 
 use answer::Updated;
+use free_path::columns;
 use image::codec;
 use image::codec::PathHeader;
+use image_fault::Fault;
+use link_rules::link_idx::NarrowTrainIdx;
 use link_rules::link_idx::TrainIdx;
 use start::Order;
 use update_call;
 ghost use mathlib.Core.Path.{_≡_};
-ghost use Prim.Native.Nat.{_≤_};
+ghost use mathlib.Core.List.{List};
+ghost use Prim.Native.Nat.{ℕ, _≤_};
 ghost use lib.ListN.{length};
-ghost use Rattle.image.specs.Image.{estCount, divergeRoom};
+ghost use Rattle.image.specs.Image.{estCount, divergeRoom, pathHeader};
 ghost use Rattle.update_image.specs.UpdateImage.{storedAnswer, updatedImage};
-ghost use Rattle.update_free_path.specs.Updates.{updatedOf, updateOf, Begins, Space};
+ghost use Rattle.update_free_path.specs.Updates.{updatedOf, updateOf, Begins, Space, Judged};
 
 // The update runs on a copy of the image; only one that is not refused changes the image.
 fn update_in(
     image: &mut [u8],
     scratch: &mut [u8],
-    occ: &[u16],
+    occ: &[u32],
     blocking: &[u32],
     o: Order,
     h: PathHeader,
@@ -29,8 +33,8 @@ fn update_in(
     on: &mut [u8],
     flags: &mut [u8],
     known: &mut [u8],
-    dt: &mut [u16],
-    dn: &mut [u16],
+    dt: &mut [u32],
+    dn: &mut [u32],
 ) -> Updated
     requires { ⌜ Begins (now image) (now occ) h × (length (now scratch) ≡ length (now image)) × Space (now image) (now occ) (now col) (now on) (now flags) (now known) (now dt) (now dn) ⌝ }
     ensures { λ x. ⌜ updatedOf x (now (image .exit)) ≡ storedAnswer (updateOf (now (image .entry)) (now (occ .entry)) (now (blocking .entry)) o) (now (image .entry)) ⌝ }
@@ -41,7 +45,7 @@ fn update_in(
 }
 
 // Room for an update of at most 64 est records and 64 diverge nodes over at most 512 links, which takes less time to clear.
-fn update_small(image: &mut [u8], occ: &[u16], blocking: &[u32], o: Order, h: PathHeader) -> Updated
+fn update_small(image: &mut [u8], occ: &[u32], blocking: &[u32], o: Order, h: PathHeader) -> Updated
     requires { ⌜ Begins (now image) (now occ) h × (estCount (now image) ≤ 64) × (divergeRoom (now image) ≤ 64) × (length (now occ) ≤ 512) ⌝ }
     ensures { λ x. ⌜ updatedOf x (now (image .exit)) ≡ storedAnswer (updateOf (now (image .entry)) (now (occ .entry)) (now (blocking .entry)) o) (now (image .entry)) ⌝ }
 {
@@ -50,8 +54,8 @@ fn update_small(image: &mut [u8], occ: &[u16], blocking: &[u32], o: Order, h: Pa
     let mut on = [0u8; 64];
     let mut flags = [0u8; 512];
     let mut known = [0u8; 512];
-    let mut dt = [0u16; 64];
-    let mut dn = [0u16; 64];
+    let mut dt = [0u32; 64];
+    let mut dn = [0u32; 64];
     let n = image.len();
     update_in(
         image,
@@ -70,7 +74,7 @@ fn update_small(image: &mut [u8], occ: &[u16], blocking: &[u32], o: Order, h: Pa
 }
 
 // The same for the largest update.
-fn update_large(image: &mut [u8], occ: &[u16], blocking: &[u32], o: Order, h: PathHeader) -> Updated
+fn update_large(image: &mut [u8], occ: &[u32], blocking: &[u32], o: Order, h: PathHeader) -> Updated
     requires { ⌜ Begins (now image) (now occ) h ⌝ }
     ensures { λ x. ⌜ updatedOf x (now (image .exit)) ≡ storedAnswer (updateOf (now (image .entry)) (now (occ .entry)) (now (blocking .entry)) o) (now (image .entry)) ⌝ }
 {
@@ -79,8 +83,8 @@ fn update_large(image: &mut [u8], occ: &[u16], blocking: &[u32], o: Order, h: Pa
     let mut on = [0u8; 512];
     let mut flags = [0u8; 4000];
     let mut known = [0u8; 4000];
-    let mut dt = [0u16; 1024];
-    let mut dn = [0u16; 1024];
+    let mut dt = [0u32; 1024];
+    let mut dn = [0u32; 1024];
     let n = image.len();
     update_in(
         image,
@@ -99,7 +103,7 @@ fn update_large(image: &mut [u8], occ: &[u16], blocking: &[u32], o: Order, h: Pa
 }
 
 // The update in room by its size.
-fn update_begun(image: &mut [u8], occ: &[u16], blocking: &[u32], o: Order, h: PathHeader) -> Updated
+fn update_begun(image: &mut [u8], occ: &[u32], blocking: &[u32], o: Order, h: PathHeader) -> Updated
     requires { ⌜ Begins (now image) (now occ) h ⌝ }
     ensures { λ x. ⌜ updatedOf x (now (image .exit)) ≡ storedAnswer (updateOf (now (image .entry)) (now (occ .entry)) (now (blocking .entry)) o) (now (image .entry)) ⌝ }
 {
@@ -115,10 +119,64 @@ fn update_begun(image: &mut [u8], occ: &[u16], blocking: &[u32], o: Order, h: Pa
     update_small(image, occ, blocking, o, h)
 }
 
-// Updates the train of an image. Refused by 2 and 4 to 13: then nothing is changed.
-pub fn update_free_path(
+// The occupancy goes into room of its length.
+fn update_widened(
     image: &mut [u8],
     occ: &[u16],
+    wide: &mut [u32],
+    blocking: &[u32],
+    o: Order,
+) -> Updated
+    requires { ⌜ Begins (now image) (now occ) (pathHeader (now image)) × (length (now wide) ≡ length (now occ)) ⌝ }
+    ensures { λ x. ⌜ updatedOf x (now (image .exit)) ≡ storedAnswer (updateOf (now (image .entry)) (now (occ .entry)) (now (blocking .entry)) o) (now (image .entry)) ⌝ }
+{
+    columns::widen(occ, wide);
+    let h = codec::path_header(image);
+    update_begun(image, wide, blocking, o, h)
+}
+
+// Room for at most 512 links.
+fn widen_small(image: &mut [u8], occ: &[u16], blocking: &[u32], o: Order) -> Updated
+    requires { ⌜ Begins (now image) (now occ) (pathHeader (now image)) × (length (now occ) ≤ 512) ⌝ }
+    ensures { λ x. ⌜ updatedOf x (now (image .exit)) ≡ storedAnswer (updateOf (now (image .entry)) (now (occ .entry)) (now (blocking .entry)) o) (now (image .entry)) ⌝ }
+{
+    let mut wide = [0u32; 512];
+    let n = occ.len();
+    update_widened(image, occ, &mut wide[..n], blocking, o)
+}
+
+fn widen_large(image: &mut [u8], occ: &[u16], blocking: &[u32], o: Order) -> Updated
+    requires { ⌜ Begins (now image) (now occ) (pathHeader (now image)) ⌝ }
+    ensures { λ x. ⌜ updatedOf x (now (image .exit)) ≡ storedAnswer (updateOf (now (image .entry)) (now (occ .entry)) (now (blocking .entry)) o) (now (image .entry)) ⌝ }
+{
+    let mut wide = [0u32; 4000];
+    let n = occ.len();
+    update_widened(image, occ, &mut wide[..n], blocking, o)
+}
+
+// Refusals 2 and 4 to 10 over l links, else number 0.
+fn start_fault(image: &[u8], l: usize, blocking: &[u32], o: Order) -> Fault
+    ensures { λ r. ⌜ ((occ : List ℕ) → length occ ≡ l → Judged r (now (image .entry)) occ (now (blocking .entry)) o) ⌝ }
+{
+    let moved = o.moved;
+    let f = update_call::update_fault(image, l, blocking, moved, o.limit);
+    if f.number != 0 {
+        return f;
+    }
+    let h = codec::path_header(image);
+    if h.path_count <= h.free as u32 {
+        return Fault {
+            number: 10,
+            place: 0,
+        };
+    }
+    f
+}
+
+// Updates the train of an image over an occupancy of any trains. Refused by 2 and 4 to 13: then nothing is changed.
+pub fn update_over(
+    image: &mut [u8],
+    occ: &[u32],
     blocking: &[u32],
     moved: TrainIdx,
     local: bool,
@@ -126,18 +184,41 @@ pub fn update_free_path(
 ) -> Updated
     ensures { λ x. ⌜ updatedOf x (now (image .exit)) ≡ updatedImage (now (image .entry)) (now (occ .entry)) (now (blocking .entry)) (moved .0) local limit ⌝ }
 {
-    let f = update_call::update_fault(image, occ, blocking, moved, limit);
-    if f.number != 0 {
-        return answer::refused(f.number, f.place);
-    }
-    let h = codec::path_header(image);
-    if h.path_count <= h.free as u32 {
-        return answer::refused(10, 0);
-    }
     let o = Order {
         moved: moved,
         local: local,
         limit: limit,
     };
+    let f = start_fault(image, occ.len(), blocking, o);
+    if f.number != 0 {
+        return answer::refused(f.number, f.place);
+    }
+    let h = codec::path_header(image);
     update_begun(image, occ, blocking, o, h)
+}
+
+// The same over an occupancy of u16 entries, which is judged by its length and then widened once.
+pub fn update_free_path(
+    image: &mut [u8],
+    occ: &[u16],
+    blocking: &[u32],
+    moved: NarrowTrainIdx,
+    local: bool,
+    limit: u16,
+) -> Updated
+    ensures { λ x. ⌜ updatedOf x (now (image .exit)) ≡ updatedImage (now (image .entry)) (now (occ .entry)) (now (blocking .entry)) (moved .0) local limit ⌝ }
+{
+    let o = Order {
+        moved: TrainIdx(moved.0 as u32),
+        local: local,
+        limit: limit,
+    };
+    let f = start_fault(image, occ.len(), blocking, o);
+    if f.number != 0 {
+        return answer::refused(f.number, f.place);
+    }
+    if 512 < occ.len() {
+        return widen_large(image, occ, blocking, o);
+    }
+    widen_small(image, occ, blocking, o)
 }

@@ -132,7 +132,7 @@ fn closed(w: Between) -> Ran
 }
 
 // The strays of the path of which col is link_idx_path.
-pub(crate) fn strays_of(col: &[u32], h: PathHeader, occ: &[u16], known: &[u8]) -> usize
+pub(crate) fn strays_of(col: &[u32], h: PathHeader, occ: &[u32], known: &[u8]) -> usize
     ensures { λ r. ⌜ r ≡ count (strayLink (now (occ .entry)) (flagged (now (known .entry)))) (drop (h .free) (listed (h .«path_count») (linkAt (now (col .entry))))) ⌝ }
 {
     counts::strays(col, h.path_count as usize, h.free as usize, occ, known)
@@ -150,15 +150,15 @@ pub(crate) fn derive(img: &[u8], n: u32, col: &mut [u32], on: &mut [u8])
 // Round after round, as many as the limit has. col and on are those of the path.
 pub(crate) fn rounds(
     img: &mut [u8],
-    occ: &[u16],
+    occ: &[u32],
     known: &[u8],
     g: Given,
     start: Between,
     limit: u16,
     col: &mut [u32],
     on: &mut [u8],
-    dt: &mut [u16],
-    dn: &mut [u16],
+    dt: &mut [u32],
+    dn: &mut [u32],
 ) -> Ran
     requires { ⌜ Sizes (estCount (now img)) (divergeRoom (now img)) (now col) (now on) (now dt) (now dn) × Top (now occ) (now img) (now col) (now on) (now dt) (now dn) start ⌝ }
     ensures { λ x. ⌜ Ended (now (occ .entry)) (now (known .entry)) g limit (now (img .entry)) (now (dt .entry)) (now (dn .entry)) start (now (img .exit)) (now (dt .exit)) (now (dn .exit)) x ⌝ }

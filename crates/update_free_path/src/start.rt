@@ -26,7 +26,7 @@ pub struct Order {
 }
 
 // The m diverge nodes of the image, the last with the moved train.
-fn start_diverges(img: &[u8], m: u32, moved: TrainIdx, dt: &mut [u16], dn: &mut [u16])
+fn start_diverges(img: &[u8], m: u32, moved: TrainIdx, dt: &mut [u32], dn: &mut [u32])
     requires { ⌜ (1 ≤ m) × (m ≤ length (now dt)) × (m ≤ length (now dn)) ⌝ }
     ensures { λ _. ⌜ listed m (divAt (now (dt .exit)) (now (dn .exit))) ≡ adjustSentinel moved (listed m (divergeAt (now (img .entry)))) ⌝ }
 {
@@ -61,7 +61,7 @@ fn start_of(h: PathHeader, strays: usize) -> Between
 // The rounds of an update of the train of an image, which is a copy. col and on are for the path, flags and known for links.
 pub(crate) fn run(
     img: &mut [u8],
-    occ: &[u16],
+    occ: &[u32],
     blocking: &[u32],
     o: Order,
     h: PathHeader,
@@ -69,8 +69,8 @@ pub(crate) fn run(
     on: &mut [u8],
     flags: &mut [u8],
     known: &mut [u8],
-    dt: &mut [u16],
-    dn: &mut [u16],
+    dt: &mut [u32],
+    dn: &mut [u32],
 ) -> Ran
     requires { ⌜ Begins (now img) (now occ) h × Space (now img) (now occ) (now col) (now on) (now flags) (now known) (now dt) (now dn) ⌝ }
     ensures { λ x. ⌜ Finished (now (img .entry)) (now (occ .entry)) (now (blocking .entry)) o (now (img .exit)) (now (dt .exit)) (now (dn .exit)) x ⌝ }

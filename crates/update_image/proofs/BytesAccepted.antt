@@ -16,6 +16,7 @@ use Rattle.link_rules.proofs.OctetLaws.{Bytes, le-lt}
 use Rattle.disp_structs.specs.Floats.{realOf, inReach}
 use Rattle.disp_structs.specs.Values.{isArrive, isNever}
 use Rattle.disp_structs.specs.Listed.{listed}
+use Rattle.disp_structs.specs.Train.{Train}
 use Rattle.disp_structs.specs.declared.LinkEvent.{LinkEvent}
 use Rattle.disp_structs.specs.declared.EstTime.{EstTime}
 use Rattle.disp_structs.specs.declared.DispNode.{DispNode}
@@ -276,6 +277,18 @@ module _ (bs : List ℕ) (b : Bytes bs) where
         search = real-fits (leAt 8 bs 48);
         fixedMax = real-fits (leAt 8 bs 56);
       }
+
+-- wider fields hold it too
+pub fits-wider : (a b : ℕ) → a ≤ b → (t : Train) → Fits a t → Fits b t
+fits-wider a b h t f =
+    record {
+      ests = f .ests;
+      nodes = f .nodes;
+      divs = λ i d r. omega (arith, h, f .divs i d r);
+      train = omega (arith, h, f .train);
+      search = f .search;
+      fixedMax = f .fixedMax;
+    }
 
 -- an image that is not refused by 6 to 9
 pub bytes-accepted : (bs : List ℕ) (l : ℕ) → Bytes bs → imageFault bs l .number ≡ 0 → Accepted l (decoded bs) × Fits 65536 (decoded bs)

@@ -18,7 +18,7 @@ use Rattle.update_image.proofs.BytesAccepted.{bytes-accepted}
 use Rattle.update_image.proofs.StoredGood.{bytes-stored, length-stored}
 use Rattle.update_image.proofs.AcceptedBytes.{accepted-bytes, held}
 
--- the occupancy holds trains of 16 bits
+-- the occupancy holds trains of 16 bits, as many as an image has for a train
 abbrev pub Trains16 : List ℕ → Type 0
 Trains16 occ = (i : ℕ) → getD occ i 0 < 65536
 

@@ -28,7 +28,7 @@ pub struct Errors {
 }
 
 // The errors of the steps of the path, the first n nodes of the image, and the occupancy conflicts at or after free.
-pub fn validate_free_path(img: &[u8], n: u32, occ: &[u16], free: u32) -> Errors
+pub fn validate_free_path(img: &[u8], n: u32, occ: &[u32], free: u32) -> Errors
     ensures { λ r. ⌜ answer (r .code) (r .count) ≡ validateFreePath (now (occ .entry)) (estsOf (now (img .entry))) free (pathOf (now (img .entry)) n) ⌝ }
 {
     let steps = step_errors(img, n);
@@ -108,7 +108,7 @@ fn is_arrive(t: EstType) -> bool
     }
 }
 
-fn in_conflict(img: &[u8], occ: &[u16], i: u32) -> bool
+fn in_conflict(img: &[u8], occ: &[u32], i: u32) -> bool
     ensures { λ r. ⌜ r ≡ inConflict (now (occ .entry)) (nodeAt (now (img .entry)) i) ⌝ }
 {
     let e = codec::node_link_event(img, i);
@@ -119,7 +119,7 @@ fn in_conflict(img: &[u8], occ: &[u16], i: u32) -> bool
     false
 }
 
-fn conflicts(img: &[u8], n: u32, occ: &[u16], free: u32) -> u64
+fn conflicts(img: &[u8], n: u32, occ: &[u32], free: u32) -> u64
     ensures { λ r. ⌜ (r ≡ count (inConflict (now (occ .entry))) (drop free (pathOf (now (img .entry)) n))) × (r < 2 ^ 32) ⌝ }
 {
     let mut k: u64 = 0;

@@ -12,6 +12,7 @@ use borrow.Rule.Slice.PartMut.{post-is}
 use borrow.Author.Tests.{le-ltb}
 use Rattle.image.proofs.Writers.{side}
 use Rattle.image_fault.specs.declared.Fault.{Fault}
+use Rattle.update_call.proofs.CallLaws.{call-links}
 use Rattle.yard_check.specs.Yard.{slotCount, partFrom, partUntil, partOf, withPart}
 use Rattle.yard_check.specs.Check.{CheckArgs, rowSize, checkFault, Row, unvisitedRow, isFinishedRow, isBlockedRow, isErredRow, putRow, Visit, visit, visited, slotVisit, slotRow, slotImage, yardAfter, reportAfter, howMany, firstNot, Refused, Erred, answerBy, answerOf, check, checkDone, checkedBy, checkedWith}
 use Rattle.yard_check.specs.Checks.{rowOf, talliedOf, tallyAfter, NextTurn, Visits, SlotVisited, AllVisited}
@@ -22,6 +23,10 @@ use Rattle.yard_check.proofs.VisitLaws.{images-fit, trains-stay}
 use Rattle.yard_check.proofs.ReportLaws.{next-place}
 use Rattle.yard_check.proofs.PartLaws.{from-until, until-inside, part-span, fits-from, fits-until}
 use Rattle.yard_check.proofs.CheckLaws.{Taken, taken, taken-done, part-back, slot-unvisited, next-turn}
+
+-- a check that is not refused has at most 4,000 links
+pub few-links : (yard occ : List ℕ) (a : CheckArgs) (long : ℕ) → checkFault yard occ a long .number ≡ 0 → length occ ≤ 4000
+few-links yard occ a long h = call-links occ (a .blocking) (a .moved) (a .limit) (taken yard occ a long h .call) .1
 
 -- ---- the visit to a slot
 

@@ -1,10 +1,12 @@
 // check_deadlock (document 01, Check; dispatch.rs 45-91): the refusals, the visits to the slots, the report, the answer.
 // A slot is worked by update_free_path alone, of which only the promise is used.
 use crate::yard;
+use free_path::columns;
 use image::codec;
 use image_fault;
 use image_fault::Fault;
 use image_reader;
+use link_rules::link_idx::NarrowTrainIdx;
 use link_rules::link_idx::TrainIdx;
 use link_rules::octets;
 use link_rules::refusal::Refusal;
@@ -14,8 +16,8 @@ use update_free_path::answer::Status;
 use update_free_path::answer::Updated;
 ghost use mathlib.Core.Path.{_≡_};
 ghost use mathlib.Core.Bool.{cond, not, _&&_};
-ghost use mathlib.Core.List.{[]};
-ghost use Prim.Native.Nat.{_+_, _≤_, _<_};
+ghost use mathlib.Core.List.{List, []};
+ghost use Prim.Native.Nat.{ℕ, _+_, _≤_, _<_};
 ghost use lib.Dec.{eqb};
 ghost use lib.ListN.{length};
 ghost use Rattle.image_fault.specs.ImageFault.{imageFault, orElse};
@@ -70,7 +72,7 @@ fn fault(number: u16) -> Fault
 fn slots_fault(slots: u32, a: Args, long: usize) -> Fault
     ensures { λ r. ⌜ r ≡ orElse (Check.slotsFault slots (argsOf [] a)) (Check.reportFault slots long) ⌝ }
 {
-    if slots < a.moved.0 as u32 {
+    if slots < a.moved.0 {
         return fault(15);
     }
     if a.begin < 1 {
@@ -85,10 +87,11 @@ fn slots_fault(slots: u32, a: Args, long: usize) -> Fault
     fault(0)
 }
 
-fn check_fault(yard: &[u8], occ: &[u16], blocking: &[u32], a: Args, long: usize) -> Fault
-    ensures { λ r. ⌜ r ≡ Check.checkFault (now (yard .entry)) (now (occ .entry)) (argsOf (now (blocking .entry)) a) long ⌝ }
+// Of the occupancy only the length is asked.
+fn check_fault(yard: &[u8], l: usize, blocking: &[u32], a: Args, long: usize) -> Fault
+    ensures { λ r. ⌜ ((occ : List ℕ) → length occ ≡ l → r ≡ Check.checkFault (now (yard .entry)) occ (argsOf (now (blocking .entry)) a) long) ⌝ }
 {
-    let f = update_call::call_fault(occ, blocking, a.moved, a.limit);
+    let f = update_call::call_fault(l, blocking, a.moved, a.limit);
     if f.number != 0 {
         return f;
     }
@@ -155,6 +158,7 @@ fn updated_row(u: Updated, moved: TrainIdx) -> Row
     }
 }
 
+// Of a holder above 65,535 the low 16 bits are written.
 fn put_row(report: &mut [u8], at: usize, r: Row)
     requires { ⌜ at ≤ 1008 ⌝ }
     ensures { λ _. ⌜ now (report .exit) ≡ Check.putRow (rowOf r) at (now (report .entry)) ⌝ }
@@ -162,7 +166,7 @@ fn put_row(report: &mut [u8], at: usize, r: Row)
     octets::put_u16(report, at, r.code);
     octets::put_u16(report, at + 2, r.place);
     octets::put_u16(report, at + 4, r.rounds);
-    octets::put_u16(report, at + 6, r.holder.0);
+    octets::put_u16(report, at + 6, (r.holder.0 % 65536) as u16);
     octets::put_u32(report, at + 8, r.strays);
     octets::put_u32(report, at + 12, r.faults);
 }
@@ -177,7 +181,7 @@ fn is_finished(img: &[u8]) -> bool
 }
 
 // The row of a slot that is not updated: refused by 6 to 9, else this code.
-fn stays_row(img: &[u8], occ: &[u16], code: u16) -> Row
+fn stays_row(img: &[u8], occ: &[u32], code: u16) -> Row
     requires { ⌜ length (now occ) ≤ 4000 ⌝ }
     ensures { λ r. ⌜ rowOf r ≡ staysRow (imageFault (now (img .entry)) (length (now (occ .entry))) .number) (imageFault (now (img .entry)) (length (now (occ .entry))) .place) code ⌝ }
 {
@@ -189,22 +193,22 @@ fn stays_row(img: &[u8], occ: &[u16], code: u16) -> Row
 }
 
 // Of slot t, img being its part of the yard. Finished and moved are asked before the update.
-fn visit(img: &mut [u8], occ: &[u16], blocking: &[u32], a: Args, t: u16) -> Row
+fn visit(img: &mut [u8], occ: &[u32], blocking: &[u32], a: Args, t: u16) -> Row
     requires { ⌜ callFault (now occ) (now blocking) (a .moved .0) (a .limit) .number ≡ 0 ⌝ }
     ensures { λ r. ⌜ Check.visit (rowOf r) (now (img .exit)) ≡ Check.visited (now (occ .entry)) (argsOf (now (blocking .entry)) a) t (now (img .entry)) ⌝ }
 {
     if is_finished(img) {
         return stays_row(img, occ, 1);
     }
-    if t == a.moved.0 {
+    if t as u32 == a.moved.0 {
         return stays_row(img, occ, 2);
     }
-    let u = update_free_path::update_free_path(img, occ, blocking, a.moved, a.local, a.limit);
+    let u = update_free_path::update_over(img, occ, blocking, a.moved, a.local, a.limit);
     updated_row(u, a.moved)
 }
 
 // The slot's own part of the yard is lent to the visit. Slots below begin are not visited.
-fn slot_visit(yard: &mut [u8], occ: &[u16], blocking: &[u32], a: Args, t: u16) -> Row
+fn slot_visit(yard: &mut [u8], occ: &[u32], blocking: &[u32], a: Args, t: u16) -> Row
     requires { ⌜ Visits (now yard) (now occ) (argsOf (now blocking) a) t ⌝ }
     ensures { λ r. ⌜ SlotVisited (now (yard .entry)) (now (occ .entry)) (argsOf (now (blocking .entry)) a) t r (now (yard .exit)) ⌝ }
 {
@@ -249,7 +253,7 @@ fn tallied(y: Tally, r: Row, t: u16) -> Tally
 }
 
 // Every slot, after a blocked, faulty or refused one too.
-fn visits(yard: &mut [u8], occ: &[u16], blocking: &[u32], a: Args, report: &mut [u8]) -> Tally
+fn visits(yard: &mut [u8], occ: &[u32], blocking: &[u32], a: Args, report: &mut [u8]) -> Tally
     requires { ⌜ Check.checkFault (now yard) (now occ) (argsOf (now blocking) a) (length (now report)) .number ≡ 0 ⌝ }
     ensures { λ x. ⌜ AllVisited (now (yard .entry)) (now (occ .entry)) (argsOf (now (blocking .entry)) a) (now (report .entry)) x (now (yard .exit)) (now (report .exit)) ⌝ }
 {
@@ -267,6 +271,41 @@ fn visits(yard: &mut [u8], occ: &[u16], blocking: &[u32], a: Args, report: &mut 
         n += 1;
     }
     y
+}
+
+// The occupancy is widened once for all slots, into room of its length.
+fn visits_widened(
+    yard: &mut [u8],
+    occ: &[u16],
+    wide: &mut [u32],
+    blocking: &[u32],
+    a: Args,
+    report: &mut [u8],
+) -> Tally
+    requires { ⌜ (Check.checkFault (now yard) (now occ) (argsOf (now blocking) a) (length (now report)) .number ≡ 0) × (length (now wide) ≡ length (now occ)) ⌝ }
+    ensures { λ x. ⌜ AllVisited (now (yard .entry)) (now (occ .entry)) (argsOf (now (blocking .entry)) a) (now (report .entry)) x (now (yard .exit)) (now (report .exit)) ⌝ }
+{
+    columns::widen(occ, wide);
+    visits(yard, wide, blocking, a, report)
+}
+
+// Room for at most 512 links.
+fn visits_small(yard: &mut [u8], occ: &[u16], blocking: &[u32], a: Args, report: &mut [u8]) -> Tally
+    requires { ⌜ (Check.checkFault (now yard) (now occ) (argsOf (now blocking) a) (length (now report)) .number ≡ 0) × (length (now occ) ≤ 512) ⌝ }
+    ensures { λ x. ⌜ AllVisited (now (yard .entry)) (now (occ .entry)) (argsOf (now (blocking .entry)) a) (now (report .entry)) x (now (yard .exit)) (now (report .exit)) ⌝ }
+{
+    let mut wide = [0u32; 512];
+    let n = occ.len();
+    visits_widened(yard, occ, &mut wide[..n], blocking, a, report)
+}
+
+fn visits_large(yard: &mut [u8], occ: &[u16], blocking: &[u32], a: Args, report: &mut [u8]) -> Tally
+    requires { ⌜ Check.checkFault (now yard) (now occ) (argsOf (now blocking) a) (length (now report)) .number ≡ 0 ⌝ }
+    ensures { λ x. ⌜ AllVisited (now (yard .entry)) (now (occ .entry)) (argsOf (now (blocking .entry)) a) (now (report .entry)) x (now (yard .exit)) (now (report .exit)) ⌝ }
+{
+    let mut wide = [0u32; 4000];
+    let n = occ.len();
+    visits_widened(yard, occ, &mut wide[..n], blocking, a, report)
 }
 
 // ---- the answer
@@ -288,7 +327,7 @@ pub fn check_deadlock(
     yard: &mut [u8],
     occ: &[u16],
     blocking: &[u32],
-    moved: TrainIdx,
+    moved: NarrowTrainIdx,
     begin: u16,
     local: bool,
     limit: u16,
@@ -297,17 +336,20 @@ pub fn check_deadlock(
     ensures { λ x. ⌜ checkedOf x (now (yard .exit)) (now (report .exit)) ≡ Check.checked (now (yard .entry)) (now (occ .entry)) (now (blocking .entry)) (moved .0) begin local limit (now (report .entry)) ⌝ }
 {
     let a = Args {
-        moved: moved,
+        moved: TrainIdx(moved.0 as u32),
         begin: begin,
         local: local,
         limit: limit,
     };
-    let f = check_fault(yard, occ, blocking, a, report.len());
+    let f = check_fault(yard, occ.len(), blocking, a, report.len());
     if f.number != 0 {
         return Answer::Refused(Refusal {
             number: f.number,
             place: f.place,
         });
     }
-    answered(visits(yard, occ, blocking, a, report))
+    if 512 < occ.len() {
+        return answered(visits_large(yard, occ, blocking, a, report));
+    }
+    answered(visits_small(yard, occ, blocking, a, report))
 }

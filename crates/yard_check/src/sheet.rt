@@ -3,6 +3,7 @@ use crate::bundle;
 use crate::check;
 use crate::check::Answer;
 use crate::yard;
+use link_rules::link_idx::NarrowTrainIdx;
 use link_rules::link_idx::TrainIdx;
 use link_rules::octets;
 use text;
@@ -110,7 +111,7 @@ fn put_slot_lines(
     let mut n = count;
     let mut i: u16 = 0;
     while i < slots {
-        let free = free_column(yard::part(yard, TrainIdx(i + 1)), links);
+        let free = free_column(yard::part(yard, TrainIdx((i + 1) as u32)), links);
         n = put_slot_line(text, n, i, report, free);
         i += 1;
     }
@@ -198,7 +199,7 @@ fn put_checked(
         yard,
         occ,
         blocking,
-        TrainIdx(octets::u16_at(bundle, 24)),
+        NarrowTrainIdx(octets::u16_at(bundle, 24)),
         octets::u16_at(bundle, 26),
         octets::u16_at(bundle, 30) == 1,
         octets::u16_at(bundle, 28),

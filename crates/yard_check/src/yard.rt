@@ -60,7 +60,7 @@ pub(crate) fn part_until(yard: &[u8], t: u32) -> usize
 pub fn part(yard: &[u8], t: TrainIdx) -> &[u8]
     ensures { λ r. ⌜ now r ≡ partOf (now (yard .entry)) (t .0) ⌝ }
 {
-    let slot = t.0 as u32;
+    let slot = t.0;
     let a = part_from(yard, slot);
     let e = part_until(yard, slot);
     &yard[a..e]
@@ -69,7 +69,7 @@ pub fn part(yard: &[u8], t: TrainIdx) -> &[u8]
 pub fn part_mut(yard: &mut [u8], t: TrainIdx) -> &mut [u8]
     ensures { λ r. ⌜ now r ≡ partOf (now (yard .entry)) (t .0) ⌝ }
 {
-    let slot = t.0 as u32;
+    let slot = t.0;
     let a = part_from(yard, slot);
     let e = part_until(yard, slot);
     &mut yard[a..e]

@@ -31,9 +31,6 @@ diverge-count-requires c κs = search needs
 cast-if3 : tie.Need-cast-if3
 cast-if3 c = search needs
 
-cast-result : tie.Need-cast-result
-cast-result c = search needs
-
 returns-3 : tie.Need-returns-3
 unfolding divergeFits
 returns-3 c = rw (ne-eqb (c .before .before .before .before .before .before .before .args .i) 0 (c .before .before .before .if1 .left), eq-eqb (c .before .before .before .before .before .before .before .args .i + 1) (divergeCount (now (c .before .before .before .before .before .before .before .args .img))) (omega arith), ← c .before .before .before .before .before .diverge-at .ensures, ← c .before .before .before .before .path-count .ensures)
@@ -62,7 +59,6 @@ diverge-fits-spec =
     add-if3
     diverge-count-requires
     cast-if3
-    cast-result
     returns-3
     sub-diverge-at
     diverge-at-requires-2

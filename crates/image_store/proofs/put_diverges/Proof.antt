@@ -22,17 +22,17 @@ loop-holds : tie.Need-loop-holds Inv-loop μ-loop
 unfolding listed putEach
 loop-holds c = (search needs, refl)
 
-cast-u16-of : tie.Need-cast-u16-of Inv-loop μ-loop
-cast-u16-of c = search needs
+cast-u32-of : tie.Need-cast-u32-of Inv-loop μ-loop
+cast-u32-of c = search needs
 
-u16-of-requires : tie.Need-u16-of-requires Inv-loop μ-loop
-u16-of-requires c κs = search needs
+u32-of-requires : tie.Need-u32-of-requires Inv-loop μ-loop
+u32-of-requires c κs = search needs
 
-cast-u16-of-2 : tie.Need-cast-u16-of-2 Inv-loop μ-loop
-cast-u16-of-2 c = search needs
+cast-u32-of-2 : tie.Need-cast-u32-of-2 Inv-loop μ-loop
+cast-u32-of-2 c = search needs
 
-u16-of-requires-2 : tie.Need-u16-of-requires-2 Inv-loop μ-loop
-u16-of-requires-2 c κs = search needs
+u32-of-requires-2 : tie.Need-u32-of-requires-2 Inv-loop μ-loop
+u32-of-requires-2 c κs = search needs
 
 put-diverge-requires : tie.Need-put-diverge-requires Inv-loop μ-loop
 put-diverge-requires c κs = search needs
@@ -47,8 +47,8 @@ loop-again : tie.Need-loop-again Inv-loop μ-loop
 loop-again c =
     let l = c .before .before .before .before .before .before .before .loop in
     let a = c .before .before .before .before .before .before .before .before .before .before .before .args in
-    let t = c .before .before .before .before .before .u16-of in
-    let n = c .before .before .before .before .u16-of2 in (
+    let t = c .before .before .before .before .before .u32-of in
+    let n = c .before .before .before .before .u32-of2 in (
       search needs,
       diverges-next (l .i) (divAt (now (a .dt)) (now (a .dn))) (now (a .image)) _ (l .image) (c .before .before .put-diverge .last .0) (l .inv .1) (ap₂ (λ (x y : ℕ). record { «train_idx» = tr x; «disp_node_idx» = y }) (t .ensures) (n .ensures)) (c .before .before .put-diverge .ensures),
     )
@@ -73,10 +73,10 @@ put-diverges-spec =
     Inv-loop
     μ-loop
     loop-holds
-    cast-u16-of
-    u16-of-requires
-    cast-u16-of-2
-    u16-of-requires-2
+    cast-u32-of
+    u32-of-requires
+    cast-u32-of-2
+    u32-of-requires-2
     put-diverge-requires
     add-i
     loop-less

@@ -11,22 +11,22 @@ use Rattle.update_call.proofs.call_fault.Tie as tie
 
 returns : tie.Need-returns
 unfolding callFault
-returns c =
-    let l = length (now (c .before .before .before .args .occ)) in
-    rw (lt-leb 2 l (omega arith))
+returns c occ q =
+    let l = c .before .before .args .l in
+    rw (q, lt-leb 2 l (omega arith))
 
 returns-2 : tie.Need-returns-2
 unfolding callFault
-returns-2 c =
-    let l = length (now (c .before .before .before .before .args .occ)) in
-    rw (le-leb 2 l (omega arith), lt-leb l 4000 (omega arith))
+returns-2 c occ q =
+    let l = c .before .before .before .args .l in
+    rw (q, le-leb 2 l (omega arith), lt-leb l 4000 (omega arith))
 
 returns-3 : tie.Need-returns-3
 unfolding callFault
-returns-3 c =
-    let a = c .before .before .before .before .before .args in
-    let l = length (now (a .occ)) in
-    rw (le-leb 2 l (omega arith), le-leb l 4000 (omega arith), lt-leb (length (now (a .blocking))) 4000 (omega arith))
+returns-3 c occ q =
+    let a = c .before .before .before .before .args in
+    let l = a .l in
+    rw (q, le-leb 2 l (omega arith), le-leb l 4000 (omega arith), lt-leb (length (now (a .blocking))) 4000 (omega arith))
 
 cast-links-below : tie.Need-cast-links-below
 cast-links-below c = search needs
@@ -39,19 +39,19 @@ order-fault-requires c κs = search needs
 
 returns-4 : tie.Need-returns-4
 unfolding callFault
-returns-4 c =
-    let a = c .before .before .before .before .before .before .before .before .args in
-    let l = length (now (a .occ)) in
+returns-4 c occ q =
+    let a = c .before .before .before .before .before .before .before .args in
+    let l = a .l in
     let b : linksBelow l (now (a .blocking)) ≡ true = sym (c .before .before .links-below .ensures) ∙ c .before .if4 .taken in
-    rw (le-leb 2 l (omega arith), le-leb l 4000 (omega arith), le-leb (length (now (a .blocking))) 4000 (omega arith), b) (c .order-fault .ensures)
+    rw (q, le-leb 2 l (omega arith), le-leb l 4000 (omega arith), le-leb (length (now (a .blocking))) 4000 (omega arith), b) (c .order-fault .ensures)
 
 returns-5 : tie.Need-returns-5
 unfolding callFault
-returns-5 c =
-    let a = c .before .before .before .before .before .before .before .args in
-    let l = length (now (a .occ)) in
+returns-5 c occ q =
+    let a = c .before .before .before .before .before .before .args in
+    let l = a .l in
     let b : linksBelow l (now (a .blocking)) ≡ false = sym (c .before .links-below .ensures) ∙ c .if4 .left in
-    rw (le-leb 2 l (omega arith), le-leb l 4000 (omega arith), le-leb (length (now (a .blocking))) 4000 (omega arith), b)
+    rw (q, le-leb 2 l (omega arith), le-leb l 4000 (omega arith), le-leb (length (now (a .blocking))) 4000 (omega arith), b)
 
 pub call-fault-spec : {M : Type 1} → statement M
 call-fault-spec =

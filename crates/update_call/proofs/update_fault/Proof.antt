@@ -1,6 +1,8 @@
-use mathlib.Core.Path.{sym, ap, _∙_}
+use mathlib.Core.Path.{_≡_, sym, ap, _∙_}
+use Prim.Native.Nat.{ℕ}
 use native.Mathlib.Omega.{arith}
 use denote.Ref.{now}
+use lib.ListN.{length, replicate, length-replicate}
 use borrow.Author.Needs.{needs}
 use borrow.Author.Tests.{eq-eqb, ne-eqb}
 use Rattle.image_fault.specs.declared.Fault.{Fault}
@@ -14,20 +16,22 @@ call-fault-requires c κs = search needs
 
 returns : tie.Need-returns
 unfolding updateFault
-returns c = let f = c .before .before .call-fault in rw (← f .ensures, ne-eqb (f .result .number) 0 (c .if1 .taken))
+returns c occ q = let f = c .before .before .call-fault in rw (← f .ensures occ q, ne-eqb (f .result .number) 0 (c .if1 .taken))
 
 cast-image-fault : tie.Need-cast-image-fault
 cast-image-fault c =
     let f = c .before .before .call-fault in
-    let a = c .before .before .before .before .before .before .args in
-    omega (arith, call-links (now (a .occ)) (now (a .blocking)) (a .moved .0) (a .limit) (ap (λ (x : Fault). x .number) (sym (f .ensures)) ∙ c .if1 .left) .1)
+    let a = c .before .before .before .before .before .args in
+    let occ = replicate {A = ℕ} (a .l) 0 in
+    let q : length occ ≡ a .l = length-replicate {A = ℕ} (a .l) 0 in
+    omega (arith, q, call-links occ (now (a .blocking)) (a .moved .0) (a .limit) (ap (λ (x : Fault). x .number) (sym (f .ensures occ q)) ∙ c .if1 .left) .1)
 
 image-fault-requires : tie.Need-image-fault-requires
 image-fault-requires c κs = search needs
 
 returns-2 : tie.Need-returns-2
 unfolding updateFault
-returns-2 c = let f = c .before .before .before .call-fault in rw (← f .ensures, eq-eqb (f .result .number) 0 (c .before .if1 .left)) (c .image-fault .ensures)
+returns-2 c occ q = let f = c .before .before .before .call-fault in rw (← f .ensures occ q, eq-eqb (f .result .number) 0 (c .before .if1 .left), q) (c .image-fault .ensures)
 
 pub update-fault-spec : {M : Type 1} → statement M
 update-fault-spec =

@@ -21,14 +21,14 @@ abbrev μ-loop : tie.MeasureT-loop
 loop-holds : tie.Need-loop-holds Inv-loop μ-loop
 loop-holds c = refl
 
-u16-of-requires : tie.Need-u16-of-requires Inv-loop μ-loop
-u16-of-requires c κs = search needs
+u32-of-requires : tie.Need-u32-of-requires Inv-loop μ-loop
+u32-of-requires c κs = search needs
 
 returns : tie.Need-returns Inv-loop μ-loop
 returns c =
     let b = c .before .before .before in
     let a = c .before .before .before .before .before .args in
-    walk-hit (λ y. not (eqb y (a .x))) (now (a .col)) (a .n) (b .loop .j) (omega arith) (ap not (ne-eqb _ _ (λ h. c .if1 .taken (c .before .u16-of .ensures ∙ h)))) ∙ b .loop .inv
+    walk-hit (λ y. not (eqb y (a .x))) (now (a .col)) (a .n) (b .loop .j) (omega arith) (ap not (ne-eqb _ _ (λ h. c .if1 .taken (c .before .u32-of .ensures ∙ h)))) ∙ b .loop .inv
 
 add-j : tie.Need-add-j Inv-loop μ-loop
 add-j c = search needs
@@ -40,7 +40,7 @@ loop-again : tie.Need-loop-again Inv-loop μ-loop
 loop-again c =
     let b = c .before .before .before in
     let a = c .before .before .before .before .before .args in
-    walk-miss (λ y. not (eqb y (a .x))) (now (a .col)) (a .n) (b .loop .j) (omega arith) (ap not (eq-eqb _ _ (sym (c .before .u16-of .ensures) ∙ c .if1 .left))) ∙ b .loop .inv
+    walk-miss (λ y. not (eqb y (a .x))) (now (a .col)) (a .n) (b .loop .j) (omega arith) (ap not (eq-eqb _ _ (sym (c .before .u32-of .ensures) ∙ c .if1 .left))) ∙ b .loop .inv
 
 returns-2 : tie.Need-returns-2 Inv-loop μ-loop
 returns-2 c =
@@ -55,7 +55,7 @@ walk-past-spec =
     Inv-loop
     μ-loop
     loop-holds
-    u16-of-requires
+    u32-of-requires
     returns
     add-j
     loop-less

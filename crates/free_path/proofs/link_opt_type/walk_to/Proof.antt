@@ -20,14 +20,14 @@ abbrev μ-loop : tie.MeasureT-loop
 loop-holds : tie.Need-loop-holds Inv-loop μ-loop
 loop-holds c = refl
 
-u16-of-requires : tie.Need-u16-of-requires Inv-loop μ-loop
-u16-of-requires c κs = search needs
+u32-of-requires : tie.Need-u32-of-requires Inv-loop μ-loop
+u32-of-requires c κs = search needs
 
 returns : tie.Need-returns Inv-loop μ-loop
 returns c =
     let b = c .before .before .before in
     let a = c .before .before .before .before .before .args in
-    walk-hit (λ y. eqb y (a .x)) (now (a .col)) (a .n) (b .loop .j) (omega arith) (eq-eqb _ _ (sym (c .before .u16-of .ensures) ∙ c .if1 .taken)) ∙ b .loop .inv
+    walk-hit (λ y. eqb y (a .x)) (now (a .col)) (a .n) (b .loop .j) (omega arith) (eq-eqb _ _ (sym (c .before .u32-of .ensures) ∙ c .if1 .taken)) ∙ b .loop .inv
 
 add-j : tie.Need-add-j Inv-loop μ-loop
 add-j c = search needs
@@ -39,7 +39,7 @@ loop-again : tie.Need-loop-again Inv-loop μ-loop
 loop-again c =
     let b = c .before .before .before in
     let a = c .before .before .before .before .before .args in
-    walk-miss (λ y. eqb y (a .x)) (now (a .col)) (a .n) (b .loop .j) (omega arith) (ne-eqb _ _ (λ h. c .if1 .left (c .before .u16-of .ensures ∙ h))) ∙ b .loop .inv
+    walk-miss (λ y. eqb y (a .x)) (now (a .col)) (a .n) (b .loop .j) (omega arith) (ne-eqb _ _ (λ h. c .if1 .left (c .before .u32-of .ensures ∙ h))) ∙ b .loop .inv
 
 returns-2 : tie.Need-returns-2 Inv-loop μ-loop
 returns-2 c =
@@ -54,7 +54,7 @@ walk-to-spec =
     Inv-loop
     μ-loop
     loop-holds
-    u16-of-requires
+    u32-of-requires
     returns
     add-j
     loop-less

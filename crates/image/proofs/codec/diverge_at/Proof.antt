@@ -12,11 +12,17 @@ diverge-place-requires c κs = search needs
 u16-at-requires : tie.Need-u16-at-requires
 u16-at-requires c κs = search needs
 
+cast-t4 : tie.Need-cast-t4
+cast-t4 c = search needs
+
 add-u16-at : tie.Need-add-u16-at
 add-u16-at c = search needs
 
 u16-at-requires-2 : tie.Need-u16-at-requires-2
 u16-at-requires-2 c κs = search needs
+
+cast-t9 : tie.Need-cast-t9
+cast-t9 c = search needs
 
 returns : tie.Need-returns
 unfolding divergeFrom
@@ -29,6 +35,8 @@ diverge-at-spec =
     est-count-requires
     diverge-place-requires
     u16-at-requires
+    cast-t4
     add-u16-at
     u16-at-requires-2
+    cast-t9
     returns)

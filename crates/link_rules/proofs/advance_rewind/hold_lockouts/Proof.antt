@@ -1,6 +1,7 @@
 use mathlib.Core.Path.{_≡_, refl, sym, ap₂, _∙_}
 use Prim.Native.Nat.{ℕ, _+_, _-_, _≤_}
 use denote.Ref.{now}
+use Rattle.link_rules.specs.LinkIdx.{wideTrain}
 use lib.ListN.{length}
 use native.Mathlib.Omega.{arith}
 use native.Mathlib.Nat.{sub-zero, add-zero}
@@ -51,7 +52,7 @@ loop-again : tie.Need-loop-again Inv-loop μ-loop
 loop-again c =
     let g = c .before .before .before .before .before .before in
     let a = c .before .before .before .before .before .before .before .before .before .before .before .args in
-    (search needs, search needs, rw (c .before .before .hold .ensures, c .before .before .before .lockout-at .ensures) (sym (hold-turn (now (a .table)) (c .before .before .before .before .before .before .before .count-at .result) (c .before .before .before .before .before .before .before .before .start-at .result) (g .loop .j) (g .loop .occupancy) (a .train) (omega arith)) ∙ g .loop .inv .2))
+    (search needs, search needs, rw (c .before .before .hold .ensures, c .before .before .before .lockout-at .ensures) (sym (hold-turn (now (a .table)) (c .before .before .before .before .before .before .before .count-at .result) (c .before .before .before .before .before .before .before .before .start-at .result) (g .loop .j) (g .loop .occupancy) (wideTrain (a .train)) (omega arith)) ∙ g .loop .inv .2))
 
 same-length : tie.Need-same-length Inv-loop μ-loop
 same-length c = search needs
@@ -62,8 +63,8 @@ returns c =
     let a = c .before .before .before .before .before .before .args in
     let n = c .before .before .count-at in
     let s = c .before .before .before .start-at in
-    sym (hold-end (now (a .table)) (n .result) (s .result) (g .loop .j) (g .loop .occupancy) (a .train) (omega arith))
-    ∙ g .loop .inv .2 ∙ ap₂ (λ (x y : ℕ). holdAll (now (a .occupancy)) (lockouts (now (a .table)) x y) (a .train)) (n .ensures) (s .ensures)
+    sym (hold-end (now (a .table)) (n .result) (s .result) (g .loop .j) (g .loop .occupancy) (wideTrain (a .train)) (omega arith))
+    ∙ g .loop .inv .2 ∙ ap₂ (λ (x y : ℕ). holdAll (now (a .occupancy)) (lockouts (now (a .table)) x y) (wideTrain (a .train))) (n .ensures) (s .ensures)
 
 pub hold-lockouts-spec : {M : Type 1} → statement M
 hold-lockouts-spec =

@@ -1,4 +1,5 @@
 use denote.Ref.{now}
+use Rattle.link_rules.specs.LinkIdx.{wideTrain}
 use mathlib.Core.Path.{_∙_, sym, ap}
 use Prim.Native.Nat.{ℕ}
 use Rattle.link_rules.specs.AdvanceRewind.{marked, markedBy, markOf, updateLinksBlocked}
@@ -15,7 +16,7 @@ returns : tie.Need-returns
 unfolding markOf
 returns c =
     let a = c .before .before .before .before .args in
-    let after = updateLinksBlocked (now (a .table)) (now (a .occupancy)) (a .link) (a .train) in
+    let after = updateLinksBlocked (now (a .table)) (now (a .occupancy)) (a .link) (wideTrain (a .train)) in
     sym (refused-by (c .before .mark-refusal .result) (now (a .occupancy)) after (c .if1 .taken))
     ∙ ap (λ (n : ℕ). markedBy n (now (a .occupancy)) after) (c .before .mark-refusal .ensures)
 
@@ -30,7 +31,7 @@ unfolding markOf
 returns-2 c =
     let a = c .before .before .before .before .before .before .before .before .args in
     ap (marked Done) (c .before .before .mark .ensures)
-    ∙ ap (λ (n : ℕ). markedBy n (now (a .occupancy)) (updateLinksBlocked (now (a .table)) (now (a .occupancy)) (a .link) (a .train))) (sym (c .before .before .before .before .if1 .left) ∙ c .before .before .before .before .before .mark-refusal .ensures)
+    ∙ ap (λ (n : ℕ). markedBy n (now (a .occupancy)) (updateLinksBlocked (now (a .table)) (now (a .occupancy)) (a .link) (wideTrain (a .train)))) (sym (c .before .before .before .before .if1 .left) ∙ c .before .before .before .before .before .mark-refusal .ensures)
 
 pub update-links-blocked-spec : {M : Type 1} → statement M
 update-links-blocked-spec =

@@ -16,21 +16,21 @@ returns-2 c =
     let a = (c .before .before .before .args) in
     rising-out (a .m) t (now (a .dn)) (a .i) (c .before .if1 .left) (c .if2 .taken)
 
-sub-u16-of : tie.Need-sub-u16-of
-sub-u16-of c = search needs
+sub-u32-of : tie.Need-sub-u32-of
+sub-u32-of c = search needs
 
-u16-of-requires : tie.Need-u16-of-requires
-u16-of-requires c κs = search needs
+u32-of-requires : tie.Need-u32-of-requires
+u32-of-requires c κs = search needs
 
-u16-of-requires-2 : tie.Need-u16-of-requires-2
-u16-of-requires-2 c κs = search needs
+u32-of-requires-2 : tie.Need-u32-of-requires-2
+u32-of-requires-2 c κs = search needs
 
 returns-3 : tie.Need-returns-3
 returns-3 c =
     λ t.
     let a = (c .before .before .before .before .before .args) in
-    rising-in (a .m) t (now (a .dn)) (a .i) (c .before .before .before .if1 .left) (c .before .before .if2 .left) (c .before .u16-of .result) (c .before .u16-of .ensures) (c .u16-of2 .result) (c .u16-of2 .ensures)
+    rising-in (a .m) t (now (a .dn)) (a .i) (c .before .before .before .if1 .left) (c .before .before .if2 .left) (c .before .u32-of .result) (c .before .u32-of .ensures) (c .u32-of2 .result) (c .u32-of2 .ensures)
 
 pub between-divs-spec : {M : Type 1} → statement M
 between-divs-spec =
-    tie.close (tie.spec returns returns-2 sub-u16-of u16-of-requires u16-of-requires-2 returns-3)
+    tie.close (tie.spec returns returns-2 sub-u32-of u32-of-requires u32-of-requires-2 returns-3)

@@ -16,11 +16,11 @@ returns-2 c =
     let a = (c .before .before .before .args) in
     before-out (a .m) t (now (a .dn)) (a .i) (c .before .if1 .left) (c .if2 .taken)
 
-sub-u16-of : tie.Need-sub-u16-of
-sub-u16-of c = search needs
+sub-u32-of : tie.Need-sub-u32-of
+sub-u32-of c = search needs
 
-u16-of-requires : tie.Need-u16-of-requires
-u16-of-requires c κs = search needs
+u32-of-requires : tie.Need-u32-of-requires
+u32-of-requires c κs = search needs
 
 cast-t7 : tie.Need-cast-t7
 cast-t7 c = search needs
@@ -29,8 +29,8 @@ returns-3 : tie.Need-returns-3
 returns-3 c =
     λ t.
     let a = (c .before .before .before .before .args) in
-    before-in (a .m) t (now (a .dn)) (a .i) (c .before .before .if1 .left) (c .before .if2 .left) (c .u16-of .result) (c .u16-of .ensures)
+    before-in (a .m) t (now (a .dn)) (a .i) (c .before .before .if1 .left) (c .before .if2 .left) (c .u32-of .result) (c .u32-of .ensures)
 
 pub node-before-spec : {M : Type 1} → statement M
 node-before-spec =
-    tie.close (tie.spec returns returns-2 sub-u16-of u16-of-requires cast-t7 returns-3)
+    tie.close (tie.spec returns returns-2 sub-u32-of u32-of-requires cast-t7 returns-3)

@@ -23,11 +23,11 @@ loop-holds : tie.Need-loop-holds Inv-loop μ-loop
 unfolding listed
 loop-holds c = (search needs, search needs, rw (add-zero, append-nil))
 
-add-u16-of : tie.Need-add-u16-of Inv-loop μ-loop
-add-u16-of c = search needs
+add-u32-of : tie.Need-add-u32-of Inv-loop μ-loop
+add-u32-of c = search needs
 
-u16-of-requires : tie.Need-u16-of-requires Inv-loop μ-loop
-u16-of-requires c κs = search needs
+u32-of-requires : tie.Need-u32-of-requires Inv-loop μ-loop
+u32-of-requires c κs = search needs
 
 add-pool : tie.Need-add-pool Inv-loop μ-loop
 add-pool c = search needs
@@ -48,7 +48,7 @@ loop-again : tie.Need-loop-again Inv-loop μ-loop
 loop-again c =
     let a = (c .before .before .before .before .before .args) in
     let l = (c .before .before .loop) in
-    (omega arith, search needs, push-turn (l .pool) (now (a .col)) (take (a .len) (trains (now (a .pool)))) (a .len) (a .a) (l .j) (omega arith) (l .inv .2) (c .u16-of .result) (c .u16-of .ensures))
+    (omega arith, search needs, push-turn (l .pool) (now (a .col)) (take (a .len) (trains (now (a .pool)))) (a .len) (a .a) (l .j) (omega arith) (l .inv .2) (c .u32-of .result) (c .u32-of .ensures))
 
 same-length : tie.Need-same-length Inv-loop μ-loop
 same-length c = search needs
@@ -67,8 +67,8 @@ push-trains-spec =
     Inv-loop
     μ-loop
     loop-holds
-    add-u16-of
-    u16-of-requires
+    add-u32-of
+    u32-of-requires
     add-pool
     mul-pool
     slice-write-pool

@@ -20,11 +20,11 @@ loop-holds c =
     let a = (c .before .before .args) in
     (omega arith, met-none (storedFrom (divsOf (a .m) (now (a .dt)) (now (a .dn))) (a .join) (a .moved) (a .from)))
 
-sub-u16-of : tie.Need-sub-u16-of Inv-loop μ-loop
-sub-u16-of c = search needs
+sub-u32-of : tie.Need-sub-u32-of Inv-loop μ-loop
+sub-u32-of c = search needs
 
-u16-of-requires : tie.Need-u16-of-requires Inv-loop μ-loop
-u16-of-requires c κs = search needs
+u32-of-requires : tie.Need-u32-of-requires Inv-loop μ-loop
+u32-of-requires c κs = search needs
 
 cast-if1 : tie.Need-cast-if1 Inv-loop μ-loop
 cast-if1 c = search needs
@@ -33,13 +33,13 @@ returns : tie.Need-returns Inv-loop μ-loop
 returns c =
     let a = (c .before .before .before .before .before .before .args) in
     let l = (c .before .before .before .loop) in
-    (walk-stop (a .m) (now (a .dt)) (now (a .dn)) (a .join) (a .moved) (l .k) (l .met) (omega arith) (omega arith) (c .before .u16-of .result) (c .before .u16-of .ensures) (c .if1 .taken) ∙ l .inv .1, l .inv .0)
+    (walk-stop (a .m) (now (a .dt)) (now (a .dn)) (a .join) (a .moved) (l .k) (l .met) (omega arith) (omega arith) (c .before .u32-of .result) (c .before .u32-of .ensures) (c .if1 .taken) ∙ l .inv .1, l .inv .0)
 
-sub-u16-of-2 : tie.Need-sub-u16-of-2 Inv-loop μ-loop
-sub-u16-of-2 c = search needs
+sub-u32-of-2 : tie.Need-sub-u32-of-2 Inv-loop μ-loop
+sub-u32-of-2 c = search needs
 
-u16-of-requires-2 : tie.Need-u16-of-requires-2 Inv-loop μ-loop
-u16-of-requires-2 c κs = search needs
+u32-of-requires-2 : tie.Need-u32-of-requires-2 Inv-loop μ-loop
+u32-of-requires-2 c κs = search needs
 
 met-or-requires : tie.Need-met-or-requires Inv-loop μ-loop
 met-or-requires c κs = search needs
@@ -54,7 +54,7 @@ loop-again : tie.Need-loop-again Inv-loop μ-loop
 loop-again c =
     let a = (c .before .before .before .before .before .before .before .before .args) in
     let l = (c .before .before .before .before .before .loop) in
-    (omega arith, walk-turn (a .m) (now (a .dt)) (now (a .dn)) (a .join) (a .moved) (l .k) (l .met) (omega arith) (omega arith) (c .before .before .before .u16-of .result) (c .before .before .before .u16-of .ensures) (c .before .before .if1 .left) (c .before .u16-of2 .result) (c .before .u16-of2 .ensures) (c .met-or .result) (c .met-or .ensures) ∙ l .inv .1)
+    (omega arith, walk-turn (a .m) (now (a .dt)) (now (a .dn)) (a .join) (a .moved) (l .k) (l .met) (omega arith) (omega arith) (c .before .before .before .u32-of .result) (c .before .before .before .u32-of .ensures) (c .before .before .if1 .left) (c .before .u32-of2 .result) (c .before .u32-of2 .ensures) (c .met-or .result) (c .met-or .ensures) ∙ l .inv .1)
 
 returns-2 : tie.Need-returns-2 Inv-loop μ-loop
 returns-2 c =
@@ -69,12 +69,12 @@ stored-from-spec =
     Inv-loop
     μ-loop
     loop-holds
-    sub-u16-of
-    u16-of-requires
+    sub-u32-of
+    u32-of-requires
     cast-if1
     returns
-    sub-u16-of-2
-    u16-of-requires-2
+    sub-u32-of-2
+    u32-of-requires-2
     met-or-requires
     sub-k
     loop-less

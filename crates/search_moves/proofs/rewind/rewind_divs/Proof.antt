@@ -1,22 +1,18 @@
 use denote.Ref.{now}
 use mathlib.Core.Path.{_≡_, refl, sym, ap, _∙_}
 use mathlib.Core.List.{List}
-use mathlib.Core.Bool.{cond, not}
+use mathlib.Core.Bool.{not}
 use Prim.Native.Nat.{ℕ, _-_, _≤_}
 use native.Mathlib.Omega.{arith}
 use borrow.Author.Tests.{eq-eqb}
 use lib.ListN.{getD}
 use Rattle.free_path.specs.Base.{walkBack}
-use Rattle.free_path.specs.Columns.{answer, divAt}
+use Rattle.free_path.specs.Columns.{divAt}
 use Rattle.search.specs.Read.{divsOf}
 use Rattle.search_moves.proofs.RewindLaws.{off, back-none, back-miss, divs-none, divs-left}
 use borrow.Author.Needs.{needs}
 use Rattle.search_moves.proofs.rewind.rewind_divs.Statement.{statement}
 use Rattle.search_moves.proofs.rewind.rewind_divs.Tie as tie
-use Rattle.search_moves.proofs.rewind.rewind_divs.Reads as reads
-use Rattle.search_moves.proofs.rewind.rewind_divs.Lts as lts
-use Rattle.free_path.proofs.columns.u16_of.Reads as u16-of-reads
-use Rattle.search_moves.proofs.rewind.left_at.Reads as left-at-reads
 
 abbrev Inv-loop : tie.InvT-loop
 Inv-loop nn count join k₀ k = (k ≤ count) × ((nt : List ℕ) → walkBack (off join) (divsOf count nt nn) k ≡ walkBack (off join) (divsOf count nt nn) count)
@@ -29,12 +25,12 @@ loop-holds : tie.Need-loop-holds Inv-loop μ-loop
 loop-holds c = (omega arith, λ nt. refl)
 
 -- src/rewind.rt:135:37
-sub-u16-of : tie.Need-sub-u16-of Inv-loop μ-loop
-sub-u16-of c = search needs
+sub-u32-of : tie.Need-sub-u32-of Inv-loop μ-loop
+sub-u32-of c = search needs
 
 -- src/rewind.rt:135:17
-u16-of-requires : tie.Need-u16-of-requires Inv-loop μ-loop
-u16-of-requires c κs = search needs
+u32-of-requires : tie.Need-u32-of-requires Inv-loop μ-loop
+u32-of-requires c κs = search needs
 
 -- src/rewind.rt:135:17
 cast-d : tie.Need-cast-d Inv-loop μ-loop
@@ -49,7 +45,7 @@ returns : tie.Need-returns Inv-loop μ-loop
 returns c =
     let a = (c .before .before .before .before .before .before .args) in
     let l = (c .before .before .before .before .loop) in
-    let d = (c .before .before .u16-of) in
+    let d = (c .before .before .u32-of) in
     let x = (c .left-at) in
     ((λ nt. rw (x .ensures .0, x .ensures .1) (divs-left nt (now (a .nn)) (a .count) (a .join) (l .k) (omega arith) (l .inv .0) (d .result) (d .ensures) (c .before .if1 .taken) (l .inv .1 nt))), omega (arith, x .ensures .1, l .inv .0))
 
@@ -66,7 +62,7 @@ loop-again : tie.Need-loop-again Inv-loop μ-loop
 loop-again c =
     let a = (c .before .before .before .before .before .args) in
     let l = (c .before .before .before .loop) in
-    let d = (c .before .u16-of) in
+    let d = (c .before .u32-of) in
     (omega arith, λ nt. back-miss (off (a .join)) (a .count) (divAt nt (now (a .nn))) (l .k) (omega arith) (l .inv .0) (ap not (eq-eqb (getD (now (a .nn)) (l .k - 1) 0) (a .join) (sym (d .ensures) ∙ c .if1 .left))) ∙ l .inv .1 nt)
 
 -- src/rewind.rt:130:1
@@ -83,8 +79,8 @@ rewind-divs-spec =
     Inv-loop
     μ-loop
     loop-holds
-    sub-u16-of
-    u16-of-requires
+    sub-u32-of
+    u32-of-requires
     cast-d
     left-at-requires
     returns

@@ -50,17 +50,14 @@ returns-6 c =
     let a = c .before .before .before .before .before .before .before .before .before .before .before .before .before .before .before .before .args in
     rw (eq-eqb (a .r .«new_count») 0 (c .before .before .before .before .before .before .before .before .before .before .before .before .if1 .left), eq-eqb (a .r .«div_count») 1 (c .before .before .before .before .before .before .before .before .before .before .if2 .left), eq-eqb (a .r .join) (a .r .split) (c .before .before .before .before .before .before .before .before .if3 .left), lt-ltb (a .r .split) (a .n) (omega arith), eq-eqb (a .alt .0) (nodeAt (now (a .img)) (a .r .split) .«est_idx» .0) (c .before .before .if5 .left ∙ ap (λ (x : EstIdx). x .0) (c .before .before .before .before .before .node-est-idx .ensures)), le-ltb (a .r .«div_split») (a .m) (omega arith))
 
-u16-of-requires : tie.Need-u16-of-requires
-u16-of-requires c κs = search needs
-
-cast-d : tie.Need-cast-d
-cast-d c = search needs
+u32-of-requires : tie.Need-u32-of-requires
+u32-of-requires c κs = search needs
 
 returns-7 : tie.Need-returns-7
 unfolding atSplit
 returns-7 c =
     let a = c .before .before .before .before .before .before .before .before .before .before .before .before .before .before .before .before .before .before .args in
-    rw (eq-eqb (a .r .«new_count») 0 (c .before .before .before .before .before .before .before .before .before .before .before .before .before .before .if1 .left), eq-eqb (a .r .«div_count») 1 (c .before .before .before .before .before .before .before .before .before .before .before .before .if2 .left), eq-eqb (a .r .join) (a .r .split) (c .before .before .before .before .before .before .before .before .before .before .if3 .left), lt-ltb (a .r .split) (a .n) (omega arith), eq-eqb (a .alt .0) (nodeAt (now (a .img)) (a .r .split) .«est_idx» .0) (c .before .before .before .before .if5 .left ∙ ap (λ (x : EstIdx). x .0) (c .before .before .before .before .before .before .before .node-est-idx .ensures)), lt-ltb (a .r .«div_split») (a .m) (omega arith)) (ap (λ (x : ℕ). eqb (a .r .split) x) (c .before .u16-of .ensures))
+    rw (eq-eqb (a .r .«new_count») 0 (c .before .before .before .before .before .before .before .before .before .before .before .before .before .before .if1 .left), eq-eqb (a .r .«div_count») 1 (c .before .before .before .before .before .before .before .before .before .before .before .before .if2 .left), eq-eqb (a .r .join) (a .r .split) (c .before .before .before .before .before .before .before .before .before .before .if3 .left), lt-ltb (a .r .split) (a .n) (omega arith), eq-eqb (a .alt .0) (nodeAt (now (a .img)) (a .r .split) .«est_idx» .0) (c .before .before .before .before .if5 .left ∙ ap (λ (x : EstIdx). x .0) (c .before .before .before .before .before .before .before .node-est-idx .ensures)), lt-ltb (a .r .«div_split») (a .m) (omega arith)) (ap (λ (x : ℕ). eqb (a .r .split) x) (c .before .u32-of .ensures))
 
 pub at-split-spec : {M : Type 1} → statement M
 at-split-spec =
@@ -73,6 +70,5 @@ at-split-spec =
     node-est-idx-requires
     returns-5
     returns-6
-    u16-of-requires
-    cast-d
+    u32-of-requires
     returns-7)

@@ -70,18 +70,15 @@ returns-3 c =
 copy-entries-requires : tie.Need-copy-entries-requires
 copy-entries-requires c κs = search needs
 
-cast-fill-entries : tie.Need-cast-fill-entries
-cast-fill-entries c = search needs
-
 fill-entries-requires : tie.Need-fill-entries-requires
 fill-entries-requires c κs = search needs
 
 splice-divs-requires : tie.Need-splice-divs-requires
 splice-divs-requires c κs =
-    let a = c .before .before .before .before .before .before .before .before .before .before .before .before .before .before .before .before .before .before .before .before .before .before .before .before .before .before .before .args in
-    let p = c .before .before .before .before .before .before .before .before .before .before .before .before .before .before .before .before .before .before .before .before .before .before .before .before .before .before .before .pre in
-    let r = c .before .before .before .before .before .before .before .before .before .before .before .before .before .before .before .diverge-room .ensures in
-    let o = c .before .before .before .before .before .before .before .before .before .before .before .before .before .if3 .left in
+    let a = c .before .before .before .before .before .before .before .before .before .before .before .before .before .before .before .before .before .before .before .before .before .before .before .before .before .before .args in
+    let p = c .before .before .before .before .before .before .before .before .before .before .before .before .before .before .before .before .before .before .before .before .before .before .before .before .before .before .pre in
+    let r = c .before .before .before .before .before .before .before .before .before .before .before .before .before .before .diverge-room .ensures in
+    let o = c .before .before .before .before .before .before .before .before .before .before .before .before .if3 .left in
     (omega (arith, p .0 .inside), omega (arith, p .2), omega (arith, p .0 .held, p .0 .trainRoom), omega (arith, p .0 .held, p .0 .nodeRoom), omega (arith, p .0 .trainRoom, r, o), omega (arith, p .0 .nodeRoom, r, o), omega (arith, p .0 .first, p .0 .newTrains, r, o), omega (arith, p .0 .first, p .0 .newNodes, r, o))
 
 cast-changed : tie.Need-cast-changed
@@ -100,21 +97,21 @@ same-length-2 : tie.Need-same-length-2
 same-length-2 c = search needs
 
 same-length-3 : tie.Need-same-length-3
-same-length-3 c = c .before .before .before .before .before .nt2 .given ∙ c .before .before .before .before .before .before .before .before .before .before .before .before .before .before .before .before .before .before .before .before .before .nt .given
+same-length-3 c = c .before .before .before .before .before .nt2 .given ∙ c .before .before .before .before .before .before .before .before .before .before .before .before .before .before .before .before .before .before .before .before .nt .given
 
 same-length-4 : tie.Need-same-length-4
 same-length-4 c = search needs
 
 returns-4 : tie.Need-returns-4
 returns-4 c =
-    let a = c .before .before .before .before .before .before .before .before .before .before .before .before .before .before .before .before .before .before .before .before .before .before .before .before .before .before .before .before .before .before .before .before .before .before .before .before .before .before .args in
-    let p = c .before .before .before .before .before .before .before .before .before .before .before .before .before .before .before .before .before .before .before .before .before .before .before .before .before .before .before .before .before .before .before .before .before .before .before .before .before .before .pre in
-    let r = c .before .before .before .before .before .before .before .before .before .before .before .before .before .before .before .before .before .before .before .before .before .before .before .before .before .before .diverge-room .ensures in
-    let o = c .before .before .before .before .before .before .before .before .before .before .before .before .before .before .before .before .before .before .before .before .before .before .before .before .if3 .left in
-    let w = c .before .before .before .before .before .before .before .before .before .before .before .before .before .before .before .before .before .before .before .before .before .before .before .before .before .before .before .if2 .left in
-    let u = c .before .before .before .before .before .before .before .before .before .before .before .before .before .before .before .before .before .before .before .before .before .before .before .before .before .before .before .before .if1 .left in
+    let a = c .before .before .before .before .before .before .before .before .before .before .before .before .before .before .before .before .before .before .before .before .before .before .before .before .before .before .before .before .before .before .before .before .before .before .before .before .before .args in
+    let p = c .before .before .before .before .before .before .before .before .before .before .before .before .before .before .before .before .before .before .before .before .before .before .before .before .before .before .before .before .before .before .before .before .before .before .before .before .before .pre in
+    let r = c .before .before .before .before .before .before .before .before .before .before .before .before .before .before .before .before .before .before .before .before .before .before .before .before .before .diverge-room .ensures in
+    let o = c .before .before .before .before .before .before .before .before .before .before .before .before .before .before .before .before .before .before .before .before .before .before .before .if3 .left in
+    let w = c .before .before .before .before .before .before .before .before .before .before .before .before .before .before .before .before .before .before .before .before .before .before .before .before .before .before .if2 .left in
+    let u = c .before .before .before .before .before .before .before .before .before .before .before .before .before .before .before .before .before .before .before .before .before .before .before .before .before .before .before .if1 .left in
     let d = c .before .before .before .before .before .before .before .before .before .before .splice-divs in
-    let t = c .before .before .before .before .before .before .before .before .before .before .before .before .before .before .before .before .before .before .before .before .before .before .copy-entries in
+    let t = c .before .before .before .before .before .before .before .before .before .before .before .before .before .before .before .before .before .before .before .before .before .copy-entries in
     let n = c .before .before .before .before .before .before .before .before .before .before .before .before .before .before .before .before .before .fill-entries in (
       ap (λ (y : Again). answer (y .code) (ends (again (trainOf (now (a .img)) (d .last .0) (d .last .1 .0) (y .header)) (y .split) (y .«div_split»)))) (c .changed .ensures)
           ∙ change-done (now (a .img)) (now (a .dt)) (now (a .dn)) (now (a .pool)) (a .h) (a .r) (a .v) (a .count) (p .0 .counted) (a .k) (omega (arith, u)) (omega (arith, w)) (omega (arith, p .0 .inside)) (omega (arith, r, o)) (d .last .0) (d .last .1 .0) _
@@ -141,7 +138,6 @@ change-at-spec =
     stopped-requires-3
     returns-3
     copy-entries-requires
-    cast-fill-entries
     fill-entries-requires
     splice-divs-requires
     cast-changed

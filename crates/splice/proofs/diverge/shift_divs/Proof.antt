@@ -22,14 +22,11 @@ abbrev μ-loop : tie.MeasureT-loop
 loop-holds : tie.Need-loop-holds Inv-loop μ-loop
 loop-holds c = (refl, (λ j h. refl), (λ ts h. refl))
 
-u16-of-requires : tie.Need-u16-of-requires Inv-loop μ-loop
-u16-of-requires c κs = search needs
-
-cast-x : tie.Need-cast-x Inv-loop μ-loop
-cast-x c = search needs
+u32-of-requires : tie.Need-u32-of-requires Inv-loop μ-loop
+u32-of-requires c κs = search needs
 
 add-x : tie.Need-add-x Inv-loop μ-loop
-add-x c = let l = c .before .before .before .loop in omega (arith, c .before .before .before .before .before .pre (l .i) (omega arith), l .inv .1 (l .i) (omega arith), c .u16-of .ensures)
+add-x c = let l = c .before .before .before .loop in omega (arith, c .before .before .before .before .before .pre (l .i) (omega arith), l .inv .1 (l .i) (omega arith), c .u32-of .ensures)
 
 same-length : tie.Need-same-length Inv-loop μ-loop
 same-length c = search needs
@@ -38,10 +35,7 @@ returns : tie.Need-returns Inv-loop μ-loop
 returns c =
     let l = c .before .before .before .before .loop in
     let a = c .before .before .before .before .before .before .args in
-    λ ts h. sym (shift-no (a .join) (a .base) ts (l .dn) (a .m) (l .i) (omega arith) (omega (arith, c .before .u16-of .ensures))) ∙ l .inv .2 ts h
-
-cast-put-entry : tie.Need-cast-put-entry Inv-loop μ-loop
-cast-put-entry c = let l = c .before .before .before .before .before .loop in omega (arith, c .before .before .before .before .before .before .before .pre (l .i) (omega arith), l .inv .1 (l .i) (omega arith), c .before .before .u16-of .ensures)
+    λ ts h. sym (shift-no (a .join) (a .base) ts (l .dn) (a .m) (l .i) (omega arith) (omega (arith, c .before .u32-of .ensures))) ∙ l .inv .2 ts h
 
 put-entry-requires : tie.Need-put-entry-requires Inv-loop μ-loop
 put-entry-requires c κs = search needs
@@ -57,7 +51,7 @@ loop-again c =
     let l = c .before .before .before .before .before .before .before .before .loop in
     let a = c .before .before .before .before .before .before .before .before .before .before .args in
     let e = c .before .before .put-entry .ensures in
-    let u = c .before .before .before .before .before .u16-of .ensures in (
+    let u = c .before .before .before .before .before .u32-of .ensures in (
       search needs,
       (λ j h. ap (λ (x : List ℕ). getD x j 0) e ∙ getD-set-other (l .dn) (l .i) j _ 0 (λ q. omega arith) ∙ l .inv .1 j (omega arith)),
       (λ ts h. ap (λ (x : List ℕ). fromOn (shiftDivs (a .join) (a .base)) (l .i + 1) (listed (a .m) (divAt ts x))) e ∙ shift-turn (a .join) (a .base) ts (l .dn) (a .m) (l .i) _ (omega arith) (omega arith) (omega arith) (omega arith) ∙ l .inv .2 ts h),
@@ -79,12 +73,10 @@ shift-divs-spec =
     Inv-loop
     μ-loop
     loop-holds
-    u16-of-requires
-    cast-x
+    u32-of-requires
     add-x
     same-length
     returns
-    cast-put-entry
     put-entry-requires
     add-i
     loop-less

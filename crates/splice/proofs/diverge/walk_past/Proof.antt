@@ -24,17 +24,14 @@ abbrev μ-loop : tie.MeasureT-loop
 loop-holds : tie.Need-loop-holds Inv-loop μ-loop
 loop-holds c = λ ts. refl
 
-u16-of-requires : tie.Need-u16-of-requires Inv-loop μ-loop
-u16-of-requires c κs = search needs
-
-cast-d : tie.Need-cast-d Inv-loop μ-loop
-cast-d c = search needs
+u32-of-requires : tie.Need-u32-of-requires Inv-loop μ-loop
+u32-of-requires c κs = search needs
 
 returns : tie.Need-returns Inv-loop μ-loop
 returns c =
     let b = c .before .before .before in
     let a = c .before .before .before .before .before .args in
-    λ ts. sym (walk-hit (λ d. not (eqb (d .«disp_node_idx») (a .x))) (a .m) (divAt ts (now (a .dn))) (b .loop .k) (omega arith) (ap not (ne-eqb (getD (now (a .dn)) (b .loop .k) 0) (a .x) (λ h. c .if1 .taken (c .before .u16-of .ensures ∙ h))))) ∙ b .loop .inv ts
+    λ ts. sym (walk-hit (λ d. not (eqb (d .«disp_node_idx») (a .x))) (a .m) (divAt ts (now (a .dn))) (b .loop .k) (omega arith) (ap not (ne-eqb (getD (now (a .dn)) (b .loop .k) 0) (a .x) (λ h. c .if1 .taken (c .before .u32-of .ensures ∙ h))))) ∙ b .loop .inv ts
 
 add-k : tie.Need-add-k Inv-loop μ-loop
 add-k c = search needs
@@ -46,7 +43,7 @@ loop-again : tie.Need-loop-again Inv-loop μ-loop
 loop-again c =
     let b = c .before .before .before in
     let a = c .before .before .before .before .before .args in
-    λ ts. walk-miss (λ d. not (eqb (d .«disp_node_idx») (a .x))) (a .m) (divAt ts (now (a .dn))) (b .loop .k) (omega arith) (ap not (eq-eqb (getD (now (a .dn)) (b .loop .k) 0) (a .x) (sym (c .before .u16-of .ensures) ∙ c .if1 .left))) ∙ b .loop .inv ts
+    λ ts. walk-miss (λ d. not (eqb (d .«disp_node_idx») (a .x))) (a .m) (divAt ts (now (a .dn))) (b .loop .k) (omega arith) (ap not (eq-eqb (getD (now (a .dn)) (b .loop .k) 0) (a .x) (sym (c .before .u32-of .ensures) ∙ c .if1 .left))) ∙ b .loop .inv ts
 
 returns-2 : tie.Need-returns-2 Inv-loop μ-loop
 returns-2 c =
@@ -61,8 +58,7 @@ walk-past-spec =
     Inv-loop
     μ-loop
     loop-holds
-    u16-of-requires
-    cast-d
+    u32-of-requires
     returns
     add-k
     loop-less

@@ -1,5 +1,5 @@
 use mathlib.Core.Path.{sym, ap, subst, _∙_}
-use Prim.Native.Nat.{ℕ, _<_}
+use Prim.Native.Nat.{ℕ, _^_, _<_}
 use native.Mathlib.Omega.{arith}
 use denote.Ref.{now}
 use lib.ListN.{length, getD}
@@ -20,7 +20,7 @@ start-diverges-requires c κs =
     let a = z .args in
     let p = z .pre in
     let bytes : ((i : ℕ) → getD (now (a .img)) i 0 < 256) = λ i. omega (arith, c .before .before .before .before .before .before .before .before .before .before .before .before .slice-known .given i) in
-    let held : ((i : ℕ) → getD (now (a .occ)) i 0 < 65536) = λ i. omega (arith, c .before .before .before .before .before .before .before .before .before .before .before .shared-slice-known .given i) in
+    let held : ((i : ℕ) → getD (now (a .occ)) i 0 < 2 ^ 32) = λ i. omega (arith, c .before .before .before .before .before .before .before .before .before .before .before .shared-slice-known .given i) in
     let s = begin-size (now (a .img)) (now (a .occ)) (a .h) (p .0) bytes held in
     (s .0, omega (arith, s .1, p .1 .sizes .trains), omega (arith, s .1, p .1 .sizes .nodes))
 
@@ -30,8 +30,8 @@ derive-requires c κs =
     let a = z .args in
     let p = z .pre in
     let bytes : ((i : ℕ) → getD (now (a .img)) i 0 < 256) = λ i. omega (arith, c .before .before .before .before .before .before .before .before .before .before .before .before .before .before .before .before .before .before .before .before .slice-known .given i) in
-    let held : ((i : ℕ) → getD (now (a .occ)) i 0 < 65536) = λ i. omega (arith, c .before .before .before .before .before .before .before .before .before .before .before .before .before .before .before .before .before .before .before .shared-slice-known .given i) in
-    let small : a .o .moved .0 < 65536 = omega (arith, z .good) in
+    let held : ((i : ℕ) → getD (now (a .occ)) i 0 < 2 ^ 32) = λ i. omega (arith, c .before .before .before .before .before .before .before .before .before .before .before .before .before .before .before .before .before .before .before .shared-slice-known .given i) in
+    let small : a .o .moved .0 < 2 ^ 32 = omega (arith, z .good) in
     let v = c .before .before .before .before .before .before .before .start-diverges in
     let t = begin-accepted (now (a .img)) (now (a .occ)) (a .h) (p .0) bytes held (a .o) small (v .last .1 .1 .1 .0) (v .last .1 .1 .1 .1 .0) (v .ensures) in
     (omega (arith, path-within (now (a .occ)) (now (a .img)) (v .last .1 .1 .1 .0) (v .last .1 .1 .1 .1 .0) (a .h) t, p .1 .sizes .column), λ i k. omega (arith, path-ests (now (a .occ)) (now (a .img)) (v .last .1 .1 .1 .0) (v .last .1 .1 .1 .1 .0) (a .h) t i k, p .1 .sizes .flags))
@@ -60,8 +60,8 @@ rounds-requires c κs =
     let a = z .args in
     let p = z .pre in
     let bytes : ((i : ℕ) → getD (now (a .img)) i 0 < 256) = λ i. omega (arith, c .before .before .before .before .before .before .before .before .before .before .before .before .before .before .before .before .before .before .before .before .before .before .before .before .before .before .before .before .before .before .before .before .before .before .before .before .before .before .before .before .before .before .before .before .before .before .before .before .before .slice-known .given i) in
-    let held : ((i : ℕ) → getD (now (a .occ)) i 0 < 65536) = λ i. omega (arith, c .before .before .before .before .before .before .before .before .before .before .before .before .before .before .before .before .before .before .before .before .before .before .before .before .before .before .before .before .before .before .before .before .before .before .before .before .before .before .before .before .before .before .before .before .before .before .before .before .shared-slice-known .given i) in
-    let small : a .o .moved .0 < 65536 = omega (arith, z .good) in
+    let held : ((i : ℕ) → getD (now (a .occ)) i 0 < 2 ^ 32) = λ i. omega (arith, c .before .before .before .before .before .before .before .before .before .before .before .before .before .before .before .before .before .before .before .before .before .before .before .before .before .before .before .before .before .before .before .before .before .before .before .before .before .before .before .before .before .before .before .before .before .before .before .before .shared-slice-known .given i) in
+    let small : a .o .moved .0 < 2 ^ 32 = omega (arith, z .good) in
     let v = c .before .before .before .before .before .before .before .before .before .before .before .before .before .before .before .before .before .before .before .before .before .before .before .before .before .before .before .before .before .before .before .before .before .before .before .before .start-diverges in
     let u = c .before .before .before .before .before .before .before .before .before .before .before .before .before .before .before .before .before .before .before .before .before .before .before .before .before .before .before .before .derive in
     let s = c .before .before .before .before .before .before .before .strays-of in
@@ -104,8 +104,8 @@ returns c =
     let a = z .args in
     let p = z .pre in
     let bytes : ((i : ℕ) → getD (now (a .img)) i 0 < 256) = λ i. omega (arith, c .before .before .before .before .before .before .before .before .before .before .before .before .before .before .before .before .before .before .before .before .before .before .before .before .before .before .before .before .before .before .before .before .before .before .before .before .before .before .before .before .before .before .before .before .before .before .before .before .before .before .before .before .before .before .before .before .before .before .before .before .slice-known .given i) in
-    let held : ((i : ℕ) → getD (now (a .occ)) i 0 < 65536) = λ i. omega (arith, c .before .before .before .before .before .before .before .before .before .before .before .before .before .before .before .before .before .before .before .before .before .before .before .before .before .before .before .before .before .before .before .before .before .before .before .before .before .before .before .before .before .before .before .before .before .before .before .before .before .before .before .before .before .before .before .before .before .before .before .shared-slice-known .given i) in
-    let small : a .o .moved .0 < 65536 = omega (arith, z .good) in
+    let held : ((i : ℕ) → getD (now (a .occ)) i 0 < 2 ^ 32) = λ i. omega (arith, c .before .before .before .before .before .before .before .before .before .before .before .before .before .before .before .before .before .before .before .before .before .before .before .before .before .before .before .before .before .before .before .before .before .before .before .before .before .before .before .before .before .before .before .before .before .before .before .before .before .before .before .before .before .before .before .before .before .before .before .shared-slice-known .given i) in
+    let small : a .o .moved .0 < 2 ^ 32 = omega (arith, z .good) in
     let v = c .before .before .before .before .before .before .before .before .before .before .before .before .before .before .before .before .before .before .before .before .before .before .before .before .before .before .before .before .before .before .before .before .before .before .before .before .before .before .before .before .before .before .before .before .before .before .before .start-diverges in
     let u = c .before .before .before .before .before .before .before .before .before .before .before .before .before .before .before .before .before .before .before .before .before .before .before .before .before .before .before .before .before .before .before .before .before .before .before .before .before .before .before .derive in
     let s = c .before .before .before .before .before .before .before .before .before .before .before .before .before .before .before .before .before .before .strays-of in

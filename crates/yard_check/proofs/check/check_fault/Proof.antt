@@ -13,7 +13,7 @@ call-fault-requires c κs = search needs
 
 returns : tie.Need-returns
 unfolding checkFault
-returns c = let f = c .before .before .call-fault in rw (← f .ensures, ne-eqb (f .result .number) 0 (c .if1 .taken))
+returns c occ q = let f = c .before .before .call-fault in rw (← f .ensures occ q, ne-eqb (f .result .number) 0 (c .if1 .taken))
 
 yard-fits-requires : tie.Need-yard-fits-requires
 yard-fits-requires c κs = search needs
@@ -26,22 +26,22 @@ slots-fault-requires c κs = search needs
 
 returns-2 : tie.Need-returns-2
 unfolding checkFault slotsFault
-returns-2 c =
+returns-2 c occ q =
     let f = c .before .before .before .before .before .before .call-fault in
-    let y = now (c .before .before .before .before .before .before .before .before .before .before .args .yard) in
+    let y = now (c .before .before .before .before .before .before .before .before .before .args .yard) in
     let ok : yardFits y ≡ true = sym (c .before .before .before .yard-fits .ensures) ∙ c .before .before .if2 .taken in
-    rw (← f .ensures, eq-eqb (f .result .number) 0 (c .before .before .before .before .if1 .left), ok, ← c .before .slot-count .ensures) (c .slots-fault .ensures)
+    rw (← f .ensures occ q, eq-eqb (f .result .number) 0 (c .before .before .before .before .if1 .left), ok, ← c .before .slot-count .ensures) (c .slots-fault .ensures)
 
 fault-requires : tie.Need-fault-requires
 fault-requires c κs = search needs
 
 returns-3 : tie.Need-returns-3
 unfolding checkFault
-returns-3 c =
+returns-3 c occ q =
     let f = c .before .before .before .before .before .call-fault in
-    let y = now (c .before .before .before .before .before .before .before .before .before .args .yard) in
+    let y = now (c .before .before .before .before .before .before .before .before .args .yard) in
     let bad : yardFits y ≡ false = sym (c .before .before .yard-fits .ensures) ∙ c .before .if2 .left in
-    rw (← f .ensures, eq-eqb (f .result .number) 0 (c .before .before .before .if1 .left), bad) (c .fault .ensures)
+    rw (← f .ensures occ q, eq-eqb (f .result .number) 0 (c .before .before .before .if1 .left), bad) (c .fault .ensures)
 
 pub check-fault-spec : {M : Type 1} → statement M
 check-fault-spec =

@@ -1,3 +1,7 @@
+use mathlib.Core.Path.{ap, _∙_}
+use Prim.Native.Nat.{_+_}
+use Rattle.link_rules.specs.Octets.{putLe}
+use Rattle.link_rules.proofs.OctetLaws.{put-mod}
 use Rattle.yard_check.specs.Check.{putRow}
 use borrow.Author.Needs.{needs}
 use Rattle.yard_check.proofs.check.put_row.Statement.{statement}
@@ -21,6 +25,9 @@ put-u16-requires-3 c κs = search needs
 add-put-u16-3 : tie.Need-add-put-u16-3
 add-put-u16-3 c = search needs
 
+cast-put-u16 : tie.Need-cast-put-u16
+cast-put-u16 c = search needs
+
 put-u16-requires-4 : tie.Need-put-u16-requires-4
 put-u16-requires-4 c κs = search needs
 
@@ -41,7 +48,16 @@ same-length c = search needs
 
 returns : tie.Need-returns
 unfolding putRow
-returns c = cc
+returns c =
+    let a = c .before .before .before .before .before .before .before .before .before .before .before .before .before .before .before .before .before .before .before .before .before .before .before .before .before .before .args in
+    let r = a .r in
+    c .before .before .put-u322 .ensures
+    ∙ ap (putLe 4 (r .faults) (a .at + 12)) (c .before .before .before .before .before .before .put-u32 .ensures
+    ∙ ap (putLe 4 (r .strays) (a .at + 8)) (c .before .before .before .before .before .before .before .before .before .before .put-u164 .ensures
+    ∙ put-mod 2 (r .holder .0) (a .at + 6) _
+    ∙ ap (putLe 2 (r .holder .0) (a .at + 6)) (c .before .before .before .before .before .before .before .before .before .before .before .before .before .before .before .put-u163 .ensures
+    ∙ ap (putLe 2 (r .rounds) (a .at + 4)) (c .before .before .before .before .before .before .before .before .before .before .before .before .before .before .before .before .before .before .before .put-u162 .ensures
+    ∙ ap (putLe 2 (r .place) (a .at + 2)) (c .before .before .before .before .before .before .before .before .before .before .before .before .before .before .before .before .before .before .before .before .before .before .before .put-u16 .ensures)))))
 
 pub put-row-spec : {M : Type 1} → statement M
 put-row-spec =
@@ -53,6 +69,7 @@ put-row-spec =
     add-put-u16-2
     put-u16-requires-3
     add-put-u16-3
+    cast-put-u16
     put-u16-requires-4
     add-put-u32
     put-u32-requires

@@ -6,9 +6,6 @@ use borrow.Author.Needs.{needs}
 use Rattle.yard_check.proofs.check.slots_fault.Statement.{statement}
 use Rattle.yard_check.proofs.check.slots_fault.Tie as tie
 
-cast-if1 : tie.Need-cast-if1
-cast-if1 c = search needs
-
 fault-requires : tie.Need-fault-requires
 fault-requires c κs = search needs
 
@@ -64,7 +61,6 @@ pub slots-fault-spec : {M : Type 1} → statement M
 slots-fault-spec =
     tie.close
     (tie.spec
-    cast-if1
     fault-requires
     returns
     fault-requires-2

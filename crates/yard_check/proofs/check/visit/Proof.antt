@@ -41,13 +41,13 @@ returns-2 c =
     ap (λ (r : Check.Row). Check.visit r (now (a .img))) (c .stays-row2 .ensures)
     ∙ sym (moved-stays (now (a .occ)) (argsOf (now (a .blocking)) (a .a)) (a .t) (now (a .img)) (sym (c .before .before .before .before .before .is-finished .ensures) ∙ c .before .before .before .before .if1 .left) (c .before .before .if2 .taken))
 
-update-free-path-requires : tie.Need-update-free-path-requires
-update-free-path-requires c κs = search needs
+update-over-requires : tie.Need-update-over-requires
+update-over-requires c κs = search needs
 
 updated-row-requires : tie.Need-updated-row-requires
 updated-row-requires c κs =
     let a = c .before .before .before .before .before .before .before .before .before .before .before .before .args in
-    subst (λ (x : UpdatedImage). ColumnsFit (x .answer .status) (x .answer .tally .strays)) (sym (c .before .before .update-free-path .ensures))
+    subst (λ (x : UpdatedImage). ColumnsFit (x .answer .status) (x .answer .tally .strays)) (sym (c .before .before .update-over .ensures))
     (columns-fit (now (a .img)) (now (a .occ)) (now (a .blocking)) (a .a .moved .0) (a .a .local) (a .a .limit) (c .before .before .before .before .before .before .before .before .before .before .before .before .pre) (λ i. omega (arith, c .before .before .before .before .before .before .before .before .before .before .before .slice-known .given i)) (omega (arith, c .before .before .before .before .before .struct-known .given)))
 
 same-length-3 : tie.Need-same-length-3
@@ -56,8 +56,8 @@ same-length-3 c = search needs
 returns-3 : tie.Need-returns-3
 returns-3 c =
     let a = c .before .before .before .before .before .before .before .before .before .before .before .before .before .args in
-    ap (λ (r : Check.Row). Check.visit r (c .before .before .before .update-free-path .last .0)) (c .updated-row .ensures)
-    ∙ (ap (λ (x : UpdatedImage). Check.visit (Check.updatedRow (x .answer) (a .a .moved .0)) (x .image)) (c .before .before .before .update-free-path .ensures)
+    ap (λ (r : Check.Row). Check.visit r (c .before .before .before .update-over .last .0)) (c .updated-row .ensures)
+    ∙ (ap (λ (x : UpdatedImage). Check.visit (Check.updatedRow (x .answer) (a .a .moved .0)) (x .image)) (c .before .before .before .update-over .ensures)
     ∙ sym (updated-at-once (now (a .occ)) (argsOf (now (a .blocking)) (a .a)) (a .t) (now (a .img)) (c .before .before .before .before .before .before .before .before .before .before .before .before .before .pre) (sym (c .before .before .before .before .before .before .before .before .is-finished .ensures) ∙ c .before .before .before .before .before .before .before .if1 .left) (c .before .before .before .before .before .if2 .left)))
 
 pub visit-spec : {M : Type 1} → statement M
@@ -71,7 +71,7 @@ visit-spec =
     stays-row-requires-2
     same-length-2
     returns-2
-    update-free-path-requires
+    update-over-requires
     updated-row-requires
     same-length-3
     returns-3)

@@ -25,6 +25,9 @@ loop-holds c = let a = c .before .before .before .args in (search needs, c .befo
 add-t12 : tie.Need-add-t12 Inv-loop μ-loop
 add-t12 c = search needs
 
+cast-t13 : tie.Need-cast-t13 Inv-loop μ-loop
+cast-t13 c = search needs
+
 part-requires : tie.Need-part-requires Inv-loop μ-loop
 part-requires c κs = search needs
 
@@ -70,6 +73,7 @@ put-slot-lines-spec =
     μ-loop
     loop-holds
     add-t12
+    cast-t13
     part-requires
     free-column-requires
     put-slot-line-requires

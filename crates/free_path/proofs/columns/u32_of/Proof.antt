@@ -1,8 +1,8 @@
-use denote.Ref.{now}
 use lib.ListN.{List·getD-eq-default}
+use denote.Ref.{now}
 use borrow.Author.Needs.{needs}
-use Rattle.search.proofs.views.u32_of.Statement.{statement}
-use Rattle.search.proofs.views.u32_of.Tie as tie
+use Rattle.free_path.proofs.columns.u32_of.Statement.{statement}
+use Rattle.free_path.proofs.columns.u32_of.Tie as tie
 
 returns : tie.Need-returns
 returns c =

@@ -1,0 +1,49 @@
+use mathlib.Core.Path.{refl, sym, subst, _∙_}
+use denote.Ref.{now}
+use Rattle.update_free_path.specs.Updates.{Begins}
+use borrow.Author.Needs.{needs}
+use Rattle.update_free_path.proofs.update_over.Statement.{statement}
+use Rattle.update_free_path.proofs.update_over.Tie as tie
+
+start-fault-requires : tie.Need-start-fault-requires
+start-fault-requires c κs = search needs
+
+refused-requires : tie.Need-refused-requires
+refused-requires c κs = search needs
+
+same-length : tie.Need-same-length
+same-length c = search needs
+
+returns : tie.Need-returns
+returns c =
+    let a = c .before .before .before .before .before .before .before .before .args in
+    c .refused .ensures (now (a .image)) ∙ c .before .before .before .start-fault .ensures (now (a .occ)) refl .refused (c .before .if1 .taken)
+
+path-header-requires : tie.Need-path-header-requires
+path-header-requires c κs = search needs
+
+update-begun-requires : tie.Need-update-begun-requires
+update-begun-requires c κs =
+    let a = c .before .before .before .before .before .before .before .before .before .before .args in
+    subst (Begins (now (a .image)) (now (a .occ))) (sym (c .before .path-header .ensures)) (c .before .before .before .before .before .start-fault .ensures (now (a .occ)) refl .begins (c .before .before .before .if1 .left))
+
+same-length-2 : tie.Need-same-length-2
+same-length-2 c = search needs
+
+returns-2 : tie.Need-returns-2
+returns-2 c =
+    let a = c .before .before .before .before .before .before .before .before .before .before .before .before .before .args in
+    c .before .before .update-begun .ensures ∙ c .before .before .before .before .before .before .before .before .start-fault .ensures (now (a .occ)) refl .goes (c .before .before .before .before .before .before .if1 .left)
+
+pub update-over-spec : {M : Type 1} → statement M
+update-over-spec =
+    tie.close
+    (tie.spec
+    start-fault-requires
+    refused-requires
+    same-length
+    returns
+    path-header-requires
+    update-begun-requires
+    same-length-2
+    returns-2)
