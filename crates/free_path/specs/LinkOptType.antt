@@ -1,4 +1,4 @@
--- The class of the blocking list, and where the moved train can be met (free_path.rs 4-150). Assumes nothing.
+-- The class of the blocking list, and where the moved train can be met (free_path.rs 4-149). Assumes nothing.
 use Prim.Native.Nat.{ℕ, _+_, _-_, _^_, _%_}
 use mathlib.Core.Bool.{Bool, true, false, cond, not, _&&_}
 use mathlib.Core.List.{List, [], _∷_, map}
@@ -29,7 +29,7 @@ contains ls l = any (sameLink l) ls
 abbrev pub linkIdxPath : List DispNode → List LinkIdx
 linkIdxPath path = map arriving path
 
--- ---- LinkOptType::new (12-43)
+-- ---- LinkOptType::new (12-42)
 
 abbrev pub least : ℕ → ℕ → ℕ
 least a b = cond (leb a b) a b
@@ -67,7 +67,7 @@ pub record Sentinels : Type 0 where
   -- div_idx_sentinel
   pub divs : ℕ
 
--- the first diverge node of the next path node (61-68)
+-- the first diverge node of the next path node (61-67)
 abbrev pub afterSentinel : List DivergeNode → ℕ → ℕ → Res Sentinels
 afterSentinel divs j node =
     let r : Res Sentinels = (walkFrom (λ d. not (eqb (d .«disp_node_idx») node)) divs j >>= λ k. ok (record { node = node; divs = k })) in
@@ -82,17 +82,17 @@ calcIdxSentinels i moved divs = do
   d ← at divs j
   afterSentinel divs (j + 1) (d .«disp_node_idx»)
 
--- ---- find_train_intersect (71-150)
+-- ---- find_train_intersect (71-149)
 
 -- link.idx().wrapping_sub(min), on u32
 abbrev pub wrapping : ℕ → ℕ → ℕ
 wrapping a b = (a + (2 ^ 32 - b)) % 2 ^ 32
 
--- the range test: the difference from the smallest link is taken wrapping and compared with the span (112-116)
+-- the range test: the difference from the smallest link is taken wrapping and compared with the span (113-117)
 abbrev pub inRange : ℕ → ℕ → LinkIdx → Bool
 inRange a span l = leb (wrapping (l .0) a) span
 
--- does the walk stop at this link? Single: at the link, taken or not (95); Range: in the span and occupied (112-124); Check: occupied (139)
+-- does the walk stop at this link? Single: at the link, taken or not (94); Range: in the span and occupied (112-126); Check: occupied (139)
 abbrev pub stops : LinkOptType → List ℕ → LinkIdx → Bool
 stops None occ l = false
 stops (Single c) occ l = sameLink l c
@@ -120,7 +120,7 @@ plainly Check = Check
 abbrev pub firstOccupied : ℕ → ℕ → List LinkIdx → List ℕ → ℕ
 firstOccupied split sentinel links occ = split + passes (occupied occ) (part split sentinel links)
 
--- a class None is unreachable!() (147)
+-- a class None is unreachable!() (146)
 unfoldable pub findTrainIntersect : ℕ → ℕ → LinkOptType → List LinkIdx → List ℕ → Res ℕ
 findTrainIntersect split sentinel class links occ =
     let r = (need (leb sentinel (length links)) >> (need (not (isNone class)) >> ok (intersect split sentinel class links occ))) in

@@ -51,7 +51,7 @@ badStep a b x y =
 unfoldable pub onPath : List DispNode → EstIdx → Bool
 onPath path e = any (λ n. sameEst e (n .«est_idx»)) path
 
--- the errors of the steps from a on (752-800); the mark error (793-799) cannot occur: ValidateLaws.marked
+-- the errors of the steps from a on (752-801); the mark error (793-800) cannot occur: ValidateLaws.marked
 unfoldable pub badSteps : List EstTime → DispNode → List DispNode → Res ℕ
 badSteps est a [] = ok 0
 badSteps est a (b ∷ ns) =

@@ -8,7 +8,7 @@ use lib.ListN.{set}
 use lib.Ieee.{Float}
 use Rattle.link_rules.specs.declared.refusal.Answer.{Answer}
 use Rattle.link_rules.specs.declared.refusal.Answer.the-variants.{Done, Refused}
-use Rattle.image_fault.specs.declared.Fault.{Fault}
+use Rattle.link_rules.specs.declared.refusal.Refusal.{Refusal}
 use Rattle.train_disp.specs.declared.Order.{Order}
 use Rattle.train_update.specs.Update.{Status, Success, Blocked, Faulty, Refused as RefusedBy}
 use Rattle.update_image.specs.UpdateImage.{UpdatedImage}
@@ -20,7 +20,7 @@ answerWord Done = 0
 answerWord (Refused r) = r .number + 65536 * r .place
 
 -- 0 where there is no fault
-abbrev pub faultWord : Fault → ℕ
+abbrev pub faultWord : Refusal → ℕ
 faultWord f = f .number + 65536 * f .place
 
 -- what a layout is told, from plain numbers

@@ -18,11 +18,11 @@ ghost use Rattle.path_page.specs.Page.{drawingRule, pageFault, pageAfter};
 ghost use Rattle.free_path_c.specs.Words.{answerWord, faultWord, orderOf, flagOf, statusWord, codeOf, errorsOf, Told, checkWord, bitOf, threeWords, checkWords, ToldCheck};
 use disp_structs::Metres;
 use image_fault;
-use image_fault::Fault;
 use link_rules::advance_rewind;
 use link_rules::link_idx::LinkIdx;
 use link_rules::link_idx::NarrowTrainIdx;
 use link_rules::refusal::Answer;
+use link_rules::refusal::Refusal;
 use path_page;
 use train_disp::Order;
 use update_free_path;
@@ -61,7 +61,7 @@ pub extern "C" fn lavtoeu_image_fault(image: &[u8], links: u32) -> u32
     fault_word(image_fault::image_fault(image, links))
 }
 
-fn fault_word(f: Fault) -> u32
+fn fault_word(f: Refusal) -> u32
     ensures { λ r. ⌜ r ≡ faultWord f ⌝ }
 {
     (f.number as u32) + 65536 * (f.place as u32)

@@ -18,12 +18,13 @@ use Rattle.image.specs.Codec.{decoded, storedInto, encoded}
 use Rattle.image.proofs.RecordLaws.{Number}
 use Rattle.image.proofs.Parts.{InRoom}
 use Rattle.image.proofs.CodecLaws.{GoodImage, Keeps, encoded-decoded, stored-encoded}
-use Rattle.image_fault.specs.ImageFault.{refusedUnless, lengthFault, layoutFault, CountsFit, countsFit, partsFit, trainFits, estTypeFits, nodeTypeFits, zeroWord, unusedZero, recordsFit, imageFits, orElse, firstUnfit, floatFits, timeFits, distFits, estLinksFit, eventFits, estFits, nodeFits, headerFits, valueFault, cycleFault, routeFault, imageFault}
-use Rattle.image_fault.specs.declared.Fault.{Fault}
+use Rattle.image_fault.specs.ImageFault.{lengthFault, layoutFault, CountsFit, countsFit, partsFit, trainFits, estTypeFits, nodeTypeFits, zeroWord, unusedZero, recordsFit, imageFits, firstUnfit, floatFits, timeFits, distFits, estLinksFit, eventFits, estFits, nodeFits, headerFits, valueFault, cycleFault, routeFault, imageFault}
+use Rattle.link_rules.specs.Refusals.{refusedUnless, orElse}
+use Rattle.link_rules.specs.declared.refusal.Refusal.{Refusal}
 use Rattle.image_fault.proofs.ScanLaws.{both, first-clean}
 
 -- where neither is a fault
-pub or-else-clean : (a b : Fault) → orElse a b .number ≡ 0 → (a .number ≡ 0) × (b .number ≡ 0)
+pub or-else-clean : (a b : Refusal) → orElse a b .number ≡ 0 → (a .number ≡ 0) × (b .number ≡ 0)
 or-else-clean a b h = go (eqb (a .number) 0) refl h
   where
     go : (t : Bool) → eqb (a .number) 0 ≡ t → cond t b a .number ≡ 0 → (a .number ≡ 0) × (b .number ≡ 0)

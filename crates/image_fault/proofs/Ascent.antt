@@ -14,7 +14,8 @@ use Rattle.disp_structs.proofs.ListedLaws.{listed-at}
 use Rattle.est_times.proofs.WalkLaws.{or-cases}
 use Rattle.est_times.proofs.CycleLaws.{rank-none}
 use Rattle.image.specs.Image.{estCount, estAt}
-use Rattle.image_fault.specs.ImageFault.{noFault, nexts, alts, cycleRefused, cycleFault, isLater, leadsOn}
+use Rattle.image_fault.specs.ImageFault.{nexts, alts, cycleRefused, cycleFault, isLater, leadsOn}
+use Rattle.link_rules.specs.Refusals.{noRefusal}
 use Rattle.image_fault.proofs.ScanLaws.{both}
 
 later-less : (a : ℕ) (t : EstIdx) (b : ℕ) → isLater a t ≡ true → t .0 ≡ b → (b ≡ 0 → ⊥) → a < b
@@ -23,7 +24,7 @@ later-less a t b h q n = ⊎-elim
     (λ p. rw q at (ltb-true a (t .0) p))
     (or-cases (eqb (t .0) 0) (ltb a (t .0)) h)
 
-pub ascends-none : (bs : List ℕ) → allBelow (estCount bs) (leadsOn bs) ≡ true → cycleFault bs ≡ noFault
+pub ascends-none : (bs : List ℕ) → allBelow (estCount bs) (leadsOn bs) ≡ true → cycleFault bs ≡ noRefusal
 unfolding cycleFault leadsOn
 ascends-none bs h = ap cycleRefused (rank-none (nexts bs) (alts bs) (estCount bs) (λ i. i) λ a b g.
     let r = both (isLater a (estAt bs a .«idx_next»)) (isLater a (estAt bs a .«idx_next_alt»)) (all-at (leadsOn bs) (estCount bs) a h (g .from)) in

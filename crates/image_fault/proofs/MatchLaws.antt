@@ -25,8 +25,9 @@ use Rattle.image.proofs.CodecLaws.{Keeps, Held}
 use Rattle.image.proofs.MatchEncoded.{encoded-match, renumbered-held}
 use Rattle.image.specs.ImageMatch.{ImagesMatch}
 use Rattle.image.proofs.MatchLaws.{le-before, le-after, header-low, header-high, est-count, path-count, diverge-count, diverge-room, path-header, est-match, node-match, diverge-match, decoded-match}
-use Rattle.image_fault.specs.ImageFault.{refusedUnless, lengthFault, orElse, firstUnfit, CountsFit, countsFit, partsFit, trainFits, estTypeFits, nodeTypeFits, zeroWord, unusedZero, recordsFit, imageFits, estLinksFit, eventFits, estFits, nodeFits, headerFits, valueFault, nexts, alts, cycleFault, comesFrom, endsAt, arrivesOn, arrived, firstArrival, onRoute, innerFits, divergeFits, routeFault, imageFault}
-use Rattle.image_fault.specs.declared.Fault.{Fault}
+use Rattle.image_fault.specs.ImageFault.{lengthFault, firstUnfit, CountsFit, countsFit, partsFit, trainFits, estTypeFits, nodeTypeFits, zeroWord, unusedZero, recordsFit, imageFits, estLinksFit, eventFits, estFits, nodeFits, headerFits, valueFault, nexts, alts, cycleFault, comesFrom, endsAt, arrivesOn, arrived, firstArrival, onRoute, innerFits, divergeFits, routeFault, imageFault}
+use Rattle.link_rules.specs.Refusals.{refusedUnless, orElse}
+use Rattle.link_rules.specs.declared.refusal.Refusal.{Refusal}
 use Rattle.image_fault.proofs.ScanLaws.{step-fit, step-unfit}
 use Rattle.image_fault.proofs.AcceptLaws.{counts-fit, fits-counts, clean-node, node-fits, accepted, stored-accepted}
 
@@ -50,7 +51,7 @@ first-same m f g (suc k) i h = go (g i) refl (first-same m f g k (i + 1) (λ j l
     go false e r = step-unfit m f k i (here ∙ e) ∙ sym (step-unfit m g k i e)
 
 -- what comes behind a fault is of no account
-or-else-same : (a b c : Fault) → (a .number ≡ 0 → b ≡ c) → orElse a b ≡ orElse a c
+or-else-same : (a b c : Refusal) → (a .number ≡ 0 → b ≡ c) → orElse a b ≡ orElse a c
 or-else-same a b c h = go (eqb (a .number) 0) refl
   where
     go : (t : Bool) → eqb (a .number) 0 ≡ t → cond t b a ≡ cond t c a
@@ -314,7 +315,7 @@ module _ (p q : ℕ → ℕ) (l top : ℕ) (rp : Renumbering (l - 1) p) (rq : Re
   state-match = decoded-match p q bs bs′ m (counts .few-path) (counts .few-diverge)
 
   pub accepted-match : imageFault bs′ l .number ≡ 0
-  accepted-match = ap (λ (f : Fault). f .number) (image-fault-match p q l top rp rq bs bs′ m) ∙ ok
+  accepted-match = ap (λ (f : Refusal). f .number) (image-fault-match p q l top rp rq bs bs′ m) ∙ ok
 
   module _ (t : Train) (k : Keeps t (decoded bs)) (h : Held t) where
     keeps′ : Keeps (rTrainDisp p q t) (rTrainDisp p q (decoded bs))

@@ -13,7 +13,8 @@ use Rattle.link_rules.proofs.TableLaws.{all-at}
 use Rattle.disp_structs.specs.Values.{isArrive}
 use Rattle.disp_structs.specs.declared.EstType.the-variants.{Arrive, Clear, Fake}
 use Rattle.image.specs.Image.{estCount, pathCount, divergeCount, estPlace, nodePlace, typeOf, estFrom, nodeFrom, nodeAt}
-use Rattle.image_fault.specs.ImageFault.{noFault, firstUnfit, countsFit, partsFit, trainFits, estTypeFits, nodeTypeFits, unusedZero, recordsFit, imageFits, floatFits, timeFits, eventFits, estLinksFit, estFits, nodeFits, headerFits, valueFault, leadsOn, cycleFault, onRoute, divergeFits, routeFault, imageFault}
+use Rattle.image_fault.specs.ImageFault.{firstUnfit, countsFit, partsFit, trainFits, estTypeFits, nodeTypeFits, unusedZero, recordsFit, imageFits, floatFits, timeFits, eventFits, estLinksFit, estFits, nodeFits, headerFits, valueFault, leadsOn, cycleFault, onRoute, divergeFits, routeFault, imageFault}
+use Rattle.link_rules.specs.Refusals.{noRefusal}
 use Rattle.image_fault.specs.AllFit.{eventPasses, stepPasses, estPasses, nodePasses, pathPasses, headPasses, recordsPass, allFit}
 use Rattle.image_fault.proofs.ScanLaws.{both, step-fit}
 use Rattle.image_fault.proofs.AcceptLaws.{node-fits, event-link}
@@ -128,7 +129,7 @@ unfolding allBelow
 all-of test zero h = refl
 all-of test (suc n) h = rw (all-of test n (λ i l. h i (omega arith)), h n (omega arith))
 
-first-none : (m : ℕ) (fits : ℕ → Bool) (k i : ℕ) → ((j : ℕ) → j < i + k → fits j ≡ true) → firstUnfit m fits k i ≡ noFault
+first-none : (m : ℕ) (fits : ℕ → Bool) (k i : ℕ) → ((j : ℕ) → j < i + k → fits j ≡ true) → firstUnfit m fits k i ≡ noRefusal
 unfolding firstUnfit
 first-none m fits zero i h = refl
 first-none m fits (suc k) i h = rw (step-fit m fits k i (h i (omega arith))) (first-none m fits k (i + 1) (λ j l. h j (omega arith)))
@@ -167,21 +168,21 @@ module _ (bs : List ℕ) (l : ℕ) (head : headPasses bs ≡ true) (records : re
       let d = both (headerFits bs) (unusedZero bs) (c .1) in
       rw (a .0, b .0, c .0, all-of (estTypeFits bs) (estCount bs) (λ i h. est i h .kind), all-of (nodeTypeFits bs) (pathCount bs) (λ i h. node i h .0), d .1)
 
-  values : valueFault bs l ≡ noFault
+  values : valueFault bs l ≡ noRefusal
   unfolding headPasses valueFault
   values =
       let d = both (headerFits bs) (unusedZero bs) (both (trainFits bs) _ (both (partsFit bs) _ (both (countsFit bs) _ head .1) .1) .1) in
       rw (first-none 7 (estFits bs l) (estCount bs) 0 (λ i h. est i (omega arith) .values), first-none 7 (nodeFits bs l) (pathCount bs) 0 (λ i h. node i (omega arith) .1), d .0)
 
-  cycle : cycleFault bs ≡ noFault
+  cycle : cycleFault bs ≡ noRefusal
   cycle = ascends-none bs (all-of (leadsOn bs) (estCount bs) (λ i h. est i h .onward))
 
-  route : routeFault bs ≡ noFault
+  route : routeFault bs ≡ noRefusal
   unfolding routeFault
   route =
       rw (first-none 9 (onRoute bs) (pathCount bs) 0 (λ i h. path i (omega arith) .1), first-none 9 (divergeFits bs) (divergeCount bs) 0 (λ i h. all-at (divergeFits bs) (divergeCount bs) i diverges (omega arith)))
 
-pub all-fit-none : (bs : List ℕ) (l : ℕ) → allFit bs l ≡ true → imageFault bs l ≡ noFault
+pub all-fit-none : (bs : List ℕ) (l : ℕ) → allFit bs l ≡ true → imageFault bs l ≡ noRefusal
 unfolding allFit imageFault
 all-fit-none bs l h =
     let a = both (leb 2 l) _ h in

@@ -5,7 +5,8 @@ use mathlib.Core.Bool.{Bool, true, false, _&&_}
 use Prim.Native.Nat.{ℕ, zero, suc, _+_, _-_, _≤_, _<_}
 use native.Mathlib.Nat.{eq-or-lt-of-le}
 use native.Mathlib.Omega.{arith}
-use Rattle.image_fault.specs.ImageFault.{noFault, refused, firstUnfit}
+use Rattle.image_fault.specs.ImageFault.{firstUnfit}
+use Rattle.link_rules.specs.Refusals.{noRefusal, refused}
 
 -- ---- both tests hold
 
@@ -31,7 +32,7 @@ module _ (m : ℕ) (fits : ℕ → Bool) (n i : ℕ) where
   pub first-unfit : i < n → fits i ≡ false → firstUnfit m fits (n - i) i ≡ refused m i
   first-unfit l h = let e : n - i ≡ suc (n - (i + 1)) = omega arith in rw e (step-unfit m fits (n - (i + 1)) i h)
 
-  pub first-end : n ≤ i → firstUnfit m fits (n - i) i ≡ noFault
+  pub first-end : n ≤ i → firstUnfit m fits (n - i) i ≡ noRefusal
   unfolding firstUnfit
   first-end l = let e : n - i ≡ 0 = omega arith in rw e
 

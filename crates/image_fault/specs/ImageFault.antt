@@ -22,32 +22,17 @@ use Rattle.est_times.specs.declared.Cycle.the-variants.{None, At}
 use Rattle.image.specs.Fields.{estOffsetField, pathOffsetField, divergeOffsetField, spareField, spareRestField, searchField, fixedMaxField, estDistField, estKindField, nodeOffsetField, nodeTimeField, nodeKindField, nodeSpareField, readField, readIn, readFirst}
 use Rattle.image.specs.Image.{sizeOf, estCount, pathCount, divergeCount, divergeRoom, trainIdx, pathHeader, estPlace, nodePlace, divergePlace, imageSize, estAt, nodeAt, divergeAt}
 use Rattle.image.specs.declared.codec.PathHeader.{PathHeader}
-use Rattle.image_fault.specs.declared.Fault.{Fault}
-
--- ---- answers
-
-abbrev pub noFault : Fault
-noFault = record { number = 0; place = 0 }
-
-abbrev pub refused : ℕ → ℕ → Fault
-refused n i = record { number = n; place = i }
-
--- a, or b where a is no fault
-abbrev pub orElse : Fault → Fault → Fault
-orElse a b = cond (eqb (a .number) 0) b a
-
--- refusal n with place 0 where a test fails
-abbrev pub refusedUnless : Bool → ℕ → Fault
-refusedUnless fits n = cond fits noFault (refused n 0)
+use Rattle.link_rules.specs.declared.refusal.Refusal.{Refusal}
+use Rattle.link_rules.specs.Refusals.{noRefusal, refused, orElse, refusedUnless}
 
 -- refusal n at the first of the k indices from i on that does not fit
-unfoldable pub firstUnfit : ℕ → (ℕ → Bool) → ℕ → ℕ → Fault
-firstUnfit n fits zero i = noFault
+unfoldable pub firstUnfit : ℕ → (ℕ → Bool) → ℕ → ℕ → Refusal
+firstUnfit n fits zero i = noRefusal
 firstUnfit n fits (suc k) i = elim (fits i) [ true ↦ firstUnfit n fits k (i + 1) | false ↦ refused n i ]
 
 -- ---- 2: an L outside 2 to 4,000 is that of no occupancy table
 
-abbrev pub lengthFault : ℕ → Fault
+abbrev pub lengthFault : ℕ → Refusal
 lengthFault l = refusedUnless (leb 2 l && leb l 4000) 2
 
 -- ---- 6: header, size, types, spare bytes, unused records
@@ -104,7 +89,7 @@ recordsFit bs = allBelow (estCount bs) (estTypeFits bs) && (allBelow (pathCount 
 unfoldable pub imageFits : List ℕ → Bool
 imageFits bs = countsFit bs && (partsFit bs && (trainFits bs && recordsFit bs))
 
-abbrev pub layoutFault : List ℕ → Fault
+abbrev pub layoutFault : List ℕ → Refusal
 layoutFault bs = refusedUnless (imageFits bs) 6
 
 -- ---- 7: floats, links, est indices, and the header's indices
@@ -145,7 +130,7 @@ unfoldable pub headerFits : List ℕ → Bool
 headerFits bs = distFits (readField searchField bs) && (distFits (readField fixedMaxField bs) && indicesFit (pathHeader bs))
 
 -- est records come first, then path records, then the header
-unfoldable pub valueFault : List ℕ → ℕ → Fault
+unfoldable pub valueFault : List ℕ → ℕ → Refusal
 valueFault bs l =
     orElse (firstUnfit 7 (estFits bs l) (estCount bs) 0)
     (orElse (firstUnfit 7 (nodeFits bs l) (pathCount bs) 0)
@@ -160,11 +145,11 @@ nexts bs = listed (estCount bs) (λ i. estAt bs i .«idx_next» .0)
 abbrev pub alts : List ℕ → List ℕ
 alts bs = listed (estCount bs) (λ i. estAt bs i .«idx_next_alt» .0)
 
-abbrev pub cycleRefused : Cycle → Fault
-cycleRefused None = noFault
+abbrev pub cycleRefused : Cycle → Refusal
+cycleRefused None = noRefusal
 cycleRefused (At i) = refused 8 i
 
-unfoldable pub cycleFault : List ℕ → Fault
+unfoldable pub cycleFault : List ℕ → Refusal
 cycleFault bs = cycleRefused (firstOnCycle (nexts bs) (alts bs) (estCount bs))
 
 -- t is none, or stands after record i
@@ -219,12 +204,12 @@ divergeFits bs i =
     (cond (eqb (i + 1) (divergeCount bs)) (eqb (divergeAt bs i .«disp_node_idx») (pathCount bs))
     (innerFits (pathCount bs) (divergeAt bs i) (divergeAt bs (i - 1))))
 
-unfoldable pub routeFault : List ℕ → Fault
+unfoldable pub routeFault : List ℕ → Refusal
 routeFault bs = orElse (firstUnfit 9 (onRoute bs) (pathCount bs) 0) (firstUnfit 9 (divergeFits bs) (divergeCount bs) 0)
 
 -- ---- all in order
 
-unfoldable pub imageFault : List ℕ → ℕ → Fault
+unfoldable pub imageFault : List ℕ → ℕ → Refusal
 imageFault bs l =
     orElse (lengthFault l)
     (orElse (layoutFault bs)

@@ -12,6 +12,7 @@ use est_times::Cycle;
 use image::codec;
 use image::codec::PathHeader;
 use link_rules::octets;
+use link_rules::refusal::Refusal;
 ghost use mathlib.Core.Path.{_≡_};
 ghost use mathlib.Core.Bool.{cond, not, _&&_};
 ghost use lib.Dec.{eqb};
@@ -21,12 +22,6 @@ ghost use Rattle.link_rules.specs.Network.{allBelow};
 ghost use Rattle.disp_structs.specs.Values.{isArrive};
 ghost use Rattle.image.specs.Image.{estCount, pathCount, estAt, nodeAt};
 ghost use Rattle.image_fault.specs.ImageFault.{imageFault, imageFits, valueFault, cycleFault, routeFault, firstUnfit, CountsFit, countsFit, partsFit, trainFits, estTypeFits, nodeTypeFits, zeroWord, zeroByte, unusedZero, recordsFit, floatFits, timeFits, distFits, eventFits, estLinksFit, estFits, nodeFits, indicesFit, headerFits, isLater, leadsOn, stepsTo, comesFrom, endsAt, onRoute, innerFits, divergeFits};
-
-// A refusal's number and place; number 0 is none.
-pub struct Fault {
-    pub number: u16,
-    pub place: u16,
-}
 
 // ---- 6: header, size, types, spare bytes, unused records
 
@@ -333,7 +328,7 @@ fn header_fits(img: &[u8]) -> bool
     false
 }
 
-fn est_fault(img: &[u8], l: u32, e: u32) -> Fault
+fn est_fault(img: &[u8], l: u32, e: u32) -> Refusal
     requires { ⌜ e ≤ 512 ⌝ }
     ensures { λ r. ⌜ r ≡ firstUnfit 7 (estFits (now (img .entry)) l) e 0 ⌝ }
 {
@@ -342,19 +337,19 @@ fn est_fault(img: &[u8], l: u32, e: u32) -> Fault
         if est_fits(img, l, i) {
             i += 1;
         } else {
-            return Fault {
+            return Refusal {
                 number: 7,
                 place: i as u16,
             };
         }
     }
-    Fault {
+    Refusal {
         number: 0,
         place: 0,
     }
 }
 
-fn node_fault(img: &[u8], l: u32, n: u32) -> Fault
+fn node_fault(img: &[u8], l: u32, n: u32) -> Refusal
     requires { ⌜ n ≤ 512 ⌝ }
     ensures { λ r. ⌜ r ≡ firstUnfit 7 (nodeFits (now (img .entry)) l) n 0 ⌝ }
 {
@@ -363,20 +358,20 @@ fn node_fault(img: &[u8], l: u32, n: u32) -> Fault
         if node_fits(img, l, i) {
             i += 1;
         } else {
-            return Fault {
+            return Refusal {
                 number: 7,
                 place: i as u16,
             };
         }
     }
-    Fault {
+    Refusal {
         number: 0,
         place: 0,
     }
 }
 
 // Est records come first, then path records, then the header.
-fn value_fault(img: &[u8], l: u32) -> Fault
+fn value_fault(img: &[u8], l: u32) -> Refusal
     requires { ⌜ CountsFit (now img) ⌝ }
     ensures { λ r. ⌜ r ≡ valueFault (now (img .entry)) l ⌝ }
 {
@@ -389,12 +384,12 @@ fn value_fault(img: &[u8], l: u32) -> Fault
         return g;
     }
     if header_fits(img) {
-        return Fault {
+        return Refusal {
             number: 0,
             place: 0,
         };
     }
-    Fault {
+    Refusal {
         number: 7,
         place: 0,
     }
@@ -435,7 +430,7 @@ fn ascends(img: &[u8], e: u32) -> bool
     true
 }
 
-fn lowest_on_cycle(img: &[u8], e: u32) -> Fault
+fn lowest_on_cycle(img: &[u8], e: u32) -> Refusal
     requires { ⌜ (e ≡ estCount (now img)) × (e ≤ 512) ⌝ }
     ensures { λ r. ⌜ r ≡ cycleFault (now (img .entry)) ⌝ }
 {
@@ -451,11 +446,11 @@ fn lowest_on_cycle(img: &[u8], e: u32) -> Fault
     }
     let c = est_times::cycle_at(&next, &alt, e as usize);
     match c {
-        Cycle::None => Fault {
+        Cycle::None => Refusal {
             number: 0,
             place: 0,
         },
-        Cycle::At(a) => Fault {
+        Cycle::At(a) => Refusal {
             number: 8,
             place: a as u16,
         },
@@ -463,12 +458,12 @@ fn lowest_on_cycle(img: &[u8], e: u32) -> Fault
 }
 
 // Where every record leads to later ones alone, as in most images, there is no cycle; only for the others are arrays filled and searched.
-fn cycle_fault(img: &[u8], e: u32) -> Fault
+fn cycle_fault(img: &[u8], e: u32) -> Refusal
     requires { ⌜ (e ≡ estCount (now img)) × (e ≤ 512) ⌝ }
     ensures { λ r. ⌜ r ≡ cycleFault (now (img .entry)) ⌝ }
 {
     if ascends(img, e) {
-        return Fault {
+        return Refusal {
             number: 0,
             place: 0,
         };
@@ -551,7 +546,7 @@ fn marked(t: EstType, seen: u8) -> u8
 }
 
 // The links of the Arrive nodes so far are kept as flags, all 0 at first.
-fn path_fault_in(img: &[u8], n: u32, seen: &mut [u8]) -> Fault
+fn path_fault_in(img: &[u8], n: u32, seen: &mut [u8]) -> Refusal
     requires { ⌜ (n ≡ pathCount (now img)) × (n ≤ 512) × (now seen ≡ replicate (length (now seen)) 0) × ((i : ℕ) → i < n → nodeAt (now img) i .«link_event» .«link_idx» .0 < length (now seen)) ⌝ }
     ensures { λ r. ⌜ r ≡ firstUnfit 9 (onRoute (now (img .entry))) n 0 ⌝ }
 {
@@ -567,20 +562,20 @@ fn path_fault_in(img: &[u8], n: u32, seen: &mut [u8]) -> Fault
             b = x;
             i += 1;
         } else {
-            return Fault {
+            return Refusal {
                 number: 9,
                 place: i as u16,
             };
         }
     }
-    Fault {
+    Refusal {
         number: 0,
         place: 0,
     }
 }
 
 // Few links have few flags, which take less time to clear.
-fn path_fault(img: &[u8], n: u32, links: u32) -> Fault
+fn path_fault(img: &[u8], n: u32, links: u32) -> Refusal
     requires { ⌜ (n ≡ pathCount (now img)) × (n ≤ 512) × (links ≤ 4000) × ((i : ℕ) → i < n → nodeAt (now img) i .«link_event» .«link_idx» .0 < links) ⌝ }
     ensures { λ r. ⌜ r ≡ firstUnfit 9 (onRoute (now (img .entry))) n 0 ⌝ }
 {
@@ -624,7 +619,7 @@ fn diverge_fits(img: &[u8], i: u32) -> bool
     inner_fits(n, d, codec::diverge_at(img, i - 1))
 }
 
-fn diverge_fault(img: &[u8], m: u32) -> Fault
+fn diverge_fault(img: &[u8], m: u32) -> Refusal
     requires { ⌜ m ≤ 1024 ⌝ }
     ensures { λ r. ⌜ r ≡ firstUnfit 9 (divergeFits (now (img .entry))) m 0 ⌝ }
 {
@@ -633,19 +628,19 @@ fn diverge_fault(img: &[u8], m: u32) -> Fault
         if diverge_fits(img, i) {
             i += 1;
         } else {
-            return Fault {
+            return Refusal {
                 number: 9,
                 place: i as u16,
             };
         }
     }
-    Fault {
+    Refusal {
         number: 0,
         place: 0,
     }
 }
 
-fn route_fault(img: &[u8], links: u32) -> Fault
+fn route_fault(img: &[u8], links: u32) -> Refusal
     requires { ⌜ (CountsFit (now img)) × (links ≤ 4000) × ((i : ℕ) → i < pathCount (now img) → nodeAt (now img) i .«link_event» .«link_idx» .0 < links) ⌝ }
     ensures { λ r. ⌜ r ≡ routeFault (now (img .entry)) ⌝ }
 {
@@ -657,17 +652,17 @@ fn route_fault(img: &[u8], links: u32) -> Fault
 }
 
 // The first refusal, one number after the other.
-fn first_fault(img: &[u8], links: u32) -> Fault
+fn first_fault(img: &[u8], links: u32) -> Refusal
     ensures { λ r. ⌜ r ≡ imageFault (now (img .entry)) links ⌝ }
 {
     if links < 2 {
-        return Fault {
+        return Refusal {
             number: 2,
             place: 0,
         };
     }
     if 4000 < links {
-        return Fault {
+        return Refusal {
             number: 2,
             place: 0,
         };
@@ -683,18 +678,18 @@ fn first_fault(img: &[u8], links: u32) -> Fault
         }
         return route_fault(img, links);
     }
-    Fault {
+    Refusal {
         number: 6,
         place: 0,
     }
 }
 
 // The first refusal of an image over `links` links, in document 01's order. Most images have none, and one pass tells.
-pub fn image_fault(img: &[u8], links: u32) -> Fault
+pub fn image_fault(img: &[u8], links: u32) -> Refusal
     ensures { λ r. ⌜ r ≡ imageFault (now (img .entry)) links ⌝ }
 {
     if pass::all_fit(img, links) {
-        return Fault {
+        return Refusal {
             number: 0,
             place: 0,
         };

@@ -11,7 +11,6 @@ use Rattle.link_rules.specs.declared.refusal.Answer.{Answer}
 use Rattle.link_rules.specs.declared.refusal.Answer.the-variants.{Done, Refused}
 use Rattle.link_rules.specs.declared.refusal.Refusal.{Refusal}
 use Rattle.image_fault.specs.ImageFault.{imageFault}
-use Rattle.image_fault.specs.declared.Fault.{Fault}
 use Rattle.train_disp.specs.TrainDisp.{newPath, laidImage, sizesFit, allWithin, refusedBy, laidOut}
 use Rattle.train_disp.specs.declared.Order.{Order}
 use Rattle.layout_laws.proofs.OffsetsAside.{aside-accepted}
@@ -25,7 +24,7 @@ no-done : (r : Refusal) → Refused r ≡ Done → ⊥
 no-done r h = let t : _≡_ {A = Bool} false true = ap isDone h in let z : _≡_ {A = ℕ} 0 1 = cc in omega arith
 
 module _ (est : List ℕ) (o : Order) (img : List ℕ) where
-  abbrev fault : Fault
+  abbrev fault : Refusal
   fault = imageFault (laidImage false est o (length img)) (o .links)
 
   -- nothing is refused

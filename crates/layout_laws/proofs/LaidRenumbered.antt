@@ -15,7 +15,7 @@ use Rattle.disp_structs.specs.Renumbered.{rNode}
 use Rattle.disp_structs.specs.declared.DispNode.{DispNode}
 use Rattle.image.specs.ImageMatch.{ImagesMatch}
 use Rattle.image_fault.specs.ImageFault.{imageFault}
-use Rattle.image_fault.specs.declared.Fault.{Fault}
+use Rattle.link_rules.specs.declared.refusal.Refusal.{Refusal}
 use Rattle.image_fault.proofs.MatchLaws.{image-fault-match}
 use Rattle.train_disp.specs.TrainDisp.{newPath, laidImage, sizesFit, allWithin, refusedBy, judged, laidOut}
 use Rattle.train_disp.specs.declared.Order.{Order}
@@ -31,7 +31,7 @@ within-match p [] = refl
 within-match p (x ∷ xs) = ap (λ (t : Bool). cond (within (x .offset)) t false) (within-match p xs)
 
 -- the answer does not depend on the images
-answer-same : (t s w : Bool) (f : Fault) (was new was′ new′ : List ℕ)
+answer-same : (t s w : Bool) (f : Refusal) (was new was′ new′ : List ℕ)
     → cond t (refusedBy 5 0 was′) (cond s (judged f w was′ new′) (refusedBy 6 0 was′)) .answer ≡ cond t (refusedBy 5 0 was) (cond s (judged f w was new) (refusedBy 6 0 was)) .answer
 answer-same true s w f was new was′ new′ = refl
 answer-same false false w f was new was′ new′ = refl

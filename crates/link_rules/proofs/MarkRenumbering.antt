@@ -15,6 +15,7 @@ use Rattle.link_rules.specs.Renumbering.{Renumbering, rLink, rTrain}
 use Rattle.link_rules.specs.Matching.{TablesMatch, OccupanciesMatch, MarksMatch}
 use Rattle.link_rules.specs.declared.link_idx.LinkIdx.{LinkIdx}
 use Rattle.link_rules.specs.declared.link_idx.TrainIdx.{TrainIdx}
+use Rattle.link_rules.proofs.MarkLaws.{numberBy, by-tests}
 use Rattle.link_rules.proofs.TableLaws.{all-at}
 use Rattle.link_rules.proofs.RenumberingLaws.{eqb-renumbered, eqb-renumbered-0, ltb-renumbered, below, entry-r, occupied-r}
 
@@ -174,8 +175,10 @@ module _ (tbl tbl′ : List ℕ) (fits : tableFits tbl ≡ true) (p : ℕ → �
             ∙ sym (le-leb (linkCount tbl) l (ltb-false l (linkCount tbl) e))
 
     refusal-r : (n : ℕ) (l : LinkIdx) → markRefusal tbl′ n (rLink p l) ≡ markRefusal tbl n l
-    unfolding markRefusal
-    refusal-r n l = rw (fits, fits′, m .count, eqb-renumbered-0 (linkCount tbl - 1) p rp (l .0), leb-r (l .0))
+    refusal-r n l =
+        by-tests tbl′ n (rLink p l) true (eqb n (linkCount tbl)) (eqb (l .0) 0 || leb (linkCount tbl) (l .0)) fits′ (rw (m .count))
+        (rw (m .count, eqb-renumbered-0 (linkCount tbl - 1) p rp (l .0), leb-r (l .0)))
+        ∙ sym (by-tests tbl n l true (eqb n (linkCount tbl)) (eqb (l .0) 0 || leb (linkCount tbl) (l .0)) fits refl refl)
 
     -- what a call that is not refused says of its arguments
     pub record Taken (n : ℕ) (l : LinkIdx) : Type 0 where
@@ -183,10 +186,11 @@ module _ (tbl tbl′ : List ℕ) (fits : tableFits tbl ≡ true) (p : ℕ → �
       pub inside : l .0 < linkCount tbl
 
     taken : (n : ℕ) (l : LinkIdx) → markRefusal tbl n l ≡ 0 → Taken n l
-    unfolding markRefusal
-    taken n l h = go (eqb n (linkCount tbl)) refl (eqb (l .0) 0) (leb (linkCount tbl) (l .0)) refl (rw fits at h)
+    taken n l h =
+        go (eqb n (linkCount tbl)) refl (eqb (l .0) 0) (leb (linkCount tbl) (l .0)) refl
+        (sym (by-tests tbl n l true (eqb n (linkCount tbl)) (eqb (l .0) 0 || leb (linkCount tbl) (l .0)) fits refl refl) ∙ h)
       where
-        go : (u : Bool) → eqb n (linkCount tbl) ≡ u → (v w : Bool) → leb (linkCount tbl) (l .0) ≡ w → _≡_ {A = ℕ} (cond (not u) 2 (cond (v || w) 3 0)) 0 → Taken n l
+        go : (u : Bool) → eqb n (linkCount tbl) ≡ u → (v w : Bool) → leb (linkCount tbl) (l .0) ≡ w → _≡_ {A = ℕ} (numberBy true u (v || w)) 0 → Taken n l
         go true e false false k z = record { long = eqb-true n (linkCount tbl) e; inside = leb-false (linkCount tbl) (l .0) k }
         go true e false true k z = absurd (omega (arith, z))
         go true e true w k z = absurd (omega (arith, z))

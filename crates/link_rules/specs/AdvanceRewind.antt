@@ -5,9 +5,11 @@ use mathlib.Core.List.{List, [], _∷_}
 use lib.Dec.{ltb, leb, eqb}
 use lib.ListN.{length}
 use Rattle.link_rules.specs.LinkIdx.{noTrain, sameTrain, holder, occupied, hold}
+use Rattle.link_rules.specs.Refusals.{orElse, refusedUnless}
 use Rattle.link_rules.specs.Network.{linkCount, linkAt, tableFits}
 use Rattle.link_rules.specs.declared.link_idx.LinkIdx.{LinkIdx}
 use Rattle.link_rules.specs.declared.link_idx.TrainIdx.{TrainIdx}
+use Rattle.link_rules.specs.declared.refusal.Refusal.{Refusal}
 use Rattle.link_rules.specs.declared.refusal.Answer.{Answer}
 use Rattle.link_rules.specs.declared.refusal.Answer.the-variants.{Done, Refused}
 
@@ -16,7 +18,7 @@ unfoldable pub holdAll : List ℕ → List LinkIdx → TrainIdx → List ℕ
 holdAll occ [] t = occ
 holdAll occ (l ∷ ls) t = holdAll (hold occ l t) ls t
 
--- l takes the train of the first of its lockouts that is held (577-582)
+-- l takes the train of the first of its lockouts that is held (576-582)
 unfoldable pub refilled : List ℕ → LinkIdx → List LinkIdx → List ℕ
 refilled occ l [] = occ
 refilled occ l (a ∷ rest) = let later = refilled occ l rest in cond (occupied occ a) (hold occ l (holder occ a)) later
@@ -41,12 +43,21 @@ updateLinksBlocked tbl occ l t =
 
 -- ---- mark or release (document 01, Operations)
 
--- refusals 1, 2 and 3, for an occupancy of length n; 0 where there is none
+-- 1: the table is not as laid out
+abbrev pub tableFault : List ℕ → Refusal
+tableFault tbl = refusedUnless (tableFits tbl) 1
+
+-- 2: an occupancy of length n has another length than the table has links
+abbrev pub entriesFault : List ℕ → ℕ → Refusal
+entriesFault tbl n = refusedUnless (eqb n (linkCount tbl)) 2
+
+-- 3: link 0, or none of the table's
+abbrev pub linkFault : List ℕ → LinkIdx → Refusal
+linkFault tbl l = refusedUnless (not (eqb (l .0) 0 || leb (linkCount tbl) (l .0))) 3
+
+-- the first of them, for an occupancy of length n; all have place 0
 unfoldable pub markRefusal : List ℕ → ℕ → LinkIdx → ℕ
-markRefusal tbl n l =
-    cond (not (tableFits tbl)) 1
-    (cond (not (eqb n (linkCount tbl))) 2
-    (cond (eqb (l .0) 0 || leb (linkCount tbl) (l .0)) 3 0))
+markRefusal tbl n l = orElse (tableFault tbl) (orElse (entriesFault tbl n) (linkFault tbl l)) .number
 
 -- the answer, and the occupancy that is left
 pub record Marked : Type 0 where

@@ -16,8 +16,9 @@ use Rattle.disp_structs.specs.declared.DispNode.{DispNode}
 use Rattle.disp_structs.specs.declared.EstType.{EstType}
 use Rattle.disp_structs.specs.declared.EstType.the-variants.{Arrive, Clear, Fake}
 use Rattle.image.specs.Image.{estCount, pathCount, nodePlace, nodeFrom, nodeAt}
-use Rattle.image_fault.specs.ImageFault.{imageFault, refused, noFault, floatFits, CountsFit}
-use Rattle.image_fault.specs.declared.Fault.{Fault}
+use Rattle.image_fault.specs.ImageFault.{imageFault, floatFits, CountsFit}
+use Rattle.link_rules.specs.Refusals.{refused, noRefusal}
+use Rattle.link_rules.specs.declared.refusal.Refusal.{Refusal}
 use Rattle.image_fault.proofs.AcceptLaws.{accepted, fits-counts, node-fits, clean-node, clean-link}
 use Rattle.image_fault.proofs.ScanLaws.{both}
 use Rattle.text.specs.Ascii.{ascii, decimal, signed, lineEnd}
@@ -140,14 +141,14 @@ module _ (t : Ties) (img page : List ℕ) where
   unfolding pageFault
   too-short z h = rw (eq-eqb (imageFault img mostLinks .number) 0 z, lt-ltb (length page) (40 * pathCount img) h)
 
-  pub not-refused : imageFault img mostLinks .number ≡ 0 → 40 * pathCount img ≤ length page → pageFault img page ≡ noFault
+  pub not-refused : imageFault img mostLinks .number ≡ 0 → 40 * pathCount img ≤ length page → pageFault img page ≡ noRefusal
   unfolding pageFault
   not-refused z h = rw (eq-eqb (imageFault img mostLinks .number) 0 z, le-ltb (length page) (40 * pathCount img) h)
 
   -- a refused call leaves the page
-  pub stays : (f : Fault) → pageFault img page ≡ f → (f .number ≡ 0 → ⊥) → page ≡ pageAfter t img page
+  pub stays : (f : Refusal) → pageFault img page ≡ f → (f .number ≡ 0 → ⊥) → page ≡ pageAfter t img page
   unfolding pageAfter
-  stays f e h = rw (ne-eqb (pageFault img page .number) 0 (λ k. h (sym (ap (λ (g : Fault). g .number) e) ∙ k)), pageAfter)
+  stays f e h = rw (ne-eqb (pageFault img page .number) 0 (λ k. h (sym (ap (λ (g : Refusal). g .number) e) ∙ k)), pageAfter)
 
   pub done : pageFault img page .number ≡ 0 → printed t (nodeAt img) (pathCount img) page ≡ pageAfter t img page
   unfolding pageAfter
@@ -158,7 +159,7 @@ module _ (t : Ties) (img page : List ℕ) where
     where
       go : (b : Bool) → eqb (imageFault img mostLinks .number) 0 ≡ b → imageFault img mostLinks .number ≡ 0
       go true e = eqb-true (imageFault img mostLinks .number) 0 e
-      go false e = sym (ap (λ (f : Fault). f .number) (image-refused (eqb-false (imageFault img mostLinks .number) 0 e))) ∙ z
+      go false e = sym (ap (λ (f : Refusal). f .number) (image-refused (eqb-false (imageFault img mostLinks .number) 0 e))) ∙ z
 
   -- where nothing is refused, the page has room for the lines
   pub lines-room : pageFault img page .number ≡ 0 → 40 * pathCount img ≤ length page
@@ -166,7 +167,7 @@ module _ (t : Ties) (img page : List ℕ) where
     where
       go : (b : Bool) → ltb (length page) (40 * pathCount img) ≡ b → 40 * pathCount img ≤ length page
       go true e =
-          let n : _≡_ {A = ℕ} 18 0 = sym (ap (λ (f : Fault). f .number) (too-short (image-accepted z) (ltb-true (length page) (40 * pathCount img) e))) ∙ z in
+          let n : _≡_ {A = ℕ} 18 0 = sym (ap (λ (f : Refusal). f .number) (too-short (image-accepted z) (ltb-true (length page) (40 * pathCount img) e))) ∙ z in
           absurd (omega arith)
       go false e = ltb-false (length page) (40 * pathCount img) e
 

@@ -12,8 +12,8 @@ use Rattle.disp_structs.specs.declared.DispNode.{DispNode}
 use Rattle.image.specs.Image.{pathCount, nodeAt}
 use Rattle.image.specs.ImageMatch.{ImagesMatch}
 use Rattle.image.proofs.MatchLaws.{path-count, node-match}
-use Rattle.image_fault.specs.ImageFault.{orElse, refused, noFault}
-use Rattle.image_fault.specs.declared.Fault.{Fault}
+use Rattle.link_rules.specs.Refusals.{orElse, refused, noRefusal}
+use Rattle.link_rules.specs.declared.refusal.Refusal.{Refusal}
 use Rattle.image_fault.proofs.AcceptLaws.{accepted, fits-counts}
 use Rattle.image_fault.proofs.MatchLaws.{image-fault-match}
 use Rattle.text.specs.Columns.{rightIn}
@@ -40,7 +40,7 @@ module _ (p q : ℕ → ℕ) (top : ℕ) (rp : Renumbering (mostLinks - 1) p) (r
   pub fault-match : pageFault img′ page ≡ pageFault img page
   unfolding pageFault
   fault-match =
-      ap₂ (λ (f : Fault) (n : ℕ). orElse f (cond (ltb (length page) (40 * n)) (refused 18 0) noFault)) (image-fault-match p q mostLinks top rp rq img img′ m) same-count
+      ap₂ (λ (f : Refusal) (n : ℕ). orElse f (cond (ltb (length page) (40 * n)) (refused 18 0) noRefusal)) (image-fault-match p q mostLinks top rp rq img img′ m) same-count
 
   abbrev renumbered : ℕ → DispNode
   renumbered i = rNode p (nodeAt img i)
@@ -49,7 +49,7 @@ module _ (p q : ℕ → ℕ) (top : ℕ) (rp : Renumbering (mostLinks - 1) p) (r
   pub page-match : (t : Ties) → pageFault img page .number ≡ 0 → pageAfter t img′ page ≡ printed t renumbered (pathCount img) page
   page-match t ok =
       let few = fits-counts img (accepted img mostLinks (image-accepted t img page ok) .fits) .few-path in
-      sym (done t img′ page (ap (λ (f : Fault). f .number) fault-match ∙ ok))
+      sym (done t img′ page (ap (λ (f : Refusal). f .number) fault-match ∙ ok))
       ∙ (ap (λ (n : ℕ). printed t (nodeAt img′) n page) same-count
       ∙ ap (λ (xs : List ℕ). xs ++ drop (40 * pathCount img) page) (lines-same t (nodeAt img′) renumbered (pathCount img) (λ i h. node-match p q img img′ m i (omega arith))))
 

@@ -8,8 +8,9 @@ use Rattle.disp_structs.specs.declared.DispNode.{DispNode}
 use Rattle.disp_structs.specs.declared.EstType.{EstType}
 use Rattle.disp_structs.specs.declared.EstType.the-variants.{Arrive, Clear, Fake}
 use Rattle.image.specs.Image.{pathCount, nodeAt}
-use Rattle.image_fault.specs.ImageFault.{imageFault, orElse, refused, noFault}
-use Rattle.image_fault.specs.declared.Fault.{Fault}
+use Rattle.image_fault.specs.ImageFault.{imageFault}
+use Rattle.link_rules.specs.Refusals.{orElse, refused, noRefusal}
+use Rattle.link_rules.specs.declared.refusal.Refusal.{Refusal}
 use Rattle.text.specs.Ascii.{ascii, lineEnd}
 use Rattle.text.specs.Columns.{signedIn, rightIn}
 use Rattle.path_page.specs.Metres.{wholeMetres}
@@ -56,8 +57,8 @@ pageLines t node zero = []
 pageLines t node (suc n) = pageLines t node n ++ lineOf t n (node n)
 
 -- 6 to 9 with their places, then 18
-unfoldable pub pageFault : List ℕ → List ℕ → Fault
-pageFault img page = orElse (imageFault img mostLinks) (cond (ltb (length page) (40 * pathCount img)) (refused 18 0) noFault)
+unfoldable pub pageFault : List ℕ → List ℕ → Refusal
+pageFault img page = orElse (imageFault img mostLinks) (cond (ltb (length page) (40 * pathCount img)) (refused 18 0) noRefusal)
 
 -- the lines, and behind them what the page has there
 abbrev pub printed : Ties → (ℕ → DispNode) → ℕ → List ℕ → List ℕ

@@ -4,8 +4,8 @@ use disp_structs::DispNode;
 use disp_structs::EstType;
 use image::codec;
 use image_fault;
-use image_fault::Fault;
 use image_reader;
+use link_rules::refusal::Refusal;
 use metres::Ties;
 use metres::WholeMetres;
 use text;
@@ -85,7 +85,7 @@ fn put_lines(ties: Ties, text: &mut [u8], image: &[u8], n: u32) -> usize
 }
 
 // The page of an image's path, or the refusal; a refused call leaves the page.
-pub fn page(image: &[u8], page: &mut [u8]) -> Fault
+pub fn page(image: &[u8], page: &mut [u8]) -> Refusal
     ensures { λ r. ⌜ (r ≡ pageFault (now (image .entry)) (now (page .entry))) × (now (page .exit) ≡ pageAfter drawingRule (now (image .entry)) (now (page .entry))) ⌝ }
 {
     let fault = image_fault::image_fault(image, 4000);
@@ -94,13 +94,13 @@ pub fn page(image: &[u8], page: &mut [u8]) -> Fault
     }
     let n = codec::path_count(image);
     if page.len() < 40 * (n as usize) {
-        return Fault {
+        return Refusal {
             number: 18,
             place: 0,
         };
     }
     put_lines(Ties::Even, page, image, n);
-    Fault {
+    Refusal {
         number: 0,
         place: 0,
     }

@@ -1,4 +1,4 @@
-// Diverge nodes in two columns: walks over them, a splice, and update_div_nodes (free_path.rs 642-676).
+// Diverge nodes in two columns: walks over them, a splice, and update_div_nodes (free_path.rs 642-675).
 // New diverge nodes stand in two more columns, behind a sentinel at 0, with room behind them for the old ones that come after.
 ghost use mathlib.Core.Path.{_≡_};
 ghost use mathlib.Core.Bool.{not, cond};

@@ -1,4 +1,4 @@
-// The join (free_path.rs 576-631), and update_free_path_helpers (689-747).
+// The join (free_path.rs 576-631), and update_free_path_helpers (690-746).
 ghost use mathlib.Core.Path.{_≡_};
 ghost use mathlib.Core.List.{List};
 ghost use Prim.Native.Nat.{ℕ, _+_, _^_, _≤_, _<_};

@@ -1,4 +1,4 @@
-// The end of a round of update_free_path: a change of diverge nodes (free_path.rs 502-532), and the join of the new path with the old one (576-747).
+// The end of a round of update_free_path: a change of diverge nodes (free_path.rs 502-532), and the join of the new path with the old one (576-746).
 // The old path stands in the bytes of an image, the new one in a buffer of the same layout, and diverge nodes in two columns.
 pub mod change;
 pub mod copies;

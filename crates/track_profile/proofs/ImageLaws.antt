@@ -11,8 +11,9 @@ use Rattle.link_rules.proofs.TableLaws.{all-at}
 use Rattle.disp_structs.specs.Floats.{realOf}
 use Rattle.disp_structs.specs.declared.Metres.{Metres}
 use Rattle.image.specs.Image.{estCount, pathCount, distDispPathSearch, distFixedMax, estFrom, nodeFrom, nodePlace}
-use Rattle.image_fault.specs.ImageFault.{noFault, refused, imageFault}
-use Rattle.image_fault.specs.declared.Fault.{Fault}
+use Rattle.image_fault.specs.ImageFault.{imageFault}
+use Rattle.link_rules.specs.Refusals.{noRefusal, refused}
+use Rattle.link_rules.specs.declared.refusal.Refusal.{Refusal}
 use Rattle.image_fault.proofs.AcceptLaws as Clean
 use Rattle.image_fault.proofs.ScanLaws.{both}
 use Rattle.track_profile.specs.Profile.{InProfile, inProfile, distAt, offsetAt, imageInProfile, profileFault}
@@ -53,13 +54,13 @@ image-sound bs h =
       λ i l. profile-sound (offsetAt bs i) (all-at (λ i. inProfile (offsetAt bs i)) (pathCount bs) i (c .1) l),
     )
 
-pub in-profile : (bs : List ℕ) → profileFault bs ≡ noFault → DistsInProfile bs × OffsetsInProfile bs
+pub in-profile : (bs : List ℕ) → profileFault bs ≡ noRefusal → DistsInProfile bs × OffsetsInProfile bs
 unfolding profileFault
 in-profile bs h =
-    let c = Clean.or-else-clean (imageFault bs 4000) (cond (imageInProfile bs) noFault (refused 29 0)) (ap (λ (f : Fault). f .number) h) in
+    let c = Clean.or-else-clean (imageFault bs 4000) (cond (imageInProfile bs) noRefusal (refused 29 0)) (ap (λ (f : Refusal). f .number) h) in
     image-sound bs (go (imageInProfile bs) (c .1))
   where
-    go : (t : Bool) → cond t noFault (refused 29 0) .number ≡ 0 → t ≡ true
+    go : (t : Bool) → cond t noRefusal (refused 29 0) .number ≡ 0 → t ≡ true
     go true e = refl
     go false e = absurd (omega arith)
 

@@ -14,7 +14,8 @@ use Rattle.disp_structs.specs.declared.EstType.the-variants.{Arrive, Fake}
 use Rattle.est_times.specs.Cycles.{follow, via, reach, firstAt}
 use Rattle.image.specs.Image.{pathCount, typeOf, pathHeader, estFrom, nodeFrom, divergeFrom, putEst, putNode, putDiverge, zeroWords, putPathHeader}
 use Rattle.image.specs.Codec.{decoded, putEach, putRecords, storedInto, putSize, putOffsets, putDists, constantInto, encodedInto, encoded}
-use Rattle.image_fault.specs.ImageFault.{noFault, refused, firstUnfit, countsFit, partsFit, trainFits, estTypeFits, nodeTypeFits, zeroWord, unusedZero, recordsFit, imageFits, floatFits, timeFits, distFits, eventFits, estLinksFit, estFits, nodeFits, indicesFit, headerFits, valueFault, cycleFault, stepsTo, comesFrom, endsAt, arrivesOn, arrived, firstArrival, onRoute, innerFits, divergeFits, routeFault, imageFault}
+use Rattle.image_fault.specs.ImageFault.{firstUnfit, countsFit, partsFit, trainFits, estTypeFits, nodeTypeFits, zeroWord, unusedZero, recordsFit, imageFits, floatFits, timeFits, distFits, eventFits, estLinksFit, estFits, nodeFits, indicesFit, headerFits, valueFault, cycleFault, stepsTo, comesFrom, endsAt, arrivesOn, arrived, firstArrival, onRoute, innerFits, divergeFits, routeFault, imageFault}
+use Rattle.link_rules.specs.Refusals.{noRefusal, refused}
 use Rattle.train_update.specs.Update.{Success}
 use Rattle.update_cases.specs.Build.{train, metres, est, node, dive, everything}
 use Rattle.update_image.specs.UpdateImage.{UpdatedImage, linksBelow, callFault, updateFault, updatedImage}
@@ -66,7 +67,7 @@ computed = 0
 unfoldable short : Train
 short = track 0x4059_0000_0000_0000 0x4059_0000_0000_0000 0x4059_0000_0000_0000 0x4059_0000_0000_0000 0x4059_0000_0000_0000
 
-short-before : profileFault (encoded short) ≡ noFault
+short-before : profileFault (encoded short) ≡ noRefusal
 unfolding computed short
 short-before = refl
 
@@ -74,7 +75,7 @@ short-success : updated short .answer .status ≡ Success
 unfolding computed short
 short-success = refl
 
-short-after : profileFault (updated short .image) ≡ noFault
+short-after : profileFault (updated short .image) ≡ noRefusal
 unfolding computed short
 short-after = refl
 
@@ -88,7 +89,7 @@ short-steps = refl
 unfoldable long : Train
 long = track 0x40d3_a100_0000_0000 0x40d3_8800_0000_0000 0x40e3_8800_0000_0000 0x40d3_a100_0000_0000 0x40d3_a100_1000_0000
 
-long-before : profileFault (encoded long) ≡ noFault
+long-before : profileFault (encoded long) ≡ noRefusal
 unfolding computed long
 long-before = refl
 

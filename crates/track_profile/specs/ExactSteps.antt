@@ -9,7 +9,7 @@ use lib.ListN.{getD}
 use Rattle.disp_structs.specs.Floats.{nearFloat}
 use Rattle.disp_structs.specs.Values.{sameEst}
 use Rattle.image.specs.Image.{pathCount, estAt, nodeAt}
-use Rattle.image_fault.specs.ImageFault.{noFault}
+use Rattle.link_rules.specs.Refusals.{noRefusal}
 use Rattle.train_update.specs.Update.{Success}
 use Rattle.update_image.specs.UpdateImage.{updatedImage}
 use Rattle.track_profile.specs.Profile.{unitsOf, distAt, offsetAt, profileFault}
@@ -24,7 +24,7 @@ pub record EqualValues (x y : Float) : Type 0 where
 -- any two offsets of an image in the profile
 abbrev pub NearOnlyIfEqual : Type 0
 NearOnlyIfEqual =
-    (image : List ℕ) → profileFault image ≡ noFault
+    (image : List ℕ) → profileFault image ≡ noRefusal
     → (i j : ℕ) → i < pathCount image → j < pathCount image → nearFloat (offsetAt image i) (offsetAt image j) ≡ true → EqualValues (offsetAt image i) (offsetAt image j)
 
 -- ---- steps, in 1/1024 metre
@@ -55,7 +55,7 @@ abbrev pub SuccessIsExact : Type 0
 SuccessIsExact =
     (image occupancy blocking : List ℕ) (moved : ℕ) (local : Bool) (limit : ℕ)
     → ((i : ℕ) → getD image i 0 < 256) → ((i : ℕ) → getD occupancy i 0 < 65536) → moved < 65536
-    → profileFault image ≡ noFault
+    → profileFault image ≡ noRefusal
     → updatedImage image occupancy blocking moved local limit .answer .status ≡ Success
-    → profileFault (updatedImage image occupancy blocking moved local limit .image) ≡ noFault
+    → profileFault (updatedImage image occupancy blocking moved local limit .image) ≡ noRefusal
     → StepsExact (updatedImage image occupancy blocking moved local limit .image)

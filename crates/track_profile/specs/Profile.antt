@@ -7,8 +7,9 @@ use lib.Dec.{leb, eqb}
 use lib.Ieee.{Float, nan, inf, fin, up, down}
 use Rattle.link_rules.specs.Network.{allBelow}
 use Rattle.image.specs.Image.{estCount, pathCount, distDispPathSearch, distFixedMax, estAt, nodeAt}
-use Rattle.image_fault.specs.ImageFault.{noFault, refused, orElse, imageFault}
-use Rattle.image_fault.specs.declared.Fault.{Fault}
+use Rattle.image_fault.specs.ImageFault.{imageFault}
+use Rattle.link_rules.specs.Refusals.{noRefusal, refused, orElse}
+use Rattle.link_rules.specs.declared.refusal.Refusal.{Refusal}
 
 -- ---- a value
 
@@ -55,5 +56,5 @@ imageInProfile bs =
     && (inProfile (distDispPathSearch bs .0) && (inProfile (distFixedMax bs .0) && allBelow (pathCount bs) (λ i. inProfile (offsetAt bs i))))
 
 -- 6 to 9 over 4,000 links, then 29
-unfoldable pub profileFault : List ℕ → Fault
-profileFault bs = orElse (imageFault bs 4000) (cond (imageInProfile bs) noFault (refused 29 0))
+unfoldable pub profileFault : List ℕ → Refusal
+profileFault bs = orElse (imageFault bs 4000) (cond (imageInProfile bs) noRefusal (refused 29 0))

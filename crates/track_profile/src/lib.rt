@@ -2,8 +2,8 @@
 // Every function here is proved, the crate assumes nothing of its own, and no function has a `requires`.
 use disp_structs::floats;
 use image::codec;
-use image_fault::Fault;
 use link_rules::octets;
+use link_rules::refusal::Refusal;
 ghost use mathlib.Core.Path.{_≡_};
 ghost use Rattle.link_rules.specs.Octets.{leAt};
 ghost use Rattle.link_rules.specs.Network.{allBelow};
@@ -12,7 +12,7 @@ ghost use Rattle.image.specs.Image.{nodePlace};
 ghost use Rattle.track_profile.specs.Profile.{inProfile, imageInProfile, profileFault};
 
 // The first refusal of an image by 6 to 9 over 4,000 links; then 29 where a value of it is outside the profile.
-pub fn profile_fault(image: &[u8]) -> Fault
+pub fn profile_fault(image: &[u8]) -> Refusal
     ensures { λ r. ⌜ r ≡ profileFault (now (image .entry)) ⌝ }
 {
     let f = image_fault::image_fault(image, 4000);
@@ -20,12 +20,12 @@ pub fn profile_fault(image: &[u8]) -> Fault
         return f;
     }
     if image_in_profile(image) {
-        return Fault {
+        return Refusal {
             number: 0,
             place: 0,
         };
     }
-    Fault {
+    Refusal {
         number: 29,
         place: 0,
     }

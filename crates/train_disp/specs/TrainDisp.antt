@@ -1,4 +1,4 @@
--- Laying out a new train: TrainDisp::new (train_disp/mod.rs 91-218), with refusals 5 to 9 and 11. Assumes nothing.
+-- Laying out a new train: TrainDisp::new (train_disp/mod.rs 105-215), with refusals 5 to 9 and 11. Assumes nothing.
 use Prim.Native.Nat.{ℕ, zero, suc, _+_, _*_, _/_, _%_, _≤_}
 use mathlib.Core.Bool.{Bool, true, false, cond, _&&_}
 use mathlib.Core.List.{List, [], _∷_}
@@ -15,14 +15,14 @@ use Rattle.image.specs.Image.{nodePlace, divergePlace, imageSize, estFrom, putN
 use Rattle.image.specs.Fields.{sizeField, estCountField, pathCountField, divergeCountField, divergeRoomField, estOffsetField, pathOffsetField, divergeOffsetField, trainField, searchField, fixedMaxField, divergeNodeField, putField, putIn}
 use Rattle.image.specs.Codec.{putEach}
 use Rattle.image_fault.specs.ImageFault.{imageFault}
-use Rattle.image_fault.specs.declared.Fault.{Fault}
+use Rattle.link_rules.specs.declared.refusal.Refusal.{Refusal}
 use Rattle.train_disp.specs.declared.Order.{Order}
 use Rattle.link_rules.specs.declared.refusal.Answer.{Answer}
 use Rattle.link_rules.specs.declared.refusal.Answer.the-variants.{Done, Refused}
 
--- ---- the path: along next from est 0 (119-137)
+-- ---- the path: along next from est 0 (130-148)
 
--- a node of a new train: est record x, number e, at offset o (126-131)
+-- a node of a new train: est record x, number e, at offset o (136-141)
 abbrev pub newNode : EstTime → ℕ → Metres → DispNode
 newNode x e o =
     record {
@@ -33,7 +33,7 @@ newNode x e o =
       «disp_auth_idx_entry» = 0;
     }
 
--- the offset behind a node (132): the distance is added after the node. Without sums every offset is 0
+-- the offset behind a node (142): the distance is added after the node. Without sums every offset is 0
 unfoldable pub offsetBehind : Bool → Metres → EstTime → Metres
 offsetBehind sums o x = cond sums (plus o (x .«dist_to_next»)) o
 
@@ -80,7 +80,7 @@ withEst est bs = paste bs 64 est (length est)
 abbrev pub putNodes : List DispNode → ℕ → List ℕ → List ℕ
 putNodes = putEach putNode 32
 
--- N, and the ending diverge node (0, N) behind the starting one (0, 0) (165-171)
+-- N, and the ending diverge node (0, N) behind the starting one (0, 0) (168-173)
 unfoldable pub withEnds : ℕ → ℕ → List ℕ → List ℕ
 withEnds e n bs = putIn divergeNodeField n (divergePlace e 1) (putField pathCountField n bs)
 
@@ -124,7 +124,7 @@ abbrev pub refusedBy : ℕ → ℕ → List ℕ → Laid
 refusedBy n place bs = laid (Refused (record { number = n; place = place })) bs
 
 -- lay out (document 01): 5; 6; then 6 to 9 as the image with all offsets 0 has them, in the same order; then 11
-abbrev pub judged : Fault → Bool → List ℕ → List ℕ → Laid
+abbrev pub judged : Refusal → Bool → List ℕ → List ℕ → Laid
 judged f fits was new = cond (eqb (f .number) 0) (cond fits (laid Done new) (refusedBy 11 0 was)) (refusedBy (f .number) (f .place) was)
 
 unfoldable pub laidOut : List ℕ → Order → List ℕ → Laid

@@ -1,4 +1,4 @@
-// Laying out a new train: TrainDisp::new (train_disp/mod.rs 91-218).
+// Laying out a new train: TrainDisp::new (train_disp/mod.rs 105-215).
 // Every function here is proved, the crate assumes nothing of its own, and no public function has a `requires`.
 ghost use mathlib.Core.Path.{_≡_};
 ghost use mathlib.Core.Bool.{true, false};
@@ -16,7 +16,6 @@ use disp_structs::Metres;
 use disp_structs::Seconds;
 use disp_structs::floats;
 use image::codec;
-use image_fault::Fault;
 use link_rules::link_idx::NarrowTrainIdx;
 use link_rules::octets;
 use link_rules::refusal::Answer;
@@ -91,7 +90,7 @@ fn sizes_fit(n: usize, order: Order, size: usize) -> bool
 }
 
 // 6 to 9 of the image with all offsets 0. A small image is judged in a small buffer, which takes less time to clear.
-fn judge(est: &[u8], order: Order, size: usize) -> Fault
+fn judge(est: &[u8], order: Order, size: usize) -> Refusal
     requires { ⌜ Sized (length (now est)) order size ⌝ }
     ensures { λ r. ⌜ r ≡ imageFault (laidImage false (now (est .entry)) order size) (order .links) ⌝ }
 {
@@ -102,7 +101,7 @@ fn judge(est: &[u8], order: Order, size: usize) -> Fault
     judge_in(est, order, &mut room[..size])
 }
 
-fn judge_small(est: &[u8], order: Order, size: usize) -> Fault
+fn judge_small(est: &[u8], order: Order, size: usize) -> Refusal
     requires { ⌜ (Sized (length (now est)) order size) × (size ≤ 4096) ⌝ }
     ensures { λ r. ⌜ r ≡ imageFault (laidImage false (now (est .entry)) order size) (order .links) ⌝ }
 {
@@ -123,7 +122,7 @@ fn scratch() -> [u8; 36928]
     [0u8; 36928]
 }
 
-fn judge_in(est: &[u8], order: Order, img: &mut [u8]) -> Fault
+fn judge_in(est: &[u8], order: Order, img: &mut [u8]) -> Refusal
     requires { ⌜ Sized (length (now est)) order (length (now img)) ⌝ }
     ensures { λ r. ⌜ r ≡ imageFault (laidImage false (now (est .entry)) order (length (now (img .entry)))) (order .links) ⌝ }
 {

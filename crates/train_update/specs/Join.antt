@@ -99,7 +99,7 @@ pub record Divs : Type 0 where
   pub «div_nodes» : List DivergeNode
   pub «div_idx_split» : ℕ
 
--- diverge nodes from the join on move with their nodes (660-666)
+-- diverge nodes from the join on move with their nodes (660-667)
 unfoldable pub shiftDivs : ℕ → ℕ → List DivergeNode → Res (List DivergeNode)
 shiftDivs join base [] = ok []
 shiftDivs join base (d ∷ ds) =

@@ -9,7 +9,7 @@ use lib.Dec.{leb}
 use lib.ListN.{length, getD, drop, drop-of-length-le}
 use lib.Seq.{drop-cons}
 use borrow.Author.Tests.{lt-ltb, le-ltb, leb-true}
-use Rattle.image_fault.specs.ImageFault.{noFault, refused}
+use Rattle.link_rules.specs.Refusals.{noRefusal, refused}
 use Rattle.image_fault.proofs.AcceptLaws.{or-else-clean}
 use Rattle.image_fault.proofs.ScanLaws.{both}
 use Rattle.update_image.specs.UpdateImage.{linksBelow, callFault}
@@ -32,8 +32,8 @@ module _ (l : ℕ) (bs : List ℕ) (i : ℕ) where
 -- a call that is not refused has as many links as an occupancy may have
 pub call-links : (occ blocking : List ℕ) (moved limit : ℕ) → callFault occ blocking moved limit .number ≡ 0 → (2 ≤ length occ) × (length occ ≤ 4000)
 unfolding callFault
-call-links occ blocking moved limit h = go (leb 2 (length occ) && leb (length occ) 4000) refl (or-else-clean (cond (leb 2 (length occ) && leb (length occ) 4000) noFault (refused 2 0)) _ h .0)
+call-links occ blocking moved limit h = go (leb 2 (length occ) && leb (length occ) 4000) refl (or-else-clean (cond (leb 2 (length occ) && leb (length occ) 4000) noRefusal (refused 2 0)) _ h .0)
   where
-    go : (t : Bool) → (leb 2 (length occ) && leb (length occ) 4000) ≡ t → cond t noFault (refused 2 0) .number ≡ 0 → (2 ≤ length occ) × (length occ ≤ 4000)
+    go : (t : Bool) → (leb 2 (length occ) && leb (length occ) 4000) ≡ t → cond t noRefusal (refused 2 0) .number ≡ 0 → (2 ≤ length occ) × (length occ ≤ 4000)
     go true e k = let b = both (leb 2 (length occ)) (leb (length occ) 4000) e in (leb-true 2 (length occ) (b .0), leb-true (length occ) 4000 (b .1))
     go false e k = absurd (omega arith)

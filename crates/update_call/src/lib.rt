@@ -10,13 +10,13 @@ ghost use Rattle.disp_structs.specs.Listed.{listed};
 ghost use Rattle.disp_structs.specs.Values.{minus};
 ghost use Rattle.free_path.specs.Columns.{divAt};
 ghost use Rattle.image.specs.Image.{divergeAt, nodeAt, distFixedMax};
-ghost use Rattle.image_fault.specs.ImageFault.{noFault, refused};
+ghost use Rattle.link_rules.specs.Refusals.{noRefusal, refused};
 ghost use Rattle.train_update.specs.Update.{adjustSentinel};
 ghost use Rattle.update_image.specs.UpdateImage.{linksBelow, callFault, updateFault};
 use disp_structs::Metres;
 use image::codec;
-use image_fault::Fault;
 use link_rules::link_idx::TrainIdx;
+use link_rules::refusal::Refusal;
 
 // ---- refusals before the first round
 
@@ -34,45 +34,45 @@ fn links_below(blocking: &[u32], l: u32) -> bool
 }
 
 // The moved train and the round limit.
-fn order_fault(moved: TrainIdx, limit: u16) -> Fault
-    ensures { λ r. ⌜ r ≡ cond (eqb (moved .0) 0 || eqb limit 0) (refused 5 0) noFault ⌝ }
+fn order_fault(moved: TrainIdx, limit: u16) -> Refusal
+    ensures { λ r. ⌜ r ≡ cond (eqb (moved .0) 0 || eqb limit 0) (refused 5 0) noRefusal ⌝ }
 {
     if moved.0 == 0 {
-        return Fault {
+        return Refusal {
             number: 5,
             place: 0,
         };
     }
     if limit == 0 {
-        return Fault {
+        return Refusal {
             number: 5,
             place: 0,
         };
     }
-    Fault {
+    Refusal {
         number: 0,
         place: 0,
     }
 }
 
 // 2 occupancy length; 4 blocking links; 5 moved train or limit 0. Of the occupancy only the length is asked.
-pub fn call_fault(l: usize, blocking: &[u32], moved: TrainIdx, limit: u16) -> Fault
+pub fn call_fault(l: usize, blocking: &[u32], moved: TrainIdx, limit: u16) -> Refusal
     ensures { λ r. ⌜ ((occ : List ℕ) → length occ ≡ l → r ≡ callFault occ (now (blocking .entry)) (moved .0) limit) ⌝ }
 {
     if l < 2 {
-        return Fault {
+        return Refusal {
             number: 2,
             place: 0,
         };
     }
     if 4000 < l {
-        return Fault {
+        return Refusal {
             number: 2,
             place: 0,
         };
     }
     if 4000 < blocking.len() {
-        return Fault {
+        return Refusal {
             number: 4,
             place: 0,
         };
@@ -80,14 +80,20 @@ pub fn call_fault(l: usize, blocking: &[u32], moved: TrainIdx, limit: u16) -> Fa
     if links_below(blocking, l as u32) {
         return order_fault(moved, limit);
     }
-    Fault {
+    Refusal {
         number: 4,
         place: 0,
     }
 }
 
 // Those of the call, else those of the image.
-pub fn update_fault(image: &[u8], l: usize, blocking: &[u32], moved: TrainIdx, limit: u16) -> Fault
+pub fn update_fault(
+    image: &[u8],
+    l: usize,
+    blocking: &[u32],
+    moved: TrainIdx,
+    limit: u16,
+) -> Refusal
     ensures { λ r. ⌜ ((occ : List ℕ) → length occ ≡ l → r ≡ updateFault (now (image .entry)) occ (now (blocking .entry)) (moved .0) limit) ⌝ }
 {
     let f = call_fault(l, blocking, moved, limit);

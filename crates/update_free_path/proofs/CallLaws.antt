@@ -10,7 +10,7 @@ use Rattle.image.specs.Image.{estCount, divergeRoom, nodeAt, pathHeader}
 use Rattle.image.specs.Codec.{decoded}
 use Rattle.image.specs.declared.codec.PathHeader.{PathHeader}
 use Rattle.image_fault.specs.ImageFault.{imageFault}
-use Rattle.image_fault.specs.declared.Fault.{Fault}
+use Rattle.link_rules.specs.declared.refusal.Refusal.{Refusal}
 use Rattle.image_fault.proofs.AcceptLaws.{or-else-clean}
 use Rattle.free_path.specs.Base.{Res, at}
 use Rattle.free_path.proofs.ColumnLaws.{listed-out}
@@ -26,13 +26,13 @@ use Rattle.update_free_path.specs.declared.start.Order.{Order}
 pub kept-sizes : (img was image : List ℕ) → was ≡ image → Kept img was → (estCount image ≡ estCount img) × (divergeRoom image ≡ divergeRoom img)
 kept-sizes img was image e k = (ap estCount (sym e) ∙ sym (kept-count img was k), ap divergeRoom (sym e) ∙ sym (kept-le img was k 4 16 (omega arith)))
 
-module _ (img occ blocking : List ℕ) (o : Order) (f : Fault) (e : f ≡ updateFault img occ blocking (o .moved .0) (o .limit)) where
+module _ (img occ blocking : List ℕ) (o : Order) (f : Refusal) (e : f ≡ updateFault img occ blocking (o .moved .0) (o .limit)) where
   abbrev whole : UpdatedImage
   whole = updatedImage img occ blocking (o .moved .0) (o .local) (o .limit)
 
   by-fault : answerBy (f .number) (f .place) (updateOf img occ blocking o) img ≡ whole
   unfolding updatedImage
-  by-fault = ap (λ (x : Fault). answerBy (x .number) (x .place) (updateOf img occ blocking o) img) e
+  by-fault = ap (λ (x : Refusal). answerBy (x .number) (x .place) (updateOf img occ blocking o) img) e
 
   -- refused by 2 to 9
   pub refused-before : (f .number ≡ 0 → ⊥) → refusedAnswer (f .number) (f .place) img ≡ whole
@@ -60,7 +60,7 @@ module _ (img occ blocking : List ℕ) (o : Order) (f : Fault) (e : f ≡ update
 
       clean : (callFault occ blocking (o .moved .0) (o .limit) .number ≡ 0) × (imageFault img (length occ) .number ≡ 0)
       unfolding updateFault
-      clean = or-else-clean (callFault occ blocking (o .moved .0) (o .limit)) (imageFault img (length occ)) (ap (λ (x : Fault). x .number) (sym e) ∙ q)
+      clean = or-else-clean (callFault occ blocking (o .moved .0) (o .limit)) (imageFault img (length occ)) (ap (λ (x : Refusal). x .number) (sym e) ∙ q)
 
       pub begins : h .free < h .«path_count» → Begins img occ h
       begins l = record { fault = clean .1; few = call-links occ blocking (o .moved .0) (o .limit) (clean .0) .1; header = r; free = l }

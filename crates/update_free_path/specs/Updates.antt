@@ -12,7 +12,7 @@ use Rattle.disp_structs.specs.Values.{minus}
 use Rattle.image.specs.Image.{estCount, divergeRoom, nodeAt, distFixedMax, pathHeader}
 use Rattle.image.specs.Codec.{decoded}
 use Rattle.image_fault.specs.ImageFault.{imageFault}
-use Rattle.image_fault.specs.declared.Fault.{Fault}
+use Rattle.link_rules.specs.declared.refusal.Refusal.{Refusal}
 use Rattle.image.specs.declared.codec.PathHeader.{PathHeader}
 use Rattle.free_path.specs.Base.{Res, ok, no}
 use Rattle.free_path.specs.Columns.{link, links, linkAt, flagged}
@@ -207,7 +207,7 @@ abbrev pub updateOf : List ℕ → List ℕ → List ℕ → Order → Update.Up
 updateOf img occ blocking o = Update.updateFreePath occ (linkIdxs blocking) (o .moved) (o .local) (o .limit) (decoded img)
 
 -- what is asked before the first round: refused as the update is, else an update that begins
-pub record Judged (f : Fault) (img occ blocking : List ℕ) (o : Order) : Type 0 where
+pub record Judged (f : Refusal) (img occ blocking : List ℕ) (o : Order) : Type 0 where
   pub refused : (f .number ≡ 0 → ⊥) → refusedAnswer (f .number) (f .place) img ≡ updatedImage img occ blocking (o .moved .0) (o .local) (o .limit)
   pub begins : f .number ≡ 0 → Begins img occ (pathHeader img)
   pub goes : f .number ≡ 0 → storedAnswer (updateOf img occ blocking o) img ≡ updatedImage img occ blocking (o .moved .0) (o .local) (o .limit)

@@ -8,9 +8,9 @@ use answer::Updated;
 use free_path::columns;
 use image::codec;
 use image::codec::PathHeader;
-use image_fault::Fault;
 use link_rules::link_idx::NarrowTrainIdx;
 use link_rules::link_idx::TrainIdx;
+use link_rules::refusal::Refusal;
 use start::Order;
 use update_call;
 ghost use mathlib.Core.Path.{_≡_};
@@ -155,7 +155,7 @@ fn widen_large(image: &mut [u8], occ: &[u16], blocking: &[u32], o: Order) -> Upd
 }
 
 // Refusals 2 and 4 to 10 over l links, else number 0.
-fn start_fault(image: &[u8], l: usize, blocking: &[u32], o: Order) -> Fault
+fn start_fault(image: &[u8], l: usize, blocking: &[u32], o: Order) -> Refusal
     ensures { λ r. ⌜ ((occ : List ℕ) → length occ ≡ l → Judged r (now (image .entry)) occ (now (blocking .entry)) o) ⌝ }
 {
     let moved = o.moved;
@@ -165,7 +165,7 @@ fn start_fault(image: &[u8], l: usize, blocking: &[u32], o: Order) -> Fault
     }
     let h = codec::path_header(image);
     if h.path_count <= h.free as u32 {
-        return Fault {
+        return Refusal {
             number: 10,
             place: 0,
         };

@@ -27,7 +27,8 @@ use Rattle.image.specs.Image.{sizeOf, estCount, pathCount, divergeCount, diverg
 use Rattle.image.specs.Codec.{decoded}
 use Rattle.image.proofs.RecordLaws.{Number}
 use Rattle.image.proofs.CodecLaws.{GoodImage}
-use Rattle.image_fault.specs.ImageFault.{noFault, firstUnfit, countsFit, partsFit, trainFits, estTypeFits, nodeTypeFits, zeroWord, unusedZero, recordsFit, imageFits, floatFits, timeFits, distFits, eventFits, estLinksFit, estFits, nodeFits, indicesFit, headerFits, valueFault, cycleRefused, cycleFault, stepsTo, comesFrom, endsAt, arrivesOn, arrived, firstArrival, onRoute, innerFits, divergeFits, routeFault, imageFault}
+use Rattle.image_fault.specs.ImageFault.{firstUnfit, countsFit, partsFit, trainFits, estTypeFits, nodeTypeFits, zeroWord, unusedZero, recordsFit, imageFits, floatFits, timeFits, distFits, eventFits, estLinksFit, estFits, nodeFits, indicesFit, headerFits, valueFault, cycleRefused, cycleFault, stepsTo, comesFrom, endsAt, arrivesOn, arrived, firstArrival, onRoute, innerFits, divergeFits, routeFault, imageFault}
+use Rattle.link_rules.specs.Refusals.{noRefusal}
 use Rattle.image_fault.proofs.ScanLaws.{both, step-fit}
 use Rattle.free_path.specs.Base.{ok, at}
 use Rattle.train_update.specs.Accepted.{EventAccepted, EstAccepted, NodeAccepted, Accepted, timeAccepted, distanceAccepted}
@@ -44,7 +45,7 @@ unfolding allBelow
 all-true zero test h = refl
 all-true (suc n) test h = and (allBelow n test) (test n) (all-true n test (λ i l. h i (omega arith))) (h n (omega arith))
 
-none-unfit : (m : ℕ) (fits : ℕ → Bool) (k i : ℕ) → ((j : ℕ) → i ≤ j → j < i + k → fits j ≡ true) → firstUnfit m fits k i ≡ noFault
+none-unfit : (m : ℕ) (fits : ℕ → Bool) (k i : ℕ) → ((j : ℕ) → i ≤ j → j < i + k → fits j ≡ true) → firstUnfit m fits k i ≡ noRefusal
 unfolding firstUnfit
 none-unfit m fits zero i h = refl
 none-unfit m fits (suc k) i h = step-fit m fits k i (h i (omega arith) (omega arith)) ∙ none-unfit m fits k (i + 1) (λ j a b. h j (omega arith) (omega arith))
@@ -207,7 +208,7 @@ module _ (bs : List ℕ) (l : ℕ) (g : GoodImage bs) (a : Accepted l (decoded b
       (and (leb (leAt 2 bs 36) n) _ (le-leb (leAt 2 bs 36) n (omega (arith, path-long, a .free)))
       (and (ltb (leAt 2 bs 38) n) (ltb (leAt 2 bs 40) n) (lt-ltb (leAt 2 bs 38) n (omega (arith, path-long, a .front))) (lt-ltb (leAt 2 bs 40) n (omega (arith, path-long, a .back)))))))
 
-  values-clean : valueFault bs l ≡ noFault
+  values-clean : valueFault bs l ≡ noRefusal
   unfolding valueFault
   values-clean =
       rw (
@@ -218,7 +219,7 @@ module _ (bs : List ℕ) (l : ℕ) (g : GoodImage bs) (a : Accepted l (decoded b
 
   -- 8
 
-  cycle-clean : cycleFault bs ≡ noFault
+  cycle-clean : cycleFault bs ≡ noRefusal
   unfolding cycleFault decoded
   cycle-clean =
       let e = estCount bs in
@@ -318,7 +319,7 @@ module _ (bs : List ℕ) (l : ℕ) (g : GoodImage bs) (a : Accepted l (decoded b
           (eq-eqb (divergeAt bs (suc i) .«disp_node_idx») (pathCount bs) (a .divs .end (divergeAt bs (suc i)) (last-at (decoded bs .«div_nodes») (suc i) (omega (arith, diverge-long)) (diverge-at (suc i) h)) ∙ path-long))
       go (inr q) = rw (ne-eqb (suc i + 1) (divergeCount bs) (λ z. omega arith)) (inner-fits i (omega arith))
 
-  route-clean : routeFault bs ≡ noFault
+  route-clean : routeFault bs ≡ noRefusal
   unfolding routeFault
   route-clean =
       rw (

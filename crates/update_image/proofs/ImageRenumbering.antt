@@ -22,8 +22,9 @@ use Rattle.free_path.specs.LinkOptType.{contains}
 use Rattle.free_path.specs.Order.{Perm, done, keep, swap, chain}
 use Rattle.image.specs.Codec.{decoded}
 use Rattle.image.specs.ImageMatch.{ImagesMatch}
-use Rattle.image_fault.specs.ImageFault.{noFault, refused, imageFault}
-use Rattle.image_fault.specs.declared.Fault.{Fault}
+use Rattle.image_fault.specs.ImageFault.{imageFault}
+use Rattle.link_rules.specs.Refusals.{noRefusal, refused}
+use Rattle.link_rules.specs.declared.refusal.Refusal.{Refusal}
 use Rattle.image_fault.proofs.ScanLaws.{both}
 use Rattle.image_fault.proofs.AcceptLaws.{accepted, or-else-clean}
 use Rattle.image_fault.proofs.MatchLaws.{image-fault-match, state-match, stored-match}
@@ -102,11 +103,11 @@ module _ (p q : ℕ → ℕ) (occ occ′ blocking blocking′ : List ℕ) (c : C
 call-below : (occ blocking : List ℕ) (moved limit : ℕ) → callFault occ blocking moved limit .number ≡ 0 → linksBelow (length occ) blocking ≡ true
 unfolding callFault
 call-below occ blocking moved limit h =
-    let r = or-else-clean (cond (leb 2 (length occ) && leb (length occ) 4000) noFault (refused 2 0)) _ h .1 in
-    let s = or-else-clean (cond (leb (length blocking) 4000 && linksBelow (length occ) blocking) noFault (refused 4 0)) _ r .0 in
+    let r = or-else-clean (cond (leb 2 (length occ) && leb (length occ) 4000) noRefusal (refused 2 0)) _ h .1 in
+    let s = or-else-clean (cond (leb (length blocking) 4000 && linksBelow (length occ) blocking) noRefusal (refused 4 0)) _ r .0 in
     both (leb (length blocking) 4000) (linksBelow (length occ) blocking) (go (leb (length blocking) 4000 && linksBelow (length occ) blocking) s) .1
   where
-    go : (t : Bool) → cond t noFault (refused 4 0) .number ≡ 0 → t ≡ true
+    go : (t : Bool) → cond t noRefusal (refused 4 0) .number ≡ 0 → t ≡ true
     go true k = refl
     go false k = absurd (omega arith)
 
@@ -127,10 +128,10 @@ module _ (p q : ℕ → ℕ) (occ occ′ blocking blocking′ : List ℕ) (c : C
   abbrev L : ℕ
   L = length occ
 
-  abbrev f : Fault
+  abbrev f : Refusal
   f = updateFault img occ blocking moved limit
 
-  abbrev f′ : Fault
+  abbrev f′ : Refusal
   f′ = updateFault img′ occ′ blocking′ (q moved) limit
 
   abbrev u : Updated
@@ -146,7 +147,7 @@ module _ (p q : ℕ → ℕ) (occ occ′ blocking blocking′ : List ℕ) (c : C
   pub refused-match : (f .number ≡ 0 → ⊥) → UpdatesMatch p q (updatedImage img occ blocking moved local limit) (updatedImage img′ occ′ blocking′ (q moved) local limit)
   unfolding updatedImage
   refused-match h =
-      subst (λ (x : Fault). UpdatesMatch p q (answerBy (f .number) (f .place) u img) (answerBy (x .number) (x .place) u′ img′)) (sym same-fault)
+      subst (λ (x : Refusal). UpdatesMatch p q (answerBy (f .number) (f .place) u img) (answerBy (x .number) (x .place) u′ img′)) (sym same-fault)
       (refusals-match p q img img′ m (f .number) (f .place) u u′ h)
 
   module _ (b : Bytes img) (b′ : Bytes img′) (w : Trains16 occ) (few : moved < 65536) (z : occupied occ noLink ≡ false) where
@@ -192,5 +193,5 @@ module _ (p q : ℕ → ℕ) (occ occ′ blocking blocking′ : List ℕ) (c : C
         → UpdatesMatch p q (updatedImage img occ blocking moved local limit) (updatedImage img′ occ′ blocking′ (q moved) local limit)
     unfolding updatedImage
     update-match s =
-        subst (λ (x : Fault). UpdatesMatch p q (answerBy (f .number) (f .place) u img) (answerBy (x .number) (x .place) u′ img′)) (sym same-fault)
+        subst (λ (x : Refusal). UpdatesMatch p q (answerBy (f .number) (f .place) u img) (answerBy (x .number) (x .place) u′ img′)) (sym same-fault)
         (answers-match p q img img′ m (f .number) (f .place) u u′ (λ e r. stored-answers e (subst (λ (k : ℕ). answerBy k (f .place) u img .answer .tally .strays ≡ 0) e r)) s)

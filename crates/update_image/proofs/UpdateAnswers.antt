@@ -7,22 +7,23 @@ use native.Mathlib.Omega.{arith}
 use lib.ListN.{length}
 use borrow.Author.Tests.{eq-eqb, ne-eqb}
 use Rattle.image.specs.Codec.{decoded}
-use Rattle.image_fault.specs.ImageFault.{orElse, imageFault}
-use Rattle.image_fault.specs.declared.Fault.{Fault}
+use Rattle.image_fault.specs.ImageFault.{imageFault}
+use Rattle.link_rules.specs.Refusals.{orElse}
+use Rattle.link_rules.specs.declared.refusal.Refusal.{Refusal}
 use Rattle.train_update.specs.Update.{Updated, updateFreePath}
 use Rattle.update_image.specs.UpdateImage.{UpdatedImage, callFault, storedAnswer, refusedAnswer, answerBy, linkIdxs, updateFault, updatedImage}
 
-or-else-first : (a b : Fault) (n : ℕ) → a .number ≡ suc n → orElse a b ≡ a
+or-else-first : (a b : Refusal) (n : ℕ) → a .number ≡ suc n → orElse a b ≡ a
 or-else-first a b n h = ap (λ (t : Bool). cond t b a) (ne-eqb (a .number) 0 (λ q. omega arith))
 
-or-else-second : (a b : Fault) → a .number ≡ 0 → orElse a b ≡ b
+or-else-second : (a b : Refusal) → a .number ≡ 0 → orElse a b ≡ b
 or-else-second a b h = ap (λ (t : Bool). cond t b a) (eq-eqb (a .number) 0 h)
 
 module _ (img occ blocking : List ℕ) (moved : ℕ) (local : Bool) (limit : ℕ) where
-  abbrev call : Fault
+  abbrev call : Refusal
   call = callFault occ blocking moved limit
 
-  abbrev image : Fault
+  abbrev image : Refusal
   image = imageFault img (length occ)
 
   abbrev u : Updated
@@ -31,9 +32,9 @@ module _ (img occ blocking : List ℕ) (moved : ℕ) (local : Bool) (limit : ℕ
   abbrev after : UpdatedImage
   after = updatedImage img occ blocking moved local limit
 
-  by : (f : Fault) → updateFault img occ blocking moved limit ≡ f → after ≡ answerBy (f .number) (f .place) u img
+  by : (f : Refusal) → updateFault img occ blocking moved limit ≡ f → after ≡ answerBy (f .number) (f .place) u img
   unfolding updatedImage
-  by f q = ap (λ (x : Fault). answerBy (x .number) (x .place) u img) q
+  by f q = ap (λ (x : Refusal). answerBy (x .number) (x .place) u img) q
 
   pub call-refused : (n : ℕ) → call .number ≡ suc n → after ≡ refusedAnswer (suc n) (call .place) img
   unfolding updateFault

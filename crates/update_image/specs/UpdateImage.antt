@@ -7,8 +7,9 @@ use lib.ListN.{length}
 use Rattle.link_rules.specs.declared.link_idx.LinkIdx.{LinkIdx}
 use Rattle.disp_structs.specs.Train.{Train}
 use Rattle.image.specs.Codec.{decoded, storedInto}
-use Rattle.image_fault.specs.ImageFault.{noFault, refused, refusedUnless, orElse, lengthFault, imageFault}
-use Rattle.image_fault.specs.declared.Fault.{Fault}
+use Rattle.image_fault.specs.ImageFault.{lengthFault, imageFault}
+use Rattle.link_rules.specs.Refusals.{noRefusal, refused, refusedUnless, orElse}
+use Rattle.link_rules.specs.declared.refusal.Refusal.{Refusal}
 use Rattle.tally.specs.Tally.{started}
 use Rattle.train_update.specs.Update.{Status, Success, Blocked, Faulty, Refused, Answer, Updated, answerOf, updateFreePath}
 
@@ -25,14 +26,14 @@ linksBelow l [] = true
 linksBelow l (b ∷ bs) = ltb b l && linksBelow l bs
 
 -- 4: more than 4,000 blocking links, or one that is not below L
-abbrev pub blockingFault : ℕ → List ℕ → Fault
+abbrev pub blockingFault : ℕ → List ℕ → Refusal
 blockingFault l blocking = refusedUnless (leb (length blocking) 4000 && linksBelow l blocking) 4
 
 -- 5: moved or limit 0
-abbrev pub orderFault : ℕ → ℕ → Fault
-orderFault moved limit = cond (eqb moved 0 || eqb limit 0) (refused 5 0) noFault
+abbrev pub orderFault : ℕ → ℕ → Refusal
+orderFault moved limit = cond (eqb moved 0 || eqb limit 0) (refused 5 0) noRefusal
 
-unfoldable pub callFault : List ℕ → List ℕ → ℕ → ℕ → Fault
+unfoldable pub callFault : List ℕ → List ℕ → ℕ → ℕ → Refusal
 callFault occ blocking moved limit =
     orElse (lengthFault (length occ))
     (orElse (blockingFault (length occ) blocking)
@@ -62,7 +63,7 @@ abbrev pub linkIdxs : List ℕ → List LinkIdx
 linkIdxs blocking = map (λ (n : ℕ). record { 0 = n }) blocking
 
 -- refusals 2 to 9 of the call and of the image
-unfoldable pub updateFault : List ℕ → List ℕ → List ℕ → ℕ → ℕ → Fault
+unfoldable pub updateFault : List ℕ → List ℕ → List ℕ → ℕ → ℕ → Refusal
 updateFault img occ blocking moved limit = orElse (callFault occ blocking moved limit) (imageFault img (length occ))
 
 -- the image, the occupancy, the blocking list, the moved train, local, the round limit; 10 to 13 are those of updateFreePath

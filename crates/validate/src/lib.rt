@@ -1,4 +1,4 @@
-// The number of errors of validate_free_path (free_path.rs 749-821), over the bytes of an image.
+// The number of errors of validate_free_path (free_path.rs 748-820), over the bytes of an image.
 // Every function here is proved, the crate assumes nothing of its own, and no public function has a `requires`.
 ghost use mathlib.Core.Path.{_≡_};
 ghost use mathlib.Core.Bool.{cond};

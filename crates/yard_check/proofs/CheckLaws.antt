@@ -9,8 +9,9 @@ use lib.ListN.{length, drop, take-append-drop}
 use lib.Seq.{drop-drop}
 use borrow.Author.Tests.{eqb-true, leb-true, eq-eqb, ne-eqb, lt-ltb, le-ltb}
 use Rattle.link_rules.proofs.OctetLaws.{Bytes}
-use Rattle.image_fault.specs.ImageFault.{noFault, refused, imageFault}
-use Rattle.image_fault.specs.declared.Fault.{Fault}
+use Rattle.image_fault.specs.ImageFault.{imageFault}
+use Rattle.link_rules.specs.Refusals.{noRefusal, refused}
+use Rattle.link_rules.specs.declared.refusal.Refusal.{Refusal}
 use Rattle.image_fault.proofs.ScanLaws.{both}
 use Rattle.image_fault.proofs.AcceptLaws.{or-else-clean}
 use Rattle.update_image.specs.UpdateImage.{UpdatedImage, callFault, updatedImage}
@@ -32,7 +33,7 @@ pub record Taken (yard occ : List ℕ) (a : CheckArgs) (long : ℕ) : Type 0 whe
   pub begin-high : a .begin ≤ slotCount yard + 1
   pub report-long : long ≡ rowSize * slotCount yard
 
-clean-test : (n : ℕ) (x : Bool) → cond x noFault (refused (suc n) 0) .number ≡ 0 → x ≡ true
+clean-test : (n : ℕ) (x : Bool) → cond x noRefusal (refused (suc n) 0) .number ≡ 0 → x ≡ true
 clean-test n true k = refl
 clean-test n false k = absurd (omega arith)
 
@@ -64,7 +65,7 @@ never rows slots begin n place = go (howMany (λ t. isErredRow (rows t)) slots) 
     go (suc k) d m e = let z : _≡_ {A = ℕ} 0 1 = cc in omega arith
 
 module _ (yard occ : List ℕ) (a : CheckArgs) (report : List ℕ) where
-  abbrev f : Fault
+  abbrev f : Refusal
   f = checkFault yard occ a (length report)
 
   abbrev after : Checked
@@ -125,7 +126,7 @@ module _ (yard occ : List ℕ) (a : CheckArgs) (report : List ℕ) where
 -- ---- a visit, case by case
 
 module _ (occ : List ℕ) (a : CheckArgs) (t : ℕ) (img : List ℕ) where
-  abbrev fault : Fault
+  abbrev fault : Refusal
   fault = imageFault img (length occ)
 
   abbrev u : UpdatedImage

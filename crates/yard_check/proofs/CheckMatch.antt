@@ -12,7 +12,7 @@ use Rattle.link_rules.specs.Renumbering.{Renumbering}
 use Rattle.link_rules.specs.Matching.{OccupanciesMatch}
 use Rattle.link_rules.proofs.OctetLaws.{Bytes}
 use Rattle.image_fault.specs.ImageFault.{imageFault}
-use Rattle.image_fault.specs.declared.Fault.{Fault}
+use Rattle.link_rules.specs.declared.refusal.Refusal.{Refusal}
 use Rattle.train_update.specs.Update.{Status, Success, Blocked, Faulty, Refused}
 use Rattle.update_image.specs.UpdateImage.{UpdatedImage, updatedImage}
 use Rattle.update_image.specs.UpdateMatch.{CallsMatch}
@@ -101,7 +101,7 @@ module _ (top : ℕ) (few-trains : top < 65536) (p q : ℕ → ℕ) (yard yard�
   abbrev S : ℕ
   S = slotCount yard
 
-  abbrev f : Fault
+  abbrev f : Refusal
   f = checkFault yard occ a (length report)
 
   calls : CallsMatch p q occ occ′ (a .blocking) (a′ .blocking)
@@ -231,5 +231,5 @@ module _ (top : ℕ) (few-trains : top < 65536) (p q : ℕ → ℕ) (yard yard�
     pub check-match : ChecksMatch p q S (checkedWith yard occ a report) (checkedWith yard′ occ′ a′ report′)
     unfolding checkedWith
     check-match =
-        subst (λ (x : Fault). ChecksMatch p q S (checkedBy (f .number) (f .place) done yard report) (checkedBy (x .number) (x .place) done′ yard′ report′)) (sym fault-same)
+        subst (λ (x : Refusal). ChecksMatch p q S (checkedBy (f .number) (f .place) done yard report) (checkedBy (x .number) (x .place) done′ yard′ report′)) (sym fault-same)
         (by (f .number) (f .place) (λ e. let k = plain e in done-match e (k .begin) (k .zero-empty) (none-counted few e (k .begin) (k .strays))))

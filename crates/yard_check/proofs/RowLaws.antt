@@ -16,8 +16,9 @@ use Rattle.est_times.specs.declared.Cycle.{Cycle}
 use Rattle.est_times.specs.declared.Cycle.the-variants.{None, At}
 use Rattle.est_times.specs.Cycles.{firstOnCycle}
 use Rattle.image.specs.Codec.{decoded}
-use Rattle.image_fault.specs.ImageFault.{lengthFault, layoutFault, noFault, refused, orElse, firstUnfit, imageFits, estFits, nodeFits, headerFits, valueFault, cycleRefused, cycleFault, nexts, alts, onRoute, divergeFits, routeFault, imageFault}
-use Rattle.image_fault.specs.declared.Fault.{Fault}
+use Rattle.image_fault.specs.ImageFault.{lengthFault, layoutFault, firstUnfit, imageFits, estFits, nodeFits, headerFits, valueFault, cycleRefused, cycleFault, nexts, alts, onRoute, divergeFits, routeFault, imageFault}
+use Rattle.link_rules.specs.Refusals.{noRefusal, refused, orElse}
+use Rattle.link_rules.specs.declared.refusal.Refusal.{Refusal}
 use Rattle.image.specs.Image.{estCount, pathCount, divergeCount}
 use Rattle.image_fault.proofs.ScanLaws.{step-fit, step-unfit}
 use Rattle.free_path.specs.Base.{Res, ok, no, at}
@@ -41,11 +42,11 @@ first-low n fits (suc k) i = go (fits i) refl (first-low n fits k (i + 1))
     go true e h = rw (step-fit n fits k i e) h
     go false e h = rw (step-unfit n fits k i e) (omega arith)
 
-cond-low : (t : Bool) (a b : Fault) → a .number ≤ 9 → b .number ≤ 9 → cond t a b .number ≤ 9
+cond-low : (t : Bool) (a b : Refusal) → a .number ≤ 9 → b .number ≤ 9 → cond t a b .number ≤ 9
 cond-low true a b x y = x
 cond-low false a b x y = y
 
-or-low : (a b : Fault) → a .number ≤ 9 → b .number ≤ 9 → orElse a b .number ≤ 9
+or-low : (a b : Refusal) → a .number ≤ 9 → b .number ≤ 9 → orElse a b .number ≤ 9
 or-low a b x y = cond-low (eqb (a .number) 0) b a y x
 
 cycle-low : (x : Cycle) → cycleRefused x .number ≤ 9
@@ -55,11 +56,11 @@ cycle-low (At i) = omega arith
 value-low : (bs : List ℕ) (l : ℕ) → valueFault bs l .number ≤ 9
 unfolding valueFault
 value-low bs l =
-    or-low (firstUnfit 7 (estFits bs l) (estCount bs) 0) (orElse (firstUnfit 7 (nodeFits bs l) (pathCount bs) 0) (cond (headerFits bs) noFault (refused 7 0)))
+    or-low (firstUnfit 7 (estFits bs l) (estCount bs) 0) (orElse (firstUnfit 7 (nodeFits bs l) (pathCount bs) 0) (cond (headerFits bs) noRefusal (refused 7 0)))
     (omega (arith, first-low 7 (estFits bs l) (estCount bs) 0))
-    (or-low (firstUnfit 7 (nodeFits bs l) (pathCount bs) 0) (cond (headerFits bs) noFault (refused 7 0))
+    (or-low (firstUnfit 7 (nodeFits bs l) (pathCount bs) 0) (cond (headerFits bs) noRefusal (refused 7 0))
     (omega (arith, first-low 7 (nodeFits bs l) (pathCount bs) 0))
-    (cond-low (headerFits bs) noFault (refused 7 0) (omega arith) (omega arith)))
+    (cond-low (headerFits bs) noRefusal (refused 7 0) (omega arith) (omega arith)))
 
 cycle-fault-low : (bs : List ℕ) → cycleFault bs .number ≤ 9
 unfolding cycleFault
@@ -79,9 +80,9 @@ image-number bs l =
     let rest = orElse (cycleFault bs) (routeFault bs) in
     let all = orElse (valueFault bs l) rest in
     or-low (lengthFault l) (orElse (layoutFault bs) all)
-    (cond-low (leb 2 l && leb l 4000) noFault (refused 2 0) (omega arith) (omega arith))
+    (cond-low (leb 2 l && leb l 4000) noRefusal (refused 2 0) (omega arith) (omega arith))
     (or-low (layoutFault bs) all
-    (cond-low (imageFits bs) noFault (refused 6 0) (omega arith) (omega arith))
+    (cond-low (imageFits bs) noRefusal (refused 6 0) (omega arith) (omega arith))
     (or-low (valueFault bs l) rest (value-low bs l) (or-low (cycleFault bs) (routeFault bs) (cycle-fault-low bs) (route-low bs))))
 
 update-number : (occ : List ℕ) (blocking : List LinkIdx) (moved : TrainIdx) (local : Bool) (limit : ℕ) (t : Train) (n place : ℕ)
@@ -94,7 +95,7 @@ update-number occ blocking moved local limit t n place = go (at (t .«disp_path�
     go (ok m) h = let g = givenOf occ blocking moved local t m in refused-number limit g t (startOf g t) n place h .0
 
 module _ (img occ blocking : List ℕ) (moved : ℕ) (local : Bool) (limit : ℕ) (call : callFault occ blocking moved limit .number ≡ 0) where
-  abbrev f : Fault
+  abbrev f : Refusal
   f = imageFault img (length occ)
 
   abbrev u : UpdatedImage
@@ -141,7 +142,7 @@ stays-refused zero place code h = absurd (h refl)
 stays-refused (suc n) place code h = refl
 
 module _ (occ : List ℕ) (a : CheckArgs) (t : ℕ) (img : List ℕ) where
-  abbrev v : Fault
+  abbrev v : Refusal
   v = imageFault img (length occ)
 
   abbrev w : UpdatedImage

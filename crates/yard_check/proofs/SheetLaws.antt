@@ -11,7 +11,6 @@ use borrow.Author.Tests.{eq-eqb, ne-eqb}
 use Rattle.link_rules.specs.Octets.{leAt}
 use Rattle.image_reader.specs.Reader.{freeOf}
 use Rattle.image_fault.specs.ImageFault.{imageFault}
-use Rattle.image_fault.specs.declared.Fault.{Fault}
 use Rattle.link_rules.specs.declared.refusal.Refusal.{Refusal}
 use Rattle.yard_check.specs.Yard.{slotCount, partOf}
 use Rattle.yard_check.specs.Check.{CheckArgs, rowSize, checkFault, Row, isFinishedRow, isBlockedRow, isErredRow, rowFrom, howMany, firstNot, slotRow, Erred, Done, answerBy, answerOf, Checked, checkDone, checkedBy, checkedWith, checked}
@@ -31,7 +30,7 @@ word-refused c n0 n1 n2 n3 n4 n5 = rw (ne-eqb c 0 n0, ne-eqb c 1 n1, ne-eqb c 2 
 
 -- ---- free, 0 for a bad image
 
-module _ (img : List ℕ) (links : ℕ) (f : Fault) (is : f ≡ imageFault img links) where
+module _ (img : List ℕ) (links : ℕ) (f : Refusal) (is : f ≡ imageFault img links) where
   pub free-good : f .number ≡ 0 → freeColumn img links ≡ freeOf img
   unfolding freeColumn
   free-good h = rw (← is, eq-eqb (f .number) 0 h)
@@ -97,7 +96,7 @@ answered P rows slots begin p =
     (firstNot (λ t. isFinishedRow (rows t)) (slots + 1 - begin) begin) p
 
 module _ (yard occ : List ℕ) (a : CheckArgs) (report : List ℕ) where
-  abbrev f : Fault
+  abbrev f : Refusal
   f = checkFault yard occ a (length report)
 
   few : f .number ≡ 0 → slotCount (checkDone yard occ a report .yard) ≤ 63

@@ -11,8 +11,9 @@ use Rattle.link_rules.specs.Octets.{leAt}
 use Rattle.disp_structs.specs.Listed.{listed}
 use Rattle.image.specs.Image.{pathCount, pathHeader}
 use Rattle.image_reader.specs.Reader.{freeOf}
-use Rattle.image_fault.specs.ImageFault.{noFault, refused, orElse, imageFault, distFits, indicesFit, headerFits}
-use Rattle.image_fault.specs.declared.Fault.{Fault}
+use Rattle.image_fault.specs.ImageFault.{imageFault, distFits, indicesFit, headerFits}
+use Rattle.link_rules.specs.Refusals.{noRefusal, refused, orElse}
+use Rattle.link_rules.specs.declared.refusal.Refusal.{Refusal}
 use Rattle.image_fault.proofs.ScanLaws.{both}
 use Rattle.image_fault.proofs.AcceptLaws.{accepted, fits-counts, clean-header}
 use Rattle.update_image.specs.UpdateImage.{linksBelow, callFault}
@@ -135,32 +136,32 @@ refused-long : (n : ℕ) → n ≤ 17 → length (refusedLine n) ≤ 4096
 unfolding ascii listed
 refused-long n h = let a = column-long 1 n (omega arith) in simp length-append (omega arith)
 
-one-of : (t : Bool) (a b : Fault) → a .number ≤ 17 → b .number ≤ 17 → cond t a b .number ≤ 17
+one-of : (t : Bool) (a b : Refusal) → a .number ≤ 17 → b .number ≤ 17 → cond t a b .number ≤ 17
 one-of true a b h k = h
 one-of false a b h k = k
 
-or-few : (a b : Fault) → a .number ≤ 17 → b .number ≤ 17 → orElse a b .number ≤ 17
+or-few : (a b : Refusal) → a .number ≤ 17 → b .number ≤ 17 → orElse a b .number ≤ 17
 or-few a b h k = one-of (eqb (a .number) 0) b a k h
 
 call-few : (occ blocking : List ℕ) (moved limit : ℕ) → callFault occ blocking moved limit .number ≤ 17
 unfolding callFault
 call-few occ blocking moved limit =
-    or-few (cond (leb 2 (length occ) && leb (length occ) 4000) noFault (refused 2 0)) _ (one-of (leb 2 (length occ) && leb (length occ) 4000) noFault (refused 2 0) (omega arith) (omega arith))
-    (or-few (cond (leb (length blocking) 4000 && linksBelow (length occ) blocking) noFault (refused 4 0)) (cond (eqb moved 0 || eqb limit 0) (refused 5 0) noFault)
-    (one-of (leb (length blocking) 4000 && linksBelow (length occ) blocking) noFault (refused 4 0) (omega arith) (omega arith))
-    (one-of (eqb moved 0 || eqb limit 0) (refused 5 0) noFault (omega arith) (omega arith)))
+    or-few (cond (leb 2 (length occ) && leb (length occ) 4000) noRefusal (refused 2 0)) _ (one-of (leb 2 (length occ) && leb (length occ) 4000) noRefusal (refused 2 0) (omega arith) (omega arith))
+    (or-few (cond (leb (length blocking) 4000 && linksBelow (length occ) blocking) noRefusal (refused 4 0)) (cond (eqb moved 0 || eqb limit 0) (refused 5 0) noRefusal)
+    (one-of (leb (length blocking) 4000 && linksBelow (length occ) blocking) noRefusal (refused 4 0) (omega arith) (omega arith))
+    (one-of (eqb moved 0 || eqb limit 0) (refused 5 0) noRefusal (omega arith) (omega arith)))
 
 fault-few : (yard occ : List ℕ) (a : CheckArgs) (long : ℕ) → checkFault yard occ a long .number ≤ 17
 unfolding checkFault slotsFault reportFault
 fault-few yard occ a long =
     let S = slotCount yard in
     or-few (callFault occ (a .blocking) (a .moved) (a .limit)) _ (call-few occ (a .blocking) (a .moved) (a .limit))
-    (or-few (yardFault yard) _ (one-of (yardFits yard) noFault (refused 14 0) (omega arith) (omega arith))
-    (or-few (slotsFault S a) (reportFault S long) (one-of (leb (a .moved) S && (leb 1 (a .begin) && leb (a .begin) (S + 1))) noFault (refused 15 0) (omega arith) (omega arith))
-    (one-of (eqb long (rowSize * S)) noFault (refused 16 0) (omega arith) (omega arith))))
+    (or-few (yardFault yard) _ (one-of (yardFits yard) noRefusal (refused 14 0) (omega arith) (omega arith))
+    (or-few (slotsFault S a) (reportFault S long) (one-of (leb (a .moved) S && (leb 1 (a .begin) && leb (a .begin) (S + 1))) noRefusal (refused 15 0) (omega arith) (omega arith))
+    (one-of (eqb long (rowSize * S)) noRefusal (refused 16 0) (omega arith) (omega arith))))
 
 module _ (yard occ : List ℕ) (a : CheckArgs) (report : List ℕ) (links : ℕ) where
-  abbrev f : Fault
+  abbrev f : Refusal
   f = checkFault yard occ a (length report)
 
   abbrev rows : ℕ → Row

@@ -11,7 +11,7 @@ use lib.ListN.{length, take, drop}
 use borrow.Rule.Slice.PartMut.{post-is}
 use borrow.Author.Tests.{le-ltb}
 use Rattle.image.proofs.Writers.{side}
-use Rattle.image_fault.specs.declared.Fault.{Fault}
+use Rattle.link_rules.specs.declared.refusal.Refusal.{Refusal}
 use Rattle.update_call.proofs.CallLaws.{call-links}
 use Rattle.yard_check.specs.Yard.{slotCount, partFrom, partUntil, partOf, withPart}
 use Rattle.yard_check.specs.Check.{CheckArgs, rowSize, checkFault, Row, unvisitedRow, isFinishedRow, isBlockedRow, isErredRow, putRow, Visit, visit, visited, slotVisit, slotRow, slotImage, yardAfter, reportAfter, howMany, firstNot, Refused, Erred, answerBy, answerOf, check, checkDone, checkedBy, checkedWith}
@@ -182,7 +182,7 @@ module _ (yard occ : List ℕ) (a : CheckArgs) (report : List ℕ) (clean : chec
   visited-all x yard′ report′ v =
       rw (v .tally, v .yard-left, v .report-left) (sym (taken-done yard occ a report clean))
 
-pub check-refused : (yard occ : List ℕ) (a : CheckArgs) (report : List ℕ) (f : Fault) → f ≡ checkFault yard occ a (length report) → (f .number ≡ 0 → ⊥)
+pub check-refused : (yard occ : List ℕ) (a : CheckArgs) (report : List ℕ) (f : Refusal) → f ≡ checkFault yard occ a (length report) → (f .number ≡ 0 → ⊥)
     → check (Refused (f .number) (f .place)) yard report ≡ checkedWith yard occ a report
 unfolding checkedWith
 check-refused yard occ a report f e h = rw (← e) (go (f .number) h)

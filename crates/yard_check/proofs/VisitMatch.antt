@@ -13,7 +13,7 @@ use Rattle.link_rules.proofs.RenumberingLaws.{eqb-renumbered}
 use Rattle.image.specs.ImageMatch.{ImagesMatch}
 use Rattle.image.proofs.MatchLaws.{path-count, header-high}
 use Rattle.image_fault.specs.ImageFault.{imageFault}
-use Rattle.image_fault.specs.declared.Fault.{Fault}
+use Rattle.link_rules.specs.declared.refusal.Refusal.{Refusal}
 use Rattle.image_fault.proofs.MatchLaws.{image-fault-match}
 use Rattle.train_update.specs.Update.{Status, Success, Blocked, Faulty, Refused}
 use Rattle.update_image.specs.UpdateImage.{UpdatedImage, updatedImage}
@@ -71,7 +71,7 @@ module _ (p q : ℕ → ℕ) (occ occ′ : List ℕ) (a a′ : CheckArgs) (g : A
     abbrev u′ : UpdatedImage
     u′ = updatedImage img′ occ′ (a′ .blocking) (q (a .moved)) (a .local) (a .limit)
 
-    abbrev f : Fault
+    abbrev f : Refusal
     f = imageFault img (length occ)
 
     fault-same : imageFault img′ (length occ′) ≡ f

@@ -7,8 +7,9 @@ use lib.ListN.{length}
 use Rattle.link_rules.specs.Octets.{leAt, putLe}
 use Rattle.image.specs.Image.{pathCount}
 use Rattle.image_reader.specs.Reader.{freeOf}
-use Rattle.image_fault.specs.ImageFault.{noFault, refused, orElse, imageFault}
-use Rattle.image_fault.specs.declared.Fault.{Fault}
+use Rattle.image_fault.specs.ImageFault.{imageFault}
+use Rattle.link_rules.specs.Refusals.{noRefusal, refused, orElse}
+use Rattle.link_rules.specs.declared.refusal.Refusal.{Refusal}
 use Rattle.train_update.specs.Update.{Answer as UpdateAnswer, Status, Success, Blocked, Faulty, Refused as UpdateRefused}
 use Rattle.update_image.specs.UpdateImage.{UpdatedImage, callFault, updatedImage}
 use Rattle.yard_check.specs.Yard.{slotCount, partOf, withPart, yardFault}
@@ -53,15 +54,15 @@ faultsAt k = k + 12
 -- ---- refusals 2, 4, 5, 14, 15 and 16, in this order, with place 0
 
 -- 15: moved above S, or begin outside 1 to S + 1
-unfoldable pub slotsFault : ℕ → CheckArgs → Fault
-slotsFault slots a = cond (leb (a .moved) slots && (leb 1 (a .begin) && leb (a .begin) (slots + 1))) noFault (refused 15 0)
+unfoldable pub slotsFault : ℕ → CheckArgs → Refusal
+slotsFault slots a = cond (leb (a .moved) slots && (leb 1 (a .begin) && leb (a .begin) (slots + 1))) noRefusal (refused 15 0)
 
 -- 16: the report has not a record for each slot
-unfoldable pub reportFault : ℕ → ℕ → Fault
-reportFault slots long = cond (eqb long (rowSize * slots)) noFault (refused 16 0)
+unfoldable pub reportFault : ℕ → ℕ → Refusal
+reportFault slots long = cond (eqb long (rowSize * slots)) noRefusal (refused 16 0)
 
 -- long is the length of the report
-unfoldable pub checkFault : List ℕ → List ℕ → CheckArgs → ℕ → Fault
+unfoldable pub checkFault : List ℕ → List ℕ → CheckArgs → ℕ → Refusal
 checkFault yard occ a long =
     orElse (callFault occ (a .blocking) (a .moved) (a .limit))
     (orElse (yardFault yard)

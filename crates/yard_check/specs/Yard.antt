@@ -7,8 +7,8 @@ use lib.ListN.{length, take, drop}
 use Rattle.link_rules.specs.Octets.{leAt}
 use Rattle.image.specs.Fields.{trainField, readIn}
 use Rattle.link_rules.specs.Network.{allBelow}
-use Rattle.image_fault.specs.ImageFault.{noFault, refused}
-use Rattle.image_fault.specs.declared.Fault.{Fault}
+use Rattle.link_rules.specs.Refusals.{noRefusal, refused}
+use Rattle.link_rules.specs.declared.refusal.Refusal.{Refusal}
 
 abbrev pub yardSize : List ℕ → ℕ
 yardSize yard = leAt 4 yard 0
@@ -52,5 +52,5 @@ yardFits yard =
     eqb (yardSize yard) (length yard) && (leb 1 (slotCount yard) && (leb (slotCount yard) 63 && (eqb (partBegin yard 1) (8 + 4 * slotCount yard)
     && allBelow (slotCount yard) (λ i. partFits yard (i + 1)))))
 
-abbrev pub yardFault : List ℕ → Fault
-yardFault yard = cond (yardFits yard) noFault (refused 14 0)
+abbrev pub yardFault : List ℕ → Refusal
+yardFault yard = cond (yardFits yard) noRefusal (refused 14 0)

@@ -4,7 +4,6 @@ use crate::yard;
 use free_path::columns;
 use image::codec;
 use image_fault;
-use image_fault::Fault;
 use image_reader;
 use link_rules::link_idx::NarrowTrainIdx;
 use link_rules::link_idx::TrainIdx;
@@ -20,7 +19,8 @@ ghost use mathlib.Core.List.{List, []};
 ghost use Prim.Native.Nat.{ℕ, _+_, _≤_, _<_};
 ghost use lib.Dec.{eqb};
 ghost use lib.ListN.{length};
-ghost use Rattle.image_fault.specs.ImageFault.{imageFault, orElse};
+ghost use Rattle.image_fault.specs.ImageFault.{imageFault};
+ghost use Rattle.link_rules.specs.Refusals.{orElse};
 ghost use Rattle.update_image.specs.UpdateImage.{callFault};
 ghost use Rattle.update_free_path.specs.Updates as Updates;
 ghost use Rattle.yard_check.specs.Check as Check;
@@ -59,17 +59,17 @@ pub(crate) struct Tally {
 
 // ---- refusals 2, 4, 5, 14, 15 and 16, in this order
 
-fn fault(number: u16) -> Fault
+fn fault(number: u16) -> Refusal
     ensures { λ r. ⌜ r ≡ record { number = number; place = 0 } ⌝ }
 {
-    Fault {
+    Refusal {
         number: number,
         place: 0,
     }
 }
 
 // 15, 16; long is the length of the report.
-fn slots_fault(slots: u32, a: Args, long: usize) -> Fault
+fn slots_fault(slots: u32, a: Args, long: usize) -> Refusal
     ensures { λ r. ⌜ r ≡ orElse (Check.slotsFault slots (argsOf [] a)) (Check.reportFault slots long) ⌝ }
 {
     if slots < a.moved.0 {
@@ -88,7 +88,7 @@ fn slots_fault(slots: u32, a: Args, long: usize) -> Fault
 }
 
 // Of the occupancy only the length is asked.
-fn check_fault(yard: &[u8], l: usize, blocking: &[u32], a: Args, long: usize) -> Fault
+fn check_fault(yard: &[u8], l: usize, blocking: &[u32], a: Args, long: usize) -> Refusal
     ensures { λ r. ⌜ ((occ : List ℕ) → length occ ≡ l → r ≡ Check.checkFault (now (yard .entry)) occ (argsOf (now (blocking .entry)) a) long) ⌝ }
 {
     let f = update_call::call_fault(l, blocking, a.moved, a.limit);

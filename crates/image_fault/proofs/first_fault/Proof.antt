@@ -2,7 +2,7 @@ use Rattle.image_fault.specs.ImageFault.{imageFault}
 use Rattle.image_fault.proofs.AcceptLaws.{fits-counts, clean-link}
 use borrow.Author.Tests.{eq-eqb, ne-eqb, le-leb, lt-leb}
 use mathlib.Core.Path.{sym, ap, _∙_}
-use Rattle.image_fault.specs.declared.Fault.{Fault}
+use Rattle.link_rules.specs.declared.refusal.Refusal.{Refusal}
 use denote.Ref.{now}
 use native.Mathlib.Omega.{arith}
 use borrow.Author.Needs.{needs}
@@ -39,7 +39,7 @@ returns-4 c = rw (le-leb 2 (c .before .before .before .before .before .before .b
 
 route-fault-requires : tie.Need-route-fault-requires
 route-fault-requires c κs =
-    let clean = sym (ap (λ (f : Fault). f .number) (c .before .before .before .before .before .before .value-fault .ensures)) ∙ c .before .before .before .before .if4 .left in
+    let clean = sym (ap (λ (f : Refusal). f .number) (c .before .before .before .before .before .before .value-fault .ensures)) ∙ c .before .before .before .before .if4 .left in
     (fits-counts (now (c .before .before .before .before .before .before .before .before .before .before .before .before .args .img)) (sym (c .before .before .before .before .before .before .before .before .image-fits .ensures) ∙ c .before .before .before .before .before .before .before .if3 .taken), omega arith, clean-link (now (c .before .before .before .before .before .before .before .before .before .before .before .before .args .img)) (c .before .before .before .before .before .before .before .before .before .before .before .before .args .links) clean)
 
 returns-5 : tie.Need-returns-5

@@ -4,7 +4,7 @@ use native.Mathlib.Omega.{arith}
 use lib.Seq.{length-take-le}
 use borrow.Author.Needs.{needs}
 use denote.Ref.{now}
-use Rattle.image_fault.specs.declared.Fault.{Fault}
+use Rattle.link_rules.specs.declared.refusal.Refusal.{Refusal}
 use Rattle.path_page.specs.Page.{drawingRule}
 use Rattle.path_page.proofs.PageLaws.{lines-room}
 use Rattle.page.proofs.print_page.Statement.{statement}
@@ -35,7 +35,7 @@ slice-reshare-prefix-write-all : tie.Need-slice-reshare-prefix-write-all
 slice-reshare-prefix-write-all c =
     let o = c .before .before .before .before .before .page in
     let a = c .before .before .before .before .before .before .before .before .before .args in
-    let z = sym (ap (λ (f : Fault). f .number) (o .ensures .0)) ∙ c .before .if1 .left in
+    let z = sym (ap (λ (f : Refusal). f .number) (o .ensures .0)) ∙ c .before .if1 .left in
     let room = lines-room drawingRule (now (a .image)) (now (a .page)) z in
     omega (arith, room, c .path-count .ensures, o .kept .1 .0)
 
@@ -43,7 +43,7 @@ slice-aggregate-write-all : tie.Need-slice-aggregate-write-all
 slice-aggregate-write-all c =
     let o = c .before .before .before .before .before .before .page in
     let a = c .before .before .before .before .before .before .before .before .before .before .args in
-    let z = sym (ap (λ (f : Fault). f .number) (o .ensures .0)) ∙ c .before .before .if1 .left in
+    let z = sym (ap (λ (f : Refusal). f .number) (o .ensures .0)) ∙ c .before .before .if1 .left in
     let room = lines-room drawingRule (now (a .image)) (now (a .page)) z in
     sym (length-take-le (40 * c .before .path-count .result) (o .last .1 .0) (omega (arith, room, c .before .path-count .ensures, o .kept .1 .0)))
 

@@ -5,7 +5,7 @@ use denote.Ref.{now}
 use lib.ListN.{length, replicate, length-replicate}
 use borrow.Author.Needs.{needs}
 use borrow.Author.Tests.{eq-eqb, ne-eqb}
-use Rattle.image_fault.specs.declared.Fault.{Fault}
+use Rattle.link_rules.specs.declared.refusal.Refusal.{Refusal}
 use Rattle.update_image.specs.UpdateImage.{updateFault}
 use Rattle.update_call.proofs.CallLaws.{call-links}
 use Rattle.update_call.proofs.update_fault.Statement.{statement}
@@ -24,7 +24,7 @@ cast-image-fault c =
     let a = c .before .before .before .before .before .args in
     let occ = replicate {A = ℕ} (a .l) 0 in
     let q : length occ ≡ a .l = length-replicate {A = ℕ} (a .l) 0 in
-    omega (arith, q, call-links occ (now (a .blocking)) (a .moved .0) (a .limit) (ap (λ (x : Fault). x .number) (sym (f .ensures occ q)) ∙ c .if1 .left) .1)
+    omega (arith, q, call-links occ (now (a .blocking)) (a .moved .0) (a .limit) (ap (λ (x : Refusal). x .number) (sym (f .ensures occ q)) ∙ c .if1 .left) .1)
 
 image-fault-requires : tie.Need-image-fault-requires
 image-fault-requires c κs = search needs

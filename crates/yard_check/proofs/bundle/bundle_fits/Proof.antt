@@ -5,7 +5,6 @@ use borrow.Author.Tests.{le-leb, lt-leb, eq-eqb, ne-eqb}
 use lib.ListN.{length}
 use Rattle.link_rules.specs.Octets.{leAt}
 use Rattle.yard_check.specs.Sheet.{bundleFits}
-use borrow.Author.Needs.{needs}
 use Rattle.yard_check.proofs.bundle.bundle_fits.Statement.{statement}
 use Rattle.yard_check.proofs.bundle.bundle_fits.Tie as tie
 

@@ -5,7 +5,6 @@ use denote.Ref.{now}
 use borrow.Author.Tests.{eq-eqb, ne-eqb}
 use Rattle.link_rules.specs.Octets.{leAt}
 use Rattle.yard_check.specs.Sheet.{occupancyCount, blockingOffset, blockingCount, yardOffset, partsFit}
-use borrow.Author.Needs.{needs}
 use Rattle.yard_check.proofs.bundle.parts_fit.Statement.{statement}
 use Rattle.yard_check.proofs.bundle.parts_fit.Tie as tie
 

@@ -1,7 +1,6 @@
 use mathlib.Core.Path.{sym, _∙_}
 use borrow.Author.Needs.{needs}
 use Rattle.yard_check.specs.Sheet.{reportSlots}
-use borrow.Author.Needs.{needs}
 use Rattle.yard_check.proofs.bundle.report_slots.Statement.{statement}
 use Rattle.yard_check.proofs.bundle.report_slots.Tie as tie
 

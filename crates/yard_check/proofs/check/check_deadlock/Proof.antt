@@ -1,7 +1,7 @@
 use mathlib.Core.Path.{refl, sym, ap, _∙_}
 use native.Mathlib.Omega.{arith}
 use denote.Ref.{now}
-use Rattle.image_fault.specs.declared.Fault.{Fault}
+use Rattle.link_rules.specs.declared.refusal.Refusal.{Refusal}
 use Rattle.yard_check.specs.Check.{Answer, CheckArgs, check}
 use Rattle.yard_check.proofs.TurnLaws.{visited-all, check-refused}
 use borrow.Author.Needs.{needs}
@@ -27,7 +27,7 @@ returns c =
 visits-large-requires : tie.Need-visits-large-requires
 visits-large-requires c κs =
     let a = c .before .before .before .before .before .before .before .before .before .before .before .before .args in
-    ap (λ (x : Fault). x .number) (sym (c .before .before .before .before .before .check-fault .ensures (now (a .occ)) refl)) ∙ c .before .before .before .if1 .left
+    ap (λ (x : Refusal). x .number) (sym (c .before .before .before .before .before .check-fault .ensures (now (a .occ)) refl)) ∙ c .before .before .before .if1 .left
 
 answered-requires : tie.Need-answered-requires
 answered-requires c κs = search needs
@@ -45,12 +45,12 @@ returns-2 c =
     let f = c .before .before .before .before .before .before .before .before .before .before .before .check-fault .ensures (now (a .occ)) refl in
     let w = c .before .before .before .before .before .visits-large in
     ap (λ (x : Answer). check x (w .last .0) (w .last .1 .1 .1 .1 .0)) (c .answered .ensures)
-    ∙ visited-all (now (a .yard)) (now (a .occ)) A (now (a .report)) (ap (λ (x : Fault). x .number) (sym f) ∙ c .before .before .before .before .before .before .before .before .before .if1 .left) (w .result) (w .last .0) (w .last .1 .1 .1 .1 .0) (w .ensures)
+    ∙ visited-all (now (a .yard)) (now (a .occ)) A (now (a .report)) (ap (λ (x : Refusal). x .number) (sym f) ∙ c .before .before .before .before .before .before .before .before .before .if1 .left) (w .result) (w .last .0) (w .last .1 .1 .1 .1 .0) (w .ensures)
 
 visits-small-requires : tie.Need-visits-small-requires
 visits-small-requires c κs =
     let a = c .before .before .before .before .before .before .before .before .before .before .before .before .args in
-    (ap (λ (x : Fault). x .number) (sym (c .before .before .before .before .before .check-fault .ensures (now (a .occ)) refl)) ∙ c .before .before .before .if1 .left, omega (arith, c .before .before .if2 .left))
+    (ap (λ (x : Refusal). x .number) (sym (c .before .before .before .before .before .check-fault .ensures (now (a .occ)) refl)) ∙ c .before .before .before .if1 .left, omega (arith, c .before .before .if2 .left))
 
 answered-requires-2 : tie.Need-answered-requires-2
 answered-requires-2 c κs = search needs
@@ -68,7 +68,7 @@ returns-3 c =
     let f = c .before .before .before .before .before .before .before .before .before .before .before .check-fault .ensures (now (a .occ)) refl in
     let w = c .before .before .before .before .before .visits-small in
     ap (λ (x : Answer). check x (w .last .0) (w .last .1 .1 .1 .1 .0)) (c .answered2 .ensures)
-    ∙ visited-all (now (a .yard)) (now (a .occ)) A (now (a .report)) (ap (λ (x : Fault). x .number) (sym f) ∙ c .before .before .before .before .before .before .before .before .before .if1 .left) (w .result) (w .last .0) (w .last .1 .1 .1 .1 .0) (w .ensures)
+    ∙ visited-all (now (a .yard)) (now (a .occ)) A (now (a .report)) (ap (λ (x : Refusal). x .number) (sym f) ∙ c .before .before .before .before .before .before .before .before .before .if1 .left) (w .result) (w .last .0) (w .last .1 .1 .1 .1 .0) (w .ensures)
 
 pub check-deadlock-spec : {M : Type 1} → statement M
 check-deadlock-spec =

@@ -3,7 +3,7 @@ use Prim.Native.Nat.{ℕ}
 use native.Mathlib.Omega.{arith}
 use denote.Ref.{now}
 use lib.ListN.{length}
-use Rattle.image_fault.specs.declared.Fault.{Fault}
+use Rattle.link_rules.specs.declared.refusal.Refusal.{Refusal}
 use Rattle.yard_check.specs.Checks.{staysRow}
 use Rattle.yard_check.proofs.RowLaws.{image-number, stays-refused}
 use borrow.Author.Needs.{needs}
@@ -19,13 +19,13 @@ image-fault-requires c κs = search needs
 refused-row-requires : tie.Need-refused-row-requires
 refused-row-requires c κs =
     let a = c .before .before .before .before .before .args in
-    omega (arith, image-number (now (a .img)) (length (now (a .occ))), ap (λ (x : Fault). x .number) (c .before .before .image-fault .ensures))
+    omega (arith, image-number (now (a .img)) (length (now (a .occ))), ap (λ (x : Refusal). x .number) (c .before .before .image-fault .ensures))
 
 returns : tie.Need-returns
 returns c =
     let f = c .before .before .before .image-fault in
     let code = c .before .before .before .before .before .before .args .code in
-    c .refused-row .ensures ∙ (stays-refused (f .result .number) (f .result .place) code (c .before .if1 .taken) ∙ ap (λ (x : Fault). staysRow (x .number) (x .place) code) (f .ensures))
+    c .refused-row .ensures ∙ (stays-refused (f .result .number) (f .result .place) code (c .before .if1 .taken) ∙ ap (λ (x : Refusal). staysRow (x .number) (x .place) code) (f .ensures))
 
 plain-row-requires : tie.Need-plain-row-requires
 plain-row-requires c κs = search needs
@@ -34,7 +34,7 @@ returns-2 : tie.Need-returns-2
 returns-2 c =
     let f = c .before .before .before .image-fault in
     let code = c .before .before .before .before .before .before .args .code in
-    c .plain-row .ensures ∙ (ap (λ (n : ℕ). staysRow n (f .result .place) code) (sym (c .before .if1 .left)) ∙ ap (λ (x : Fault). staysRow (x .number) (x .place) code) (f .ensures))
+    c .plain-row .ensures ∙ (ap (λ (n : ℕ). staysRow n (f .result .place) code) (sym (c .before .if1 .left)) ∙ ap (λ (x : Refusal). staysRow (x .number) (x .place) code) (f .ensures))
 
 pub stays-row-spec : {M : Type 1} → statement M
 stays-row-spec =
