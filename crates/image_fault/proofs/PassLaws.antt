@@ -6,26 +6,27 @@ use Prim.Native.Nat.{ℕ, zero, suc, _+_, _≤_, _<_}
 use native.Mathlib.Omega.{arith}
 use lib.Dec.{leb, ltb, eqb}
 use lib.ListN.{length}
-use borrow.Author.Tests.{leb-true, le-leb}
+use borrow.Author.Tests.{eqb-true, leb-true, le-leb}
 use Rattle.link_rules.specs.Octets.{leAt}
 use Rattle.link_rules.specs.Network.{allBelow}
 use Rattle.link_rules.proofs.TableLaws.{all-at}
 use Rattle.disp_structs.specs.Values.{isArrive}
 use Rattle.disp_structs.specs.declared.EstType.the-variants.{Arrive, Clear, Fake}
+use Rattle.est_times.specs.Cycles.{firstOnCycle}
+use Rattle.est_times.specs.declared.Cycle.{Cycle}
+use Rattle.est_times.specs.declared.Cycle.the-variants.{None, At}
 use Rattle.image.specs.Image.{estCount, pathCount, divergeCount, estPlace, nodePlace, typeOf, estFrom, nodeFrom, nodeAt}
-use Rattle.image_fault.specs.ImageFault.{firstUnfit, countsFit, partsFit, trainFits, estTypeFits, nodeTypeFits, unusedZero, recordsFit, imageFits, floatFits, timeFits, eventFits, estLinksFit, estFits, nodeFits, headerFits, valueFault, leadsOn, cycleFault, onRoute, divergeFits, routeFault, imageFault}
+use Rattle.image_fault.specs.ImageFault.{firstUnfit, countsFit, partsFit, trainFits, estTypeFits, nodeTypeFits, unusedZero, recordsFit, imageFits, floatFits, timeFits, eventFits, estLinksFit, estFits, nodeFits, headerFits, valueFault, nexts, alts, cycleRefused, cycleFault, onRoute, divergeFits, routeFault, imageFault}
 use Rattle.link_rules.specs.Refusals.{noRefusal}
-use Rattle.image_fault.specs.AllFit.{eventPasses, stepPasses, estPasses, nodePasses, pathPasses, headPasses, recordsPass, allFit}
+use Rattle.image_fault.specs.AllFit.{eventPasses, acyclic, estPasses, nodePasses, pathPasses, headPasses, recordsPass, allFit}
 use Rattle.image_fault.proofs.ScanLaws.{both, step-fit}
 use Rattle.image_fault.proofs.AcceptLaws.{node-fits, event-link}
-use Rattle.image_fault.proofs.Ascent.{ascends-none}
 
 -- ---- what a record that passes has
 
 pub record EstPasses (bs : List ℕ) (l i : ℕ) : Type 0 where
   pub kind : estTypeFits bs i ≡ true
   pub values : estFits bs l i ≡ true
-  pub onward : leadsOn bs i ≡ true
 
 -- ---- a number that is at most 2 is its first byte
 
@@ -60,28 +61,21 @@ event-passes l link kind h =
     let b = both (ltb link l) (not (eqb kind 0 && eqb link 0)) (a .1) in
     record { few = leb-true kind 2 (a .0); below = b .0; some = b .1 }
 
-step-passes : (e i t : ℕ) → stepPasses e i t ≡ true → (ltb t e ≡ true) × (eqb t 0 || ltb i t ≡ true)
-unfolding stepPasses
-step-passes e i t h = both (ltb t e) (eqb t 0 || ltb i t) h
-
 est-passes : (bs : List ℕ) (l i : ℕ) → estPasses bs l i ≡ true → EstPasses bs l i
-unfolding estPasses estTypeFits estFits estLinksFit eventFits leadsOn estFrom
+unfolding estPasses estTypeFits estFits estLinksFit eventFits estFrom
 est-passes bs l i h =
     let p = estPlace i in
     let e = estCount bs in
     let a = both (leb (p + 32) (length bs)) _ h in
     let b = both (floatFits (leAt 8 bs p)) _ (a .1) in
     let c = both (eventPasses l (leAt 4 bs (p + 24)) (leAt 4 bs (p + 28))) _ (b .1) in
-    let d = both (stepPasses e i (leAt 4 bs (p + 8))) _ (c .1) in
-    let f = both (stepPasses e i (leAt 4 bs (p + 12))) _ (d .1) in
+    let d = both (ltb (leAt 4 bs (p + 8)) e) _ (c .1) in
+    let f = both (ltb (leAt 4 bs (p + 12)) e) _ (d .1) in
     let g = both (ltb (leAt 4 bs (p + 16)) e) (ltb (leAt 4 bs (p + 20)) e) (f .1) in
     let v = event-passes l (leAt 4 bs (p + 24)) (leAt 4 bs (p + 28)) (c .0) in
-    let n = step-passes e i (leAt 4 bs (p + 8)) (d .0) in
-    let m = step-passes e i (leAt 4 bs (p + 12)) (f .0) in
     record {
       kind = le-leb (leAt 4 bs (p + 28)) 2 (v .few);
-      values = rw (b .0, n .0, m .0, g .0, g .1, v .below, arrive-is, byte-four bs (p + 28) (v .few)) (v .some);
-      onward = rw (n .1, m .1);
+      values = rw (b .0, d .0, f .0, g .0, g .1, v .below, arrive-is, byte-four bs (p + 28) (v .few)) (v .some);
     }
 
 module _ (bs : List ℕ) (l i : ℕ) (h : nodePasses bs l i ≡ true) where
@@ -134,7 +128,17 @@ unfolding firstUnfit
 first-none m fits zero i h = refl
 first-none m fits (suc k) i h = rw (step-fit m fits k i (h i (omega arith))) (first-none m fits k (i + 1) (λ j l. h j (omega arith)))
 
+-- ---- 8
+
+cycle-none : (c : Cycle) → eqb (cycleRefused c .number) 0 ≡ true → cycleRefused c ≡ noRefusal
+cycle-none None h = refl
+cycle-none (At i) h = absurd (omega (arith, eqb-true 8 0 h))
+
 -- ---- all of them
+
+pub head-few : (bs : List ℕ) → headPasses bs ≡ true → estCount bs ≤ 512
+unfolding headPasses countsFit
+head-few bs h = leb-true (estCount bs) 512 (both (leb (estCount bs) 512) _ (both (leb 1 (estCount bs)) _ (both (countsFit bs) _ h .0) .1) .0)
 
 module _ (bs : List ℕ) (l : ℕ) (head : headPasses bs ≡ true) (records : recordsPass bs l ≡ true) where
   ests : allBelow (estCount bs) (estPasses bs l) ≡ true
@@ -143,11 +147,11 @@ module _ (bs : List ℕ) (l : ℕ) (head : headPasses bs ≡ true) (records : re
 
   paths : allBelow (pathCount bs) (pathPasses bs l) ≡ true
   unfolding recordsPass
-  paths = both (allBelow (pathCount bs) (pathPasses bs l)) _ (both (allBelow (estCount bs) (estPasses bs l)) _ records .1) .0
+  paths = both (allBelow (pathCount bs) (pathPasses bs l)) _ (both (acyclic bs) _ (both (allBelow (estCount bs) (estPasses bs l)) _ records .1) .1) .0
 
   diverges : allBelow (divergeCount bs) (divergeFits bs) ≡ true
   unfolding recordsPass
-  diverges = both (allBelow (pathCount bs) (pathPasses bs l)) _ (both (allBelow (estCount bs) (estPasses bs l)) _ records .1) .1
+  diverges = both (allBelow (pathCount bs) (pathPasses bs l)) _ (both (acyclic bs) _ (both (allBelow (estCount bs) (estPasses bs l)) _ records .1) .1) .1
 
   est : (i : ℕ) → i < estCount bs → EstPasses bs l i
   est i h = est-passes bs l i (all-at (estPasses bs l) (estCount bs) i ests h)
@@ -175,7 +179,8 @@ module _ (bs : List ℕ) (l : ℕ) (head : headPasses bs ≡ true) (records : re
       rw (first-none 7 (estFits bs l) (estCount bs) 0 (λ i h. est i (omega arith) .values), first-none 7 (nodeFits bs l) (pathCount bs) 0 (λ i h. node i (omega arith) .1), d .0)
 
   cycle : cycleFault bs ≡ noRefusal
-  cycle = ascends-none bs (all-of (leadsOn bs) (estCount bs) (λ i h. est i h .onward))
+  unfolding recordsPass acyclic cycleFault
+  cycle = cycle-none (firstOnCycle (nexts bs) (alts bs) (estCount bs)) (both (acyclic bs) _ (both (allBelow (estCount bs) (estPasses bs l)) _ records .1) .0)
 
   route : routeFault bs ≡ noRefusal
   unfolding routeFault

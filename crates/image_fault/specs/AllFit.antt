@@ -8,24 +8,20 @@ use lib.ListN.{length}
 use Rattle.link_rules.specs.Network.{allBelow}
 use Rattle.image.specs.Fields.{estDistField, estNextField, estNextAltField, estPrevField, estPrevAltField, estLinkField, estKindField, nodeOffsetField, nodeTimeField, nodeLinkField, nodeEstField, nodeKindField, nodeSpareField, readIn, readFirst}
 use Rattle.image.specs.Image.{estCount, pathCount, divergeCount, estPlace, nodePlace}
-use Rattle.image_fault.specs.ImageFault.{countsFit, partsFit, trainFits, unusedZero, floatFits, timeFits, headerFits, onRoute, divergeFits}
+use Rattle.image_fault.specs.ImageFault.{countsFit, partsFit, trainFits, unusedZero, floatFits, timeFits, headerFits, cycleFault, onRoute, divergeFits}
 
 -- an event: the type is at most 2, the link below L, and not 0 at an Arrive
 unfoldable pub eventPasses : ℕ → ℕ → ℕ → Bool
 eventPasses l link kind = leb kind 2 && (ltb link l && not (eqb kind 0 && eqb link 0))
 
--- next or alt of est record i: below E, and none or a later record
-unfoldable pub stepPasses : ℕ → ℕ → ℕ → Bool
-stepPasses e i t = ltb t e && (eqb t 0 || ltb i t)
-
--- an est record lies within the image, and passes; it leads to later ones alone
+-- an est record lies within the image, and passes 6 and 7
 unfoldable pub estPasses : List ℕ → ℕ → ℕ → Bool
 estPasses bs l i =
     leb (estPlace i + 32) (length bs)
     && (floatFits (readFirst estDistField bs (estPlace i))
     && (eventPasses l (readIn estLinkField bs (estPlace i)) (readIn estKindField bs (estPlace i))
-    && (stepPasses (estCount bs) i (readIn estNextField bs (estPlace i))
-    && (stepPasses (estCount bs) i (readIn estNextAltField bs (estPlace i))
+    && (ltb (readIn estNextField bs (estPlace i)) (estCount bs)
+    && (ltb (readIn estNextAltField bs (estPlace i)) (estCount bs)
     && (ltb (readIn estPrevField bs (estPlace i)) (estCount bs)
     && ltb (readIn estPrevAltField bs (estPlace i)) (estCount bs))))))
 
@@ -46,11 +42,16 @@ pathPasses bs l i = nodePasses bs l i && onRoute bs i
 unfoldable pub headPasses : List ℕ → Bool
 headPasses bs = countsFit bs && (partsFit bs && (trainFits bs && (headerFits bs && unusedZero bs)))
 
+-- 8
+unfoldable pub acyclic : List ℕ → Bool
+acyclic bs = eqb (cycleFault bs .number) 0
+
 unfoldable pub recordsPass : List ℕ → ℕ → Bool
 recordsPass bs l =
     allBelow (estCount bs) (estPasses bs l)
+    && (acyclic bs
     && (allBelow (pathCount bs) (pathPasses bs l)
-    && allBelow (divergeCount bs) (divergeFits bs))
+    && allBelow (divergeCount bs) (divergeFits bs)))
 
 unfoldable pub allFit : List ℕ → ℕ → Bool
 allFit bs l = leb 2 l && (leb l 4000 && (headPasses bs && recordsPass bs l))

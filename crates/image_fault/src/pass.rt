@@ -9,7 +9,7 @@ ghost use Rattle.link_rules.specs.Network.{allBelow};
 ghost use Rattle.disp_structs.specs.Values.{isArrive};
 ghost use Rattle.image.specs.Image.{estCount, pathCount, nodeAt};
 ghost use Rattle.image_fault.specs.ImageFault.{divergeFits};
-ghost use Rattle.image_fault.specs.AllFit.{eventPasses, stepPasses, estPasses, nodePasses, pathPasses, headPasses, recordsPass, allFit};
+ghost use Rattle.image_fault.specs.AllFit.{eventPasses, acyclic, estPasses, nodePasses, pathPasses, headPasses, recordsPass, allFit};
 use disp_structs::EstIdx;
 use image::codec;
 use link_rules::octets;
@@ -31,18 +31,6 @@ fn event_passes(links: u32, link: u32, kind: u32) -> bool
     true
 }
 
-fn step_passes(e: u32, i: u32, t: u32) -> bool
-    ensures { λ r. ⌜ r ≡ stepPasses e i t ⌝ }
-{
-    if e <= t {
-        return false;
-    }
-    if t == 0 {
-        return true;
-    }
-    i < t
-}
-
 fn est_passes(img: &[u8], e: u32, links: u32, i: u32) -> bool
     requires { ⌜ e ≡ estCount (now img) ⌝ }
     ensures { λ r. ⌜ r ≡ estPasses (now (img .entry)) links i ⌝ }
@@ -57,8 +45,8 @@ fn est_passes(img: &[u8], e: u32, links: u32, i: u32) -> bool
             octets::u32_at(img, at + 24),
             octets::u32_at(img, at + 28),
         ) {
-            if step_passes(e, i, octets::u32_at(img, at + 8)) {
-                if step_passes(e, i, octets::u32_at(img, at + 12)) {
+            if octets::u32_at(img, at + 8) < e {
+                if octets::u32_at(img, at + 12) < e {
                     if e <= octets::u32_at(img, at + 16) {
                         return false;
                     }
@@ -231,14 +219,25 @@ fn head_passes(img: &[u8]) -> bool
     false
 }
 
+fn is_acyclic(img: &[u8], e: u32) -> bool
+    requires { ⌜ (e ≡ estCount (now img)) × (e ≤ 512) ⌝ }
+    ensures { λ r. ⌜ r ≡ acyclic (now (img .entry)) ⌝ }
+{
+    let f = crate::cycle_fault(img, e);
+    f.number == 0
+}
+
 fn records_pass(img: &[u8], links: u32) -> bool
-    requires { ⌜ links ≤ 4000 ⌝ }
+    requires { ⌜ (links ≤ 4000) × (estCount (now img) ≤ 512) ⌝ }
     ensures { λ r. ⌜ r ≡ recordsPass (now (img .entry)) links ⌝ }
 {
     let e = codec::est_count(img);
     if ests_pass(img, e, links) {
-        if path_passes(img, e, codec::path_count(img), links) {
-            return diverges_fit(img, codec::diverge_count(img));
+        if is_acyclic(img, e) {
+            if path_passes(img, e, codec::path_count(img), links) {
+                return diverges_fit(img, codec::diverge_count(img));
+            }
+            return false;
         }
         return false;
     }

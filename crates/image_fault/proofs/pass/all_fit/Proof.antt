@@ -1,3 +1,5 @@
+use mathlib.Core.Path.{sym, _∙_}
+use Rattle.image_fault.proofs.PassLaws.{head-few}
 use Rattle.image_fault.specs.AllFit.{allFit}
 use borrow.Author.Tests.{le-leb, lt-leb}
 use borrow.Author.Needs.{needs}
@@ -16,7 +18,7 @@ head-passes-requires : tie.Need-head-passes-requires
 head-passes-requires c κs = search needs
 
 records-pass-requires : tie.Need-records-pass-requires
-records-pass-requires c κs = search needs
+records-pass-requires c κs = let k = head-few _ (sym (c .before .head-passes .ensures) ∙ c .if3 .taken) in search needs
 
 returns-3 : tie.Need-returns-3
 unfolding allFit

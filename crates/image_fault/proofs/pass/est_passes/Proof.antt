@@ -41,17 +41,11 @@ add-u32-at-3 c = search needs
 u32-at-requires-3 : tie.Need-u32-at-requires-3
 u32-at-requires-3 c κs = search needs
 
-step-passes-requires : tie.Need-step-passes-requires
-step-passes-requires c κs = search needs
-
 add-u32-at-4 : tie.Need-add-u32-at-4
 add-u32-at-4 c = search needs
 
 u32-at-requires-4 : tie.Need-u32-at-requires-4
 u32-at-requires-4 c κs = search needs
-
-step-passes-requires-2 : tie.Need-step-passes-requires-2
-step-passes-requires-2 c κs = search needs
 
 add-u32-at-5 : tie.Need-add-u32-at-5
 add-u32-at-5 c = search needs
@@ -61,7 +55,7 @@ u32-at-requires-5 c κs = search needs
 
 returns-2 : tie.Need-returns-2
 unfolding estPasses
-returns-2 c = rw (← c .before .before .before .before .before .before .before .before .before .before .before .before .before .before .before .before .before .before .pre, ← c .before .before .before .before .before .before .before .before .before .before .before .before .before .before .before .before .est-place .ensures, le-leb _ _ (c .before .before .before .before .before .before .before .before .before .before .before .before .before .before .before .if1 .left), ← c .before .before .before .before .before .before .before .before .before .before .before .before .before .before .u64-at .ensures, ← c .before .before .before .before .before .before .before .before .before .before .before .before .before .float-fits .ensures, c .before .before .before .before .before .before .before .before .before .before .before .before .if2 .taken, ← c .before .before .before .before .before .before .before .before .before .before .before .u32-at .ensures, ← c .before .before .before .before .before .before .before .before .before .before .u32-at2 .ensures, ← c .before .before .before .before .before .before .before .before .before .event-passes .ensures, c .before .before .before .before .before .before .before .before .if3 .taken, ← c .before .before .before .before .before .before .before .u32-at3 .ensures, ← c .before .before .before .before .before .before .step-passes .ensures, c .before .before .before .before .before .if4 .taken, ← c .before .before .before .before .u32-at4 .ensures, ← c .before .before .before .step-passes2 .ensures, c .before .before .if5 .taken, ← c .before .u32-at5 .ensures, le-ltb _ _ (c .if6 .taken))
+returns-2 c = rw (← c .before .before .before .before .before .before .before .before .before .before .before .before .before .before .before .before .pre, ← c .before .before .before .before .before .before .before .before .before .before .before .before .before .before .est-place .ensures, le-leb _ _ (c .before .before .before .before .before .before .before .before .before .before .before .before .before .if1 .left), ← c .before .before .before .before .before .before .before .before .before .before .before .before .u64-at .ensures, ← c .before .before .before .before .before .before .before .before .before .before .before .float-fits .ensures, c .before .before .before .before .before .before .before .before .before .before .if2 .taken, ← c .before .before .before .before .before .before .before .before .before .u32-at .ensures, ← c .before .before .before .before .before .before .before .before .u32-at2 .ensures, ← c .before .before .before .before .before .before .before .event-passes .ensures, c .before .before .before .before .before .before .if3 .taken, ← c .before .before .before .before .before .u32-at3 .ensures, lt-ltb _ _ (c .before .before .before .before .if4 .taken), ← c .before .before .before .u32-at4 .ensures, lt-ltb _ _ (c .before .before .if5 .taken), ← c .before .u32-at5 .ensures, le-ltb _ _ (c .if6 .taken))
 
 add-u32-at-6 : tie.Need-add-u32-at-6
 add-u32-at-6 c = search needs
@@ -71,15 +65,15 @@ u32-at-requires-6 c κs = search needs
 
 returns-3 : tie.Need-returns-3
 unfolding estPasses
-returns-3 c = rw (← c .before .before .before .before .before .before .before .before .before .before .before .before .before .before .before .before .before .before .before .pre, ← c .before .before .before .before .before .before .before .before .before .before .before .before .before .before .before .before .before .est-place .ensures, le-leb _ _ (c .before .before .before .before .before .before .before .before .before .before .before .before .before .before .before .before .if1 .left), ← c .before .before .before .before .before .before .before .before .before .before .before .before .before .before .before .u64-at .ensures, ← c .before .before .before .before .before .before .before .before .before .before .before .before .before .before .float-fits .ensures, c .before .before .before .before .before .before .before .before .before .before .before .before .before .if2 .taken, ← c .before .before .before .before .before .before .before .before .before .before .before .before .u32-at .ensures, ← c .before .before .before .before .before .before .before .before .before .before .before .u32-at2 .ensures, ← c .before .before .before .before .before .before .before .before .before .before .event-passes .ensures, c .before .before .before .before .before .before .before .before .before .if3 .taken, ← c .before .before .before .before .before .before .before .before .u32-at3 .ensures, ← c .before .before .before .before .before .before .before .step-passes .ensures, c .before .before .before .before .before .before .if4 .taken, ← c .before .before .before .before .before .u32-at4 .ensures, ← c .before .before .before .before .step-passes2 .ensures, c .before .before .before .if5 .taken, ← c .before .before .u32-at5 .ensures, lt-ltb _ _ (c .before .if6 .left), ← c .u32-at6 .ensures)
+returns-3 c = rw (← c .before .before .before .before .before .before .before .before .before .before .before .before .before .before .before .before .before .pre, ← c .before .before .before .before .before .before .before .before .before .before .before .before .before .before .before .est-place .ensures, le-leb _ _ (c .before .before .before .before .before .before .before .before .before .before .before .before .before .before .if1 .left), ← c .before .before .before .before .before .before .before .before .before .before .before .before .before .u64-at .ensures, ← c .before .before .before .before .before .before .before .before .before .before .before .before .float-fits .ensures, c .before .before .before .before .before .before .before .before .before .before .before .if2 .taken, ← c .before .before .before .before .before .before .before .before .before .before .u32-at .ensures, ← c .before .before .before .before .before .before .before .before .before .u32-at2 .ensures, ← c .before .before .before .before .before .before .before .before .event-passes .ensures, c .before .before .before .before .before .before .before .if3 .taken, ← c .before .before .before .before .before .before .u32-at3 .ensures, lt-ltb _ _ (c .before .before .before .before .before .if4 .taken), ← c .before .before .before .before .u32-at4 .ensures, lt-ltb _ _ (c .before .before .before .if5 .taken), ← c .before .before .u32-at5 .ensures, lt-ltb _ _ (c .before .if6 .left), ← c .u32-at6 .ensures)
 
 returns-4 : tie.Need-returns-4
 unfolding estPasses
-returns-4 c = rw (← c .before .before .before .before .before .before .before .before .before .before .before .before .before .before .before .before .pre, ← c .before .before .before .before .before .before .before .before .before .before .before .before .before .before .est-place .ensures, le-leb _ _ (c .before .before .before .before .before .before .before .before .before .before .before .before .before .if1 .left), ← c .before .before .before .before .before .before .before .before .before .before .before .before .u64-at .ensures, ← c .before .before .before .before .before .before .before .before .before .before .before .float-fits .ensures, c .before .before .before .before .before .before .before .before .before .before .if2 .taken, ← c .before .before .before .before .before .before .before .before .before .u32-at .ensures, ← c .before .before .before .before .before .before .before .before .u32-at2 .ensures, ← c .before .before .before .before .before .before .before .event-passes .ensures, c .before .before .before .before .before .before .if3 .taken, ← c .before .before .before .before .before .u32-at3 .ensures, ← c .before .before .before .before .step-passes .ensures, c .before .before .before .if4 .taken, ← c .before .before .u32-at4 .ensures, ← c .before .step-passes2 .ensures, c .if5 .left)
+returns-4 c = rw (← c .before .before .before .before .before .before .before .before .before .before .before .before .before .before .pre, ← c .before .before .before .before .before .before .before .before .before .before .before .before .est-place .ensures, le-leb _ _ (c .before .before .before .before .before .before .before .before .before .before .before .if1 .left), ← c .before .before .before .before .before .before .before .before .before .before .u64-at .ensures, ← c .before .before .before .before .before .before .before .before .before .float-fits .ensures, c .before .before .before .before .before .before .before .before .if2 .taken, ← c .before .before .before .before .before .before .before .u32-at .ensures, ← c .before .before .before .before .before .before .u32-at2 .ensures, ← c .before .before .before .before .before .event-passes .ensures, c .before .before .before .before .if3 .taken, ← c .before .before .before .u32-at3 .ensures, lt-ltb _ _ (c .before .before .if4 .taken), ← c .before .u32-at4 .ensures, le-ltb _ _ (c .if5 .left))
 
 returns-5 : tie.Need-returns-5
 unfolding estPasses
-returns-5 c = rw (← c .before .before .before .before .before .before .before .before .before .before .before .before .before .pre, ← c .before .before .before .before .before .before .before .before .before .before .before .est-place .ensures, le-leb _ _ (c .before .before .before .before .before .before .before .before .before .before .if1 .left), ← c .before .before .before .before .before .before .before .before .before .u64-at .ensures, ← c .before .before .before .before .before .before .before .before .float-fits .ensures, c .before .before .before .before .before .before .before .if2 .taken, ← c .before .before .before .before .before .before .u32-at .ensures, ← c .before .before .before .before .before .u32-at2 .ensures, ← c .before .before .before .before .event-passes .ensures, c .before .before .before .if3 .taken, ← c .before .before .u32-at3 .ensures, ← c .before .step-passes .ensures, c .if4 .left)
+returns-5 c = rw (← c .before .before .before .before .before .before .before .before .before .before .before .before .pre, ← c .before .before .before .before .before .before .before .before .before .before .est-place .ensures, le-leb _ _ (c .before .before .before .before .before .before .before .before .before .if1 .left), ← c .before .before .before .before .before .before .before .before .u64-at .ensures, ← c .before .before .before .before .before .before .before .float-fits .ensures, c .before .before .before .before .before .before .if2 .taken, ← c .before .before .before .before .before .u32-at .ensures, ← c .before .before .before .before .u32-at2 .ensures, ← c .before .before .before .event-passes .ensures, c .before .before .if3 .taken, ← c .before .u32-at3 .ensures, le-ltb _ _ (c .if4 .left))
 
 returns-6 : tie.Need-returns-6
 unfolding estPasses
@@ -105,10 +99,8 @@ est-passes-spec =
     event-passes-requires
     add-u32-at-3
     u32-at-requires-3
-    step-passes-requires
     add-u32-at-4
     u32-at-requires-4
-    step-passes-requires-2
     add-u32-at-5
     u32-at-requires-5
     returns-2

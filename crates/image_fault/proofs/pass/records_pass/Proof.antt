@@ -9,6 +9,9 @@ est-count-requires c κs = search needs
 ests-pass-requires : tie.Need-ests-pass-requires
 ests-pass-requires c κs = search needs
 
+is-acyclic-requires : tie.Need-is-acyclic-requires
+is-acyclic-requires c κs = search needs
+
 path-count-requires : tie.Need-path-count-requires
 path-count-requires c κs = search needs
 
@@ -23,15 +26,19 @@ diverges-fit-requires c κs = search needs
 
 returns : tie.Need-returns
 unfolding recordsPass
-returns c = rw (← c .before .before .before .before .before .before .before .est-count .ensures, ← c .before .before .before .before .before .before .ests-pass .ensures, c .before .before .before .before .before .if1 .taken, ← c .before .before .before .before .path-count .ensures, ← c .before .before .before .path-passes .ensures, c .before .before .if2 .taken, ← c .before .diverge-count .ensures, ← c .diverges-fit .ensures)
+returns c = rw (← c .before .before .before .before .before .before .before .before .before .est-count .ensures, ← c .before .before .before .before .before .before .before .before .ests-pass .ensures, c .before .before .before .before .before .before .before .if1 .taken, ← c .before .before .before .before .before .before .is-acyclic .ensures, c .before .before .before .before .before .if2 .taken, ← c .before .before .before .before .path-count .ensures, ← c .before .before .before .path-passes .ensures, c .before .before .if3 .taken, ← c .before .diverge-count .ensures, ← c .diverges-fit .ensures)
 
 returns-2 : tie.Need-returns-2
 unfolding recordsPass
-returns-2 c = rw (← c .before .before .before .before .before .est-count .ensures, ← c .before .before .before .before .ests-pass .ensures, c .before .before .before .if1 .taken, ← c .before .before .path-count .ensures, ← c .before .path-passes .ensures, c .if2 .left)
+returns-2 c = rw (← c .before .before .before .before .before .before .before .est-count .ensures, ← c .before .before .before .before .before .before .ests-pass .ensures, c .before .before .before .before .before .if1 .taken, ← c .before .before .before .before .is-acyclic .ensures, c .before .before .before .if2 .taken, ← c .before .before .path-count .ensures, ← c .before .path-passes .ensures, c .if3 .left)
 
 returns-3 : tie.Need-returns-3
 unfolding recordsPass
-returns-3 c = rw (← c .before .before .est-count .ensures, ← c .before .ests-pass .ensures, c .if1 .left)
+returns-3 c = rw (← c .before .before .before .before .est-count .ensures, ← c .before .before .before .ests-pass .ensures, c .before .before .if1 .taken, ← c .before .is-acyclic .ensures, c .if2 .left)
+
+returns-4 : tie.Need-returns-4
+unfolding recordsPass
+returns-4 c = rw (← c .before .before .est-count .ensures, ← c .before .ests-pass .ensures, c .if1 .left)
 
 pub records-pass-spec : {M : Type 1} → statement M
 records-pass-spec =
@@ -39,10 +46,12 @@ records-pass-spec =
     (tie.spec
     est-count-requires
     ests-pass-requires
+    is-acyclic-requires
     path-count-requires
     path-passes-requires
     diverge-count-requires
     diverges-fit-requires
     returns
     returns-2
-    returns-3)
+    returns-3
+    returns-4)
