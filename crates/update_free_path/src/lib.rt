@@ -73,6 +73,35 @@ fn update_small(image: &mut [u8], occ: &[u32], blocking: &[u32], o: Order, h: Pa
     )
 }
 
+// The same with room for every number of diverge nodes.
+fn update_few(image: &mut [u8], occ: &[u32], blocking: &[u32], o: Order, h: PathHeader) -> Updated
+    requires { ⌜ Begins (now image) (now occ) h × (estCount (now image) ≤ 64) × (length (now occ) ≤ 512) ⌝ }
+    ensures { λ x. ⌜ updatedOf x (now (image .exit)) ≡ storedAnswer (updateOf (now (image .entry)) (now (occ .entry)) (now (blocking .entry)) o) (now (image .entry)) ⌝ }
+{
+    let mut scratch = [0u8; 8256];
+    let mut col = [0u32; 64];
+    let mut on = [0u8; 64];
+    let mut flags = [0u8; 512];
+    let mut known = [0u8; 512];
+    let mut dt = [0u32; 1024];
+    let mut dn = [0u32; 1024];
+    let n = image.len();
+    update_in(
+        image,
+        &mut scratch[..n],
+        occ,
+        blocking,
+        o,
+        h,
+        &mut col,
+        &mut on,
+        &mut flags,
+        &mut known,
+        &mut dt,
+        &mut dn,
+    )
+}
+
 // The same for the largest update.
 fn update_large(image: &mut [u8], occ: &[u32], blocking: &[u32], o: Order, h: PathHeader) -> Updated
     requires { ⌜ Begins (now image) (now occ) h ⌝ }
@@ -110,11 +139,11 @@ fn update_begun(image: &mut [u8], occ: &[u32], blocking: &[u32], o: Order, h: Pa
     if 64 < codec::est_count(image) {
         return update_large(image, occ, blocking, o, h);
     }
-    if 64 < codec::diverge_room(image) {
-        return update_large(image, occ, blocking, o, h);
-    }
     if 512 < occ.len() {
         return update_large(image, occ, blocking, o, h);
+    }
+    if 64 < codec::diverge_room(image) {
+        return update_few(image, occ, blocking, o, h);
     }
     update_small(image, occ, blocking, o, h)
 }
