@@ -6,7 +6,7 @@
  * refused check leaves `answer` as it was.
  *
  * No call keeps anything, allocates, prints or locks: any thread may call at any time. Bytes may lie at any address, numbers at
- * one that fits their type. A sheet takes 320 KB of stack at most, any other call 96 KB; README.md beside this file has each.
+ * one that fits their type. A sheet takes 320 KB of stack at most, any other call 128 KB; README.md beside this file has each.
  * Text has no byte 0 at its end.
  *
  * A refusal is a number with its place in the upper 16 bits; 0 is none. The bytes of every buffer are in docs/LAYOUTS.md, the
