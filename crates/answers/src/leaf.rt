@@ -17,11 +17,11 @@ use free_path::link_opt_type;
 use free_path::link_opt_type::LinkOptType;
 use free_path::train_idxs_view;
 use free_path::train_idxs_view::Union;
-use free_path::validate as counts;
 use image::codec;
 use link_rules::link_idx::LinkIdx;
 use link_rules::link_idx::TrainIdx;
 use link_rules::octets;
+use validate::step;
 
 const CLASS: u32 = 6;
 
@@ -278,5 +278,5 @@ fn answer_step(head: &[u8], body: &[u8]) -> bool {
     let est = case::second_input(head, body);
     let a = node(case::argument(head, 0), octets::u64_at(offsets, 0));
     let b = node(case::argument(head, 1), octets::u64_at(offsets, 8));
-    print_flag(counts::bad_step(a, b, codec::est_in(est, 0), codec::est_in(est, 1)))
+    print_flag(step::bad_step(a, b, codec::est_in(est, 0), codec::est_in(est, 1)))
 }

@@ -10,8 +10,8 @@ use Rattle.link_rules.specs.declared.refusal.Answer.{Answer}
 use Rattle.link_rules.specs.declared.refusal.Answer.the-variants.{Done, Refused}
 use Rattle.link_rules.specs.declared.refusal.Refusal.{Refusal}
 use Rattle.train_disp.specs.declared.Order.{Order}
-use Rattle.train_update.specs.Update.{Status, Success, Blocked, Faulty, Refused as RefusedBy}
-use Rattle.update_image.specs.UpdateImage.{UpdatedImage}
+use Rattle.update_definition.specs.Update.{Status, Success, Blocked, Faulty, Refused as RefusedBy}
+use Rattle.update_definition.specs.UpdateImage.{UpdatedImage}
 use Rattle.yard_check.specs.Check as Check
 
 -- 0 where the call is done, else document 01's number, with the place in the upper 16 bits

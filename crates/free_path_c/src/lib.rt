@@ -8,7 +8,7 @@ ghost use Rattle.image_fault.specs.ImageFault.{imageFault};
 ghost use Rattle.track_profile.specs.Profile.{profileFault};
 ghost use Rattle.train_disp.specs.TrainDisp.{laidOut};
 ghost use lib.ListN.{set};
-ghost use Rattle.update_image.specs.UpdateImage.{updatedImage};
+ghost use Rattle.update_definition.specs.UpdateImage.{updatedImage};
 ghost use Rattle.update_free_path.specs.Updates.{statusOf};
 ghost use Rattle.yard_check.specs.Check.{checked};
 ghost use Rattle.yard_check.specs.Checks.{answeredOf};

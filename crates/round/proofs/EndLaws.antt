@@ -7,10 +7,10 @@ use Rattle.image.specs.declared.codec.PathHeader.{PathHeader}
 use Rattle.free_path.specs.Base.{Res, ok, no}
 use Rattle.free_path.specs.Columns.{answer}
 use Rattle.free_path.proofs.CountLaws.{answer-no}
-use Rattle.train_update.specs.State as State
-use Rattle.search_moves.specs.Effects.{effectOf}
-use Rattle.search_moves.specs.declared.Effect.the-variants.{GiveUp}
-use Rattle.search_loop.specs.Runs.{endOf}
+use Rattle.update_definition.specs.State as State
+use Rattle.search.specs.Effects.{effectOf}
+use Rattle.search.specs.declared.Effect.the-variants.{GiveUp}
+use Rattle.search.specs.Runs.{endOf}
 use Rattle.splice.specs.Read.{trainOf}
 use Rattle.round.specs.Rounds.{withFree}
 

@@ -16,8 +16,8 @@ use Rattle.image.specs.declared.codec.PathHeader.{PathHeader}
 use Rattle.free_path.specs.Base.{ok, at, walkFrom}
 use Rattle.free_path.specs.Columns.{divAt}
 use Rattle.free_path.proofs.ColumnLaws.{listed-read}
-use Rattle.train_update.specs.State as State
-use Rattle.train_update.specs.Accepted.{Accepted, DivsAccepted}
+use Rattle.update_definition.specs.State as State
+use Rattle.update_definition.specs.Accepted.{Accepted, DivsAccepted}
 use Rattle.update_laws.specs.Good.{Good}
 use Rattle.update_laws.specs.Bounds.{Bounds}
 use Rattle.update_laws.specs.Turns.{Stands}

@@ -16,9 +16,9 @@ use Rattle.free_path.specs.Base.{ok, no}
 use Rattle.free_path.specs.Columns.{answer, linkAt}
 use Rattle.free_path.specs.LinkOptType.{Sentinels, calcIdxSentinels, contains, linksOnPath, linkIdxPath}
 use Rattle.free_path.proofs.CountLaws.{answer-no}
-use Rattle.train_update.specs.State.{atEnd}
-use Rattle.train_update.specs.Update as Update
-use Rattle.train_update.specs.Update.{apart, meeting, splitPoint, beginOf, roundOf}
+use Rattle.update_definition.specs.State.{atEnd}
+use Rattle.update_definition.specs.Update as Update
+use Rattle.update_definition.specs.Update.{apart, meeting, splitPoint, beginOf, roundOf}
 use Rattle.update_laws.proofs.Rounds.{sentinel-low, split-low}
 use Rattle.search.specs.Read.{divsOf, pathOf}
 use Rattle.splice.specs.Read.{trainOf}

@@ -13,12 +13,12 @@ use Rattle.image.specs.Image.{estCount, divergeRoom, nodeAt}
 use Rattle.image.specs.declared.codec.PathHeader.{PathHeader}
 use Rattle.free_path.specs.Columns.{divAt}
 use Rattle.est_times.proofs.Counting.{clash}
-use Rattle.train_update.specs.State as State
-use Rattle.train_update.specs.Look as Look
-use Rattle.train_update.specs.Moves.{changeDiverge}
-use Rattle.train_update.specs.Join as Joined
-use Rattle.train_update.specs.declared.Move.{Move}
-use Rattle.train_update.specs.declared.Move.the-variants.{Rewind, Alternate, ChangeDiverge, PushSaved, BlockEmpty, Advance, Join}
+use Rattle.update_definition.specs.State as State
+use Rattle.update_definition.specs.Look as Look
+use Rattle.update_definition.specs.Moves.{changeDiverge}
+use Rattle.update_definition.specs.Join as Joined
+use Rattle.update_definition.specs.declared.Move.{Move}
+use Rattle.update_definition.specs.declared.Move.the-variants.{Rewind, Alternate, ChangeDiverge, PushSaved, BlockEmpty, Advance, Join}
 use Rattle.update_laws.specs.Good.{Good}
 use Rattle.update_laws.specs.Turns as Turns
 use Rattle.update_laws.proofs.GoodTurns.{steps-good, steps-stand}
@@ -26,9 +26,9 @@ use Rattle.search.specs.Read.{divsOf, pathOf, roundOf, hereOf, searchIn, viewsO
 use Rattle.search.specs.declared.Round.{Round}
 use Rattle.search.specs.declared.Place.{Place}
 use Rattle.search.specs.declared.look.Here.{Here}
-use Rattle.search_moves.specs.Effects.{Sized, leaves, turnOf}
-use Rattle.search_moves.specs.declared.Effect.{Effect}
-use Rattle.search_loop.specs.Runs.{Ready, Leaves}
+use Rattle.search.specs.Effects.{Sized, leaves, turnOf}
+use Rattle.search.specs.declared.Effect.{Effect}
+use Rattle.search.specs.Runs.{Ready, Leaves}
 use Rattle.splice.specs.Read.{trainOf, Stands, Joins, Changes}
 use Rattle.round.specs.Rounds.{Held, Room, Numbers, Searching, isJoin, reachedAt}
 use Rattle.round.proofs.FitLaws.{train-is, round-accepted, est-long, path-long}

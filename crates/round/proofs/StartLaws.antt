@@ -26,10 +26,10 @@ use Rattle.free_path.proofs.CountLaws.{answer-no}
 use Rattle.free_path.specs.LinkOptType.{Sentinels}
 use Rattle.free_path.specs.SearchLimit.{offsetCancel}
 use Rattle.free_path.proofs.ColumnLaws.{listed-read}
-use Rattle.train_update.specs.State as State
-use Rattle.train_update.specs.Update as Update
-use Rattle.train_update.specs.Update.{searchFrom, turnLimit, searchAt, roundAt, divPoint, savePoint}
-use Rattle.train_update.specs.Fits.{Fits}
+use Rattle.update_definition.specs.State as State
+use Rattle.update_definition.specs.Update as Update
+use Rattle.update_definition.specs.Update.{searchFrom, turnLimit, searchAt, roundAt, divPoint, savePoint}
+use Rattle.update_definition.specs.Fits.{Fits}
 use Rattle.update_laws.specs.FitsGood.{TrainFits, DivFits}
 use Rattle.update_laws.proofs.Answers.{ok-same, no-ok, bind-ok}
 use Rattle.update_laws.proofs.Lists.{each-one}
@@ -37,7 +37,7 @@ use Rattle.update_laws.proofs.Rounds.{start-good, save-low}
 use Rattle.search.specs.Read.{viewAt, viewsOf, divsOf, pathOf, roundOf, searchOf}
 use Rattle.search.specs.declared.Round.{Round}
 use Rattle.search.specs.declared.Place.{Place}
-use Rattle.search_loop.specs.Runs.{Begins}
+use Rattle.search.specs.Runs.{Begins}
 use Rattle.splice.specs.Read.{trainOf}
 use Rattle.round_start.specs.Start.{partedAt, dividedAt, withLimit}
 use Rattle.round_start.proofs.LimitLaws.{same-limit}

@@ -11,19 +11,19 @@ use Rattle.image.specs.Image.{estCount, divergeRoom, nodePlace}
 use Rattle.image.specs.declared.codec.PathHeader.{PathHeader}
 use Rattle.free_path.specs.Base.{Res, ok, no, _>>=_}
 use Rattle.free_path.specs.LinkOptType.{Sentinels}
-use Rattle.train_update.specs.State as State
-use Rattle.train_update.specs.State.{Ended, atEnd, blockedAt, again}
-use Rattle.train_update.specs.Update as Update
-use Rattle.train_update.specs.Accepted.{Accepted}
-use Rattle.train_update.specs.Fits.{Fits}
-use Rattle.train_update.specs.declared.Move.{Move}
-use Rattle.train_update.specs.declared.Move.the-variants.{Rewind, Alternate, ChangeDiverge, PushSaved, BlockEmpty, Advance, Join}
+use Rattle.update_definition.specs.State as State
+use Rattle.update_definition.specs.State.{Ended, atEnd, blockedAt, again}
+use Rattle.update_definition.specs.Update as Update
+use Rattle.update_definition.specs.Accepted.{Accepted}
+use Rattle.update_definition.specs.Fits.{Fits}
+use Rattle.update_definition.specs.declared.Move.{Move}
+use Rattle.update_definition.specs.declared.Move.the-variants.{Rewind, Alternate, ChangeDiverge, PushSaved, BlockEmpty, Advance, Join}
 use Rattle.update_laws.specs.FitsGood.{TrainFits}
 use Rattle.search.specs.Read.{divsOf, pathOf, roundOf, searchIn, Arrays, arrays, Marked}
 use Rattle.search.specs.declared.Round.{Round}
 use Rattle.search.specs.declared.Place.{Place}
 use Rattle.search.specs.declared.look.Here.{Here}
-use Rattle.search_loop.specs.Runs.{Begins}
+use Rattle.search.specs.Runs.{Begins}
 use Rattle.splice.specs.Read.{trainOf, Kept}
 use Rattle.splice.specs.declared.Reached.{Reached}
 use Rattle.round.specs.declared.Given.{Given}

@@ -1,4 +1,4 @@
-// A round of update_free_path (free_path.rs 278-633), proved equal to roundOf of train_update.
+// A round of update_free_path (free_path.rs 278-633), proved equal to roundOf of update_definition.
 // The train stands in the bytes of an image, two columns of diverge nodes and a header's numbers; everything else is lent room.
 // The crate assumes nothing of its own.
 pub mod ending;

@@ -12,7 +12,8 @@ use image::codec::PathHeader;
 use link_rules::octets;
 use search::Place;
 use search::Round;
-use search_moves::turn;
+use search::run;
+use search::turn;
 
 // A search from start, and how it ends the round.
 fn search_round(
@@ -35,7 +36,7 @@ fn search_round(
     ensures { λ x. ⌜ SearchEnded (now (occ .entry)) (now (img .entry)) (now (dt .entry)) (now (dn .entry)) h r (searchIn (r .«est_count») start [] (divsOf (start .«div_count») (now (nt .entry)) (now (nn .entry))) (arrays (now (pool .entry)) (now (begins .entry)) (now (ends .entry)))) x (now (img .exit)) (now (dt .exit)) (now (dn .exit)) ⌝ }
 {
     octets::put_u32(fresh, 4, 0);
-    let s = search_loop::run(
+    let s = run::run(
         img,
         occ,
         on,

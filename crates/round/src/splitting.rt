@@ -11,7 +11,7 @@ ghost use Rattle.image.specs.Image.{divergeRoom, nodeAt, distDispPathSearch};
 ghost use Rattle.free_path.specs.Columns.{linkAt};
 ghost use Rattle.free_path.specs.SearchLimit.{offsetCancel};
 ghost use Rattle.free_path.specs.LinkOptType.{linkIdxPath};
-ghost use Rattle.train_update.specs.Update.{roundOf};
+ghost use Rattle.update_definition.specs.Update.{roundOf};
 ghost use Rattle.search.specs.Read.{pathOf};
 ghost use Rattle.splice.specs.Read.{trainOf, Kept};
 ghost use Rattle.round.specs.Rounds.{Held, Numbers, givenOf, roundFrom, startAt, endedOf, isRefused, isAtEnd};

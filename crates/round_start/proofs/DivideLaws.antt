@@ -18,8 +18,8 @@ use Rattle.free_path.specs.Columns.{divAt}
 use Rattle.free_path.specs.LinkOptType.{Sentinels}
 use Rattle.free_path.proofs.ColumnLaws.{listed-out}
 use Rattle.splice.proofs.ListLaws.{read-in, read-out, read-before, walk-miss, walk-none}
-use Rattle.train_update.specs.State.{Ended}
-use Rattle.train_update.specs.Update.{Given, atSentinel, divPoint, savePoint, searchAt, roundAt, Entry, searches, beginAt, endFrom, searchFrom, turnLimit}
+use Rattle.update_definition.specs.State.{Ended}
+use Rattle.update_definition.specs.Update.{Given, atSentinel, divPoint, savePoint, searchAt, roundAt, Entry, searches, beginAt, endFrom, searchFrom, turnLimit}
 use Rattle.search.specs.Read.{divsOf}
 use Rattle.search.proofs.ListedLaws.{below-or-not}
 use Rattle.round_start.specs.Start.{partedAt, dividedAt}

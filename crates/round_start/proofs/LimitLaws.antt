@@ -4,14 +4,14 @@ use Prim.Native.Nat.{ℕ, zero, suc}
 use lib.Ieee.{Float, lt}
 use Rattle.disp_structs.specs.declared.Metres.{Metres}
 use Rattle.free_path.specs.Base.{Res, ok, no, _>>=_}
-use Rattle.train_update.specs.State.{Round, Search, Turn, Ended, goOn, ends}
-use Rattle.train_update.specs.Look.{Here, storedTrains, occupiedNext, moveOf}
-use Rattle.train_update.specs.Look as Look
-use Rattle.train_update.specs.Moves.{oneBack, rewind, alternate, changeDiverge, pushSaved, blockEmpty}
-use Rattle.train_update.specs.Join as Join
-use Rattle.train_update.specs.Update.{doMove, searchStep, searchFrom}
-use Rattle.train_update.specs.declared.Move.{Move}
-use Rattle.train_update.specs.declared.Move.the-variants.{Rewind, Alternate, ChangeDiverge, PushSaved, BlockEmpty, Advance, Join}
+use Rattle.update_definition.specs.State.{Round, Search, Turn, Ended, goOn, ends}
+use Rattle.update_definition.specs.Look.{Here, storedTrains, occupiedNext, moveOf}
+use Rattle.update_definition.specs.Look as Look
+use Rattle.update_definition.specs.Moves.{oneBack, rewind, alternate, changeDiverge, pushSaved, blockEmpty}
+use Rattle.update_definition.specs.Join as Join
+use Rattle.update_definition.specs.Update.{doMove, searchStep, searchFrom}
+use Rattle.update_definition.specs.declared.Move.{Move}
+use Rattle.update_definition.specs.declared.Move.the-variants.{Rewind, Alternate, ChangeDiverge, PushSaved, BlockEmpty, Advance, Join}
 use Rattle.round_start.specs.Start.{withLimit}
 
 module _ (r : Round) (m : Metres) (e : (x : Float) → lt (m .0) x ≡ lt (r .«offset_cancel» .0) x) where

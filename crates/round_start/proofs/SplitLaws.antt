@@ -12,7 +12,7 @@ use Rattle.disp_structs.proofs.ListedLaws.{listed-length}
 use Rattle.free_path.specs.Columns.{linkAt}
 use Rattle.free_path.specs.LinkOptType.{linksOnPath, contains, linkIdxPath, findTrainIntersect}
 use Rattle.free_path.specs.declared.link_opt_type.LinkOptType.{LinkOptType}
-use Rattle.train_update.specs.Update.{Given, apart, searchBegin, meeting, splitPoint}
+use Rattle.update_definition.specs.Update.{Given, apart, searchBegin, meeting, splitPoint}
 
 module _ (split free sentinel : ℕ) where
   pub begin-split : free ≤ split → split ≡ searchBegin split free sentinel

@@ -18,7 +18,7 @@ use Rattle.free_path.proofs.FlagLaws.{on-path, known-flags}
 use Rattle.free_path.proofs.ListLaws.{All}
 use Rattle.free_path.proofs.MapLaws.{drop-map}
 use Rattle.free_path.proofs.ValidateLaws.{Arrives, strays-column}
-use Rattle.train_update.specs.Accepted.{Each, NodeAccepted}
+use Rattle.update_definition.specs.Accepted.{Each, NodeAccepted}
 use Rattle.round_start.specs.Start.{Linked}
 
 -- links below top, which has as many flags

@@ -10,9 +10,9 @@ use Rattle.disp_structs.specs.declared.DispNode.{DispNode}
 use Rattle.disp_structs.specs.declared.DivergeNode.{DivergeNode}
 use Rattle.free_path.specs.Base.{Res, ok, _>>=_, need, at, before}
 use Rattle.free_path.specs.LinkOptType.{Sentinels}
-use Rattle.train_update.specs.Accepted.{Each}
-use Rattle.train_update.specs.State.{Round}
-use Rattle.train_update.specs.Update.{divPoint}
+use Rattle.update_definition.specs.Accepted.{Each}
+use Rattle.update_definition.specs.State.{Round}
+use Rattle.update_definition.specs.Update.{divPoint}
 
 -- the asserts on the diverge nodes before and at d (331-332)
 unfoldable pub partedAt : List DivergeNode → ℕ → ℕ → Res ℕ

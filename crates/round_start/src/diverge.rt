@@ -6,7 +6,7 @@ ghost use mathlib.Core.Path.{_≡_};
 ghost use mathlib.Core.List.{List};
 ghost use Prim.Native.Nat.{ℕ, _<_, _≤_};
 ghost use Rattle.free_path.specs.Columns.{answer};
-ghost use Rattle.train_update.specs.Update.{atSentinel, divPoint};
+ghost use Rattle.update_definition.specs.Update.{atSentinel, divPoint};
 ghost use Rattle.search.specs.Read.{divsOf};
 ghost use Rattle.round_start.specs.Start.{partedAt, dividedAt};
 

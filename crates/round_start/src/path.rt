@@ -15,8 +15,8 @@ ghost use Rattle.image.specs.Image.{nodeAt};
 ghost use Rattle.free_path.specs.Base.{walkFrom};
 ghost use Rattle.free_path.specs.Columns.{answer, linkAt};
 ghost use Rattle.free_path.specs.LinkOptType.{linksOnPath, contains, linkIdxPath};
-ghost use Rattle.train_update.specs.Moves.{notFake};
-ghost use Rattle.train_update.specs.Update.{apart, savePoint};
+ghost use Rattle.update_definition.specs.Moves.{notFake};
+ghost use Rattle.update_definition.specs.Update.{apart, savePoint};
 ghost use Rattle.search.specs.Read.{pathOf, Marked};
 
 // ---- link_idx_path

@@ -9,8 +9,8 @@ ghost use Rattle.disp_structs.specs.Listed.{listed};
 ghost use Rattle.free_path.specs.Base.{ok};
 ghost use Rattle.free_path.specs.Columns.{answer, linkAt};
 ghost use Rattle.free_path.specs.LinkOptType.{linksOnPath, contains};
-ghost use Rattle.train_update.specs.Update as Update;
-ghost use Rattle.train_update.specs.Update.{apart, searchBegin};
+ghost use Rattle.update_definition.specs.Update as Update;
+ghost use Rattle.update_definition.specs.Update.{apart, searchBegin};
 ghost use Rattle.search.specs.Read.{pathOf};
 
 // Where the intersection search begins.

@@ -17,8 +17,8 @@ use Rattle.free_path.specs.Columns.{tr, trains}
 use Rattle.disp_structs.specs.Listed.{listed}
 use Rattle.free_path.proofs.CountLaws.{counted, push}
 use Rattle.free_path.proofs.PoolLaws.{trains-set, trains-length}
-use Rattle.train_update.specs.State.{pushTrains}
-use Rattle.train_update.specs.Look.{blockBy}
+use Rattle.update_definition.specs.State.{pushTrains}
+use Rattle.update_definition.specs.Look.{blockBy}
 use Rattle.search.specs.Read.{trainsFrom, searchOf}
 use Rattle.search.specs.declared.Place.{Place}
 

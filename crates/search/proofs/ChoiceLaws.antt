@@ -11,11 +11,11 @@ use Rattle.disp_structs.specs.Values.{sameEst, noEst, sameEvent}
 use Rattle.disp_structs.specs.declared.DispNode.{DispNode}
 use Rattle.free_path.specs.Base.{ok, no, at}
 use Rattle.disp_structs.specs.Listed.{listed}
-use Rattle.train_update.specs.State.{Round, Search, blocked}
+use Rattle.update_definition.specs.State.{Round, Search, blocked}
 use Rattle.free_path.specs.Validate.{onPath}
-use Rattle.train_update.specs.Look.{Here, blockBy, meetsTrain, occupiedNext, blockedMove, moveOf}
-use Rattle.train_update.specs.declared.Move.{Move}
-use Rattle.train_update.specs.declared.Move.the-variants.{PushSaved, BlockEmpty, Advance, Join}
+use Rattle.update_definition.specs.Look.{Here, blockBy, meetsTrain, occupiedNext, blockedMove, moveOf}
+use Rattle.update_definition.specs.declared.Move.{Move}
+use Rattle.update_definition.specs.declared.Move.the-variants.{PushSaved, BlockEmpty, Advance, Join}
 use Rattle.search.specs.Read.{trainsFrom}
 
 pub one-train : (occ : List ℕ) (l : LinkIdx) → trainsFrom occ (l .0) 1 ≡ holder occ l ∷ []

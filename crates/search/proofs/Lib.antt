@@ -4,3 +4,8 @@ pub mod LookLaws
 pub mod BlockLaws
 pub mod StoredLaws
 pub mod ChoiceLaws
+pub mod PushLaws
+pub mod DepositLaws
+pub mod RewindLaws
+pub mod TurnLaws
+pub mod LoopLaws

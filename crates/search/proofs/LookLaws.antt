@@ -16,9 +16,9 @@ use Rattle.free_path.specs.Columns.{answer, divAt}
 use Rattle.free_path.proofs.ColumnLaws.{listed-read, listed-out}
 use Rattle.image.specs.Image.{estPlace, estAt, wholeEst}
 use Rattle.image.proofs.RecordLaws.{whole-est}
-use Rattle.train_update.specs.State.{blocked}
-use Rattle.train_update.specs.Look as Def
-use Rattle.train_update.specs.Look.{lookFrom}
+use Rattle.update_definition.specs.State.{blocked}
+use Rattle.update_definition.specs.Look as Def
+use Rattle.update_definition.specs.Look.{lookFrom}
 use Rattle.search.specs.Read.{estsOf, viewsOf, divsOf, hereOf, rising}
 use Rattle.search.specs.declared.Round.{Round}
 use Rattle.search.specs.declared.Place.{Place}

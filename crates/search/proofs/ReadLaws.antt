@@ -12,7 +12,7 @@ use Rattle.disp_structs.specs.declared.EstIdx.{EstIdx}
 use Rattle.disp_structs.specs.declared.TrainIdxsView.{TrainIdxsView}
 use Rattle.free_path.specs.Base.{Res, ok, no, _>>=_, _>>_, need}
 use Rattle.disp_structs.proofs.ListedLaws.{listed-length, listed-at}
-use Rattle.train_update.specs.State.{viewOf, blocked}
+use Rattle.update_definition.specs.State.{viewOf, blocked}
 use Rattle.search.specs.Read.{viewAt, viewsOf}
 use Rattle.search.proofs.ListedLaws.{getD-out, set-out, listed-set}
 

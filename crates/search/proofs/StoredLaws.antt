@@ -16,10 +16,10 @@ use Rattle.disp_structs.specs.Listed.{listed}
 use Rattle.free_path.proofs.ColumnLaws.{listed-read, listed-out}
 use Rattle.disp_structs.proofs.ListedLaws.{listed-length, listed-map}
 use Rattle.free_path.proofs.CountLaws.{answer-no, bind-stop, bind-go}
-use Rattle.train_update.specs.State as State
+use Rattle.update_definition.specs.State as State
 use Rattle.free_path.specs.Validate.{onPath}
-use Rattle.train_update.specs.Look as Def
-use Rattle.train_update.specs.Look.{storedFrom}
+use Rattle.update_definition.specs.Look as Def
+use Rattle.update_definition.specs.Look.{storedFrom}
 use Rattle.search.specs.Read.{divsOf, trainsFrom, nodeBefore, settle, settled}
 use Rattle.search.proofs.ListedLaws.{listed-part}
 

@@ -1,4 +1,4 @@
--- What the numbers and arrays of the search stand for: the lists, the round, the place and the answers of train_update's definitions. Assumes nothing.
+-- What the numbers and arrays of the search stand for: the lists, the round, the place and the answers of update_definition's definitions. Assumes nothing.
 use mathlib.Core.Path.{_≡_}
 use Prim.Native.Nat.{ℕ, _+_, _≤_, _<_}
 use mathlib.Core.Bool.{Bool, not}
@@ -17,9 +17,9 @@ use Rattle.free_path.specs.Base.{Res, ok, _>>=_, _>>_, need, at, before}
 use Rattle.free_path.specs.Columns.{answer, divAt, tr, trains}
 use Rattle.disp_structs.specs.Listed.{listed}
 use Rattle.image.specs.Image.{estAt, nodeAt}
-use Rattle.train_update.specs.State as State
+use Rattle.update_definition.specs.State as State
 use Rattle.free_path.specs.Validate.{onPath}
-use Rattle.train_update.specs.Look as Look
+use Rattle.update_definition.specs.Look as Look
 use Rattle.search.specs.declared.Round.{Round}
 use Rattle.search.specs.declared.Place.{Place}
 use Rattle.search.specs.declared.look.Here.{Here}

@@ -1,9 +1,15 @@
-// One turn of the search of update_free_path (free_path.rs 345-575), proved equal to the definitions of train_update.
+// The search of a round of update_free_path (free_path.rs 345-633), proved equal to the definitions of update_definition: looking (look, views),
+// the moves but ChangeDiverge and Join (moves, rewind), a turn up to these two (turn), and turn after turn up to the one that ends it (run).
 // est_times and disp_path are read from the image; diverge nodes, views, the pool of blocking trains and is_on_path are
 // columns of numbers that the caller lends. What stands past a column's end reads as 0. The crate assumes nothing of its own.
 pub mod look;
+pub mod moves;
+pub mod rewind;
+pub mod run;
+pub mod turn;
 pub mod views;
 
+use disp_structs::DispNode;
 use disp_structs::Metres;
 use link_rules::link_idx::TrainIdx;
 
@@ -34,4 +40,18 @@ pub struct Place {
 pub struct Index {
     pub code: u32,
     pub index: usize,
+}
+
+// What a move does: it is refused, it changes the new path or leaves it as it is, or it ends the round.
+pub enum Effect {
+    Refused(u32),
+    Push(DispNode),
+    Pop,
+    Stay,
+    GiveUp,
+}
+
+pub struct Moved {
+    pub effect: Effect,
+    pub place: Place,
 }

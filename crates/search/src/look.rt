@@ -10,7 +10,7 @@ use disp_structs::TrainIdxsView;
 use free_path::columns;
 use image::codec;
 use link_rules::link_idx::TrainIdx;
-use train_update::Move;
+use update_definition::Move;
 ghost use mathlib.Core.Path.{_≡_};
 ghost use mathlib.Core.List.{List};
 ghost use Prim.Native.Nat.{ℕ, _+_, _<_, _≤_, _^_};
@@ -19,7 +19,7 @@ ghost use mathlib.Core.Bool.{Bool, _||_};
 ghost use Rattle.link_rules.specs.LinkIdx.{sameTrain};
 ghost use Rattle.link_rules.specs.declared.link_idx.TrainIdx.{TrainIdx};
 ghost use Rattle.disp_structs.specs.Values.{sameEst, noEst};
-ghost use Rattle.train_update.specs.State.{blocked};
+ghost use Rattle.update_definition.specs.State.{blocked};
 ghost use lib.ListN.{length, take};
 ghost use Rattle.disp_structs.specs.Train.{Train};
 ghost use Rattle.disp_structs.specs.declared.DispNode.{DispNode};
@@ -28,7 +28,7 @@ ghost use Rattle.disp_structs.specs.declared.TrainIdxsView.{TrainIdxsView};
 ghost use Rattle.image.specs.Image.{estPlace, zeroEst};
 ghost use Rattle.free_path.specs.Base.{need};
 ghost use Rattle.free_path.specs.Columns.{answer, tr, trains};
-ghost use Rattle.train_update.specs.Look.{blockBy, storedFrom, blockStored, takeStored, storedTrains, meetsTrain, occupiedNext, blockedMove, moveOf};
+ghost use Rattle.update_definition.specs.Look.{blockBy, storedFrom, blockStored, takeStored, storedTrains, meetsTrain, occupiedNext, blockedMove, moveOf};
 ghost use Rattle.search.specs.Read.{divsOf, viewsOf, pathOf, trainsFrom, roundOf, hereOf, storedOf, searchOf, rising, nodeBefore, settled, Looks, Steps, Small, Lent, arrays, onFlag, Marked};
 
 // A refusal's number, or 0; idx_join_new, disp_node_curr, est_curr, and the est record of its idx_next.
@@ -67,7 +67,7 @@ fn between_divs(dn: &[u32], m: usize, i: usize) -> bool
 }
 
 // The turn is refused by 13; where it stood does not count.
-pub fn nowhere(curr: DispNode) -> Here
+pub(crate) fn nowhere(curr: DispNode) -> Here
     ensures { λ h. ⌜ h ≡ record { code = 13; «idx_join_new» = 0; «disp_node_curr» = curr; «est_curr» = zeroEst; «est_next» = zeroEst } ⌝ }
 {
     let e = codec::zero_est();
@@ -81,7 +81,14 @@ pub fn nowhere(curr: DispNode) -> Here
 }
 
 // The est records lie within the image.
-pub fn look_here(img: &[u8], r: Round, p: Place, curr: DispNode, ends: &[u32], dn: &[u32]) -> Here
+pub(crate) fn look_here(
+    img: &[u8],
+    r: Round,
+    p: Place,
+    curr: DispNode,
+    ends: &[u32],
+    dn: &[u32],
+) -> Here
     requires { ⌜ Small p × (estPlace (r .«est_count») ≤ length (now img)) ⌝ }
     ensures { λ h. ⌜ Looks h (now (img .entry)) r p curr (now (ends .entry)) (now (dn .entry)) ⌝ }
 {
@@ -308,7 +315,7 @@ fn settle(dn: &[u32], m: usize, join: usize, x: Placed) -> Placed
     x
 }
 
-pub fn stored_trains(
+pub(crate) fn stored_trains(
     dt: &[u32],
     dn: &[u32],
     on: &[u8],
@@ -359,7 +366,7 @@ fn meets_train(occ: &[u32], n: usize, h: Here, free: usize, ends: &[u32]) -> boo
     columns::is_occupied(occ, event.link_idx)
 }
 
-pub fn occupied_next(
+pub(crate) fn occupied_next(
     occ: &[u32],
     r: Round,
     h: Here,
@@ -404,7 +411,7 @@ fn blocked_move(on: &[u8], n: usize, alt: EstIdx, ends: &[u32]) -> Move
     Move::Alternate
 }
 
-pub fn move_of(img: &[u8], on: &[u8], r: Round, h: Here, p: Place, ends: &[u32]) -> Chosen
+pub(crate) fn move_of(img: &[u8], on: &[u8], r: Round, h: Here, p: Place, ends: &[u32]) -> Chosen
     requires { ⌜ Small p ⌝ }
     ensures { λ x. ⌜ ((t : Train) (occ dt dn b : List ℕ) (new : List DispNode) (divs : List DivergeNode) (pool : List TrainIdx) → Marked (now (on .entry)) (pathOf (now (img .entry)) (r .«path_count»)) → answer (x .code) (x .go) ≡ moveOf (roundOf t occ (now (img .entry)) dt dn r) (hereOf h) (searchOf p new divs pool (viewsOf (r .«est_count») b (now (ends .entry))))) ⌝ }
 {

@@ -10,7 +10,7 @@ ghost use Prim.Native.Nat.{ℕ, _≤_};
 ghost use lib.ListN.{length, set};
 ghost use Rattle.disp_structs.specs.Values.{isArrive, isFake, sameType, sameEvent};
 ghost use Rattle.disp_structs.specs.declared.EstType.the-variants.{Clear};
-ghost use Rattle.train_update.specs.State.{viewOf, blocked};
+ghost use Rattle.update_definition.specs.State.{viewOf, blocked};
 ghost use Rattle.search.specs.Read.{viewsOf, onFlag};
 
 // The view of an est, of n.
@@ -31,7 +31,7 @@ pub fn view_at(begins: &[u32], ends: &[u32], n: usize, e: EstIdx) -> TrainIdxsVi
 }
 
 // EstTimeStatus::is_blocked, by the column of ends alone.
-pub fn is_blocked(ends: &[u32], n: usize, e: EstIdx) -> bool
+pub(crate) fn is_blocked(ends: &[u32], n: usize, e: EstIdx) -> bool
     ensures { λ r. ⌜ ((b : List ℕ) → r ≡ blocked (viewsOf n b (now (ends .entry))) e) ⌝ }
 {
     let i = e.0 as usize;
@@ -41,7 +41,7 @@ pub fn is_blocked(ends: &[u32], n: usize, e: EstIdx) -> bool
     columns::u32_of(ends, i) != 0
 }
 
-pub fn put_view(begins: &mut [u32], ends: &mut [u32], n: usize, e: EstIdx, v: TrainIdxsView)
+pub(crate) fn put_view(begins: &mut [u32], ends: &mut [u32], n: usize, e: EstIdx, v: TrainIdxsView)
     requires { ⌜ (n ≤ length (now begins)) × (n ≤ length (now ends)) ⌝ }
     ensures { λ _. ⌜ viewsOf n (now (begins .exit)) (now (ends .exit)) ≡ set (viewsOf n (now (begins .entry)) (now (ends .entry))) (e .0) v ⌝ }
 {
@@ -53,7 +53,7 @@ pub fn put_view(begins: &mut [u32], ends: &mut [u32], n: usize, e: EstIdx, v: Tr
     ends[i] = v.idx_end;
 }
 
-pub fn is_on_path(on: &[u8], e: EstIdx) -> bool
+pub(crate) fn is_on_path(on: &[u8], e: EstIdx) -> bool
     ensures { λ r. ⌜ r ≡ onFlag (now (on .entry)) e ⌝ }
 {
     let i = e.0 as usize;
@@ -103,7 +103,7 @@ fn same_type(a: EstType, b: EstType) -> bool
     }
 }
 
-pub fn same_event(a: LinkEvent, b: LinkEvent) -> bool
+pub(crate) fn same_event(a: LinkEvent, b: LinkEvent) -> bool
     ensures { λ r. ⌜ r ≡ sameEvent a b ⌝ }
 {
     if a.link_idx.0 != b.link_idx.0 {

@@ -22,9 +22,9 @@ use Rattle.free_path.specs.Columns.{answer, divAt, tr, trains}
 use Rattle.disp_structs.specs.Listed.{listed}
 use Rattle.disp_structs.proofs.ListedLaws.{listed-length, listed-map}
 use Rattle.free_path.proofs.CountLaws.{bind-stop, bind-go, part-take, length-part}
-use Rattle.train_update.specs.State.{Round, Search, Turn, ends, again, withDivNodes, withFree, viewOf, diverging}
-use Rattle.train_update.specs.Look.{Here}
-use Rattle.train_update.specs.Moves.{trainsOf, changeDiverge}
+use Rattle.update_definition.specs.State.{Round, Search, Turn, ends, again, withDivNodes, withFree, viewOf, diverging}
+use Rattle.update_definition.specs.Look.{Here}
+use Rattle.update_definition.specs.Moves.{trainsOf, changeDiverge}
 use Rattle.splice.specs.Read.{trainOf, Stands, Changes, atSplit, baseEnd, changeAt}
 use Rattle.splice.specs.Parts.{filled}
 use Rattle.splice.specs.declared.Reached.{Reached}

@@ -14,7 +14,7 @@ use Rattle.free_path.specs.Columns.{answer, divAt, tr}
 use Rattle.disp_structs.specs.Listed.{listed}
 use Rattle.free_path.proofs.CountLaws.{bind-stop, answer-no}
 use Rattle.disp_structs.proofs.ListedLaws.{listed-length, listed-at}
-use Rattle.train_update.specs.Join.{Divs, shiftDivs, updateDivNodes}
+use Rattle.update_definition.specs.Join.{Divs, shiftDivs, updateDivNodes}
 use Rattle.splice.specs.Parts.{fromOn, Splices}
 use Rattle.splice.proofs.ListLaws.{listed-set, listed-splice, listed-drop, found-at, from-stopped, from-went, from-turn, from-no, from-end}
 

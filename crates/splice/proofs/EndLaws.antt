@@ -12,7 +12,7 @@ use Rattle.image.specs.Image.{typeNumber}
 use Rattle.free_path.specs.Base.{Res, ok, _>>=_}
 use Rattle.free_path.specs.Columns.{answer}
 use Rattle.free_path.proofs.CountLaws.{bind-stop, bind-go}
-use Rattle.train_update.specs.Join.{Ends, matchAt, moveEnds}
+use Rattle.update_definition.specs.Join.{Ends, matchAt, moveEnds}
 
 pub type-same : (s t : EstType) → eqb (typeNumber s) (typeNumber t) ≡ sameType s t
 type-same Arrive Arrive = refl

@@ -21,7 +21,7 @@ use Rattle.free_path.specs.Columns.{answer, link}
 use Rattle.disp_structs.specs.Listed.{listed}
 use Rattle.free_path.proofs.ColumnLaws.{listed-from}
 use Rattle.disp_structs.proofs.ListedLaws.{listed-length}
-use Rattle.train_update.specs.Join.{without, removeLinks, insertLinks}
+use Rattle.update_definition.specs.Join.{without, removeLinks, insertLinks}
 use Rattle.splice.specs.Flags.{bit, Holds, Below, linksOf, flagEvent, put, isPut, exchanged, exchangeLinks, Gives}
 
 none : (l : List LinkIdx) → l ++ linksOnPath [] ≡ linksOnPath [] ++ l

@@ -20,9 +20,9 @@ use Rattle.free_path.specs.LinkOptType.{linksOnPath}
 use Rattle.free_path.specs.Columns.{answer, divAt}
 use Rattle.disp_structs.specs.Listed.{listed}
 use Rattle.free_path.proofs.CountLaws.{bind-stop, bind-go, answer-no}
-use Rattle.train_update.specs.State.{Round, Search, Turn, ends, again, withPath, withDivNodes, withFrontBack, withFixed, withFree}
-use Rattle.train_update.specs.Look.{Here}
-use Rattle.train_update.specs.Join.{Ends, Divs, removeLinks, insertLinks, shiftOffsets, newEnds, moveFrontBack, updateFreePathHelpers, updateDivNodes, freeIsCorrect, spliceAt, join}
+use Rattle.update_definition.specs.State.{Round, Search, Turn, ends, again, withPath, withDivNodes, withFrontBack, withFixed, withFree}
+use Rattle.update_definition.specs.Look.{Here}
+use Rattle.update_definition.specs.Join.{Ends, Divs, removeLinks, insertLinks, shiftOffsets, newEnds, moveFrontBack, updateFreePathHelpers, updateDivNodes, freeIsCorrect, spliceAt, join}
 use Rattle.splice.specs.Read.{trainOf, Kept, Stands, Joins, finishAt}
 use Rattle.splice.specs.Parts.{fromOn, movesOf}
 use Rattle.splice.specs.Flags.{exchangeLinks}

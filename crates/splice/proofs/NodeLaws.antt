@@ -25,7 +25,7 @@ use Rattle.image.specs.Image.{estCount, nodePlace, estPlace, estAt, nodeAt, nod
 use Rattle.free_path.specs.Base.{Res, ok, no, _>>=_, _>>_, need, room, before}
 use Rattle.disp_structs.specs.Listed.{listed}
 use Rattle.disp_structs.proofs.ListedLaws.{listed-length, listed-at}
-use Rattle.train_update.specs.Join.{shiftOffsets, withOffset, freeIsCorrect}
+use Rattle.update_definition.specs.Join.{shiftOffsets, withOffset, freeIsCorrect}
 use Rattle.splice.specs.Read.{Kept}
 use Rattle.splice.specs.Parts.{fromOn, Splices, Sound, putOffset}
 use Rattle.splice.proofs.ListLaws.{listed-set, listed-splice, from-turn, from-no, from-end, at-need, read-before}

@@ -11,7 +11,7 @@ use Rattle.disp_structs.specs.declared.DispNode.{DispNode}
 use Rattle.free_path.specs.Base.{Res, ok, no, _>>=_, need, slice}
 use Rattle.free_path.specs.LinkOptType.{linksOnPath, contains}
 use Rattle.free_path.specs.Columns.{link}
-use Rattle.train_update.specs.Join.{without, removeLinks, insertLinks}
+use Rattle.update_definition.specs.Join.{without, removeLinks, insertLinks}
 
 abbrev pub bit : Bool → ℕ
 bit true = 1

@@ -17,9 +17,9 @@ use Rattle.disp_structs.specs.declared.TrainIdxsView.{TrainIdxsView}
 use Rattle.free_path.specs.Base.{Res, ok, _>>=_, _>>_, need, room, walkFrom}
 use Rattle.free_path.specs.Columns.{divAt, trains}
 use Rattle.disp_structs.specs.Listed.{listed}
-use Rattle.train_update.specs.State.{Round, Search, Turn, ends, again, viewOf, diverging, withPath, withDivNodes, withFixed, withFree}
-use Rattle.train_update.specs.Look.{Here}
-use Rattle.train_update.specs.Join.{freeIsCorrect}
+use Rattle.update_definition.specs.State.{Round, Search, Turn, ends, again, viewOf, diverging, withPath, withDivNodes, withFixed, withFree}
+use Rattle.update_definition.specs.Look.{Here}
+use Rattle.update_definition.specs.Join.{freeIsCorrect}
 use Rattle.splice.specs.Parts.{DivsFit}
 use Rattle.splice.specs.Flags.{Below}
 use Rattle.splice.specs.declared.Reached.{Reached}

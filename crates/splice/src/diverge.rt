@@ -9,7 +9,7 @@ ghost use lib.ListN.{length, getD, set, take, drop};
 ghost use Rattle.free_path.specs.Base.{ok, walkFrom};
 ghost use Rattle.free_path.specs.Columns.{answer, divAt};
 ghost use Rattle.disp_structs.specs.Listed.{listed};
-ghost use Rattle.train_update.specs.Join.{shiftDivs, updateDivNodes};
+ghost use Rattle.update_definition.specs.Join.{shiftDivs, updateDivNodes};
 ghost use Rattle.splice.specs.Parts.{fromOn, Splices, filled, DivsFit};
 use crate::copies;
 use free_path::columns;

@@ -8,7 +8,7 @@ ghost use Rattle.image.specs.Image.{typeNumber, nodeAt};
 ghost use Rattle.free_path.specs.Base.{ok};
 ghost use Rattle.free_path.specs.Columns.{answer};
 ghost use Rattle.disp_structs.specs.Listed.{listed};
-ghost use Rattle.train_update.specs.Join.{matchNew, matchAt, moveEnds, newEnds};
+ghost use Rattle.update_definition.specs.Join.{matchNew, matchAt, moveEnds, newEnds};
 use crate::path::Index;
 use disp_structs::EstType;
 use disp_structs::LinkEvent;

@@ -9,9 +9,9 @@ ghost use Rattle.image.specs.Image.{estCount, divergeRoom, nodePlace, nodeAt};
 ghost use Rattle.free_path.specs.Base.{ok, walkFrom};
 ghost use Rattle.free_path.specs.Columns.{answer, divAt};
 ghost use Rattle.disp_structs.specs.Listed.{listed};
-ghost use Rattle.train_update.specs.State.{Round, Search, ends, again, withPath, withFrontBack};
-ghost use Rattle.train_update.specs.Look.{Here};
-ghost use Rattle.train_update.specs.Join.{moveFrontBack, updateFreePathHelpers, updateDivNodes, spliceAt};
+ghost use Rattle.update_definition.specs.State.{Round, Search, ends, again, withPath, withFrontBack};
+ghost use Rattle.update_definition.specs.Look.{Here};
+ghost use Rattle.update_definition.specs.Join.{moveFrontBack, updateFreePathHelpers, updateDivNodes, spliceAt};
 ghost use Rattle.splice.specs.Read.{trainOf, Kept, Stands, Joins, JoinFits, PathFits, finishAt};
 ghost use Rattle.splice.specs.Parts.{DivsFit, movesOf};
 ghost use Rattle.splice.specs.Flags.{Below};
@@ -223,7 +223,7 @@ pub fn join(
     nn: &mut [u32],
 ) -> Again
     requires { ⌜ JoinFits (now img) (now fresh) (now dt) (now dn) (now nt) (now nn) h r (est .«idx_next») ⌝ }
-    ensures { λ a. ⌜ ((R : Round) (H : Here) (S : Search) → Stands (now (img .entry)) (now (dt .entry)) (now (dn .entry)) h r est R H S → Joins (now (fresh .entry)) (now (nt .entry)) (now (nn .entry)) r curr H S → answer (a .code) (ends (again (trainOf (now (img .exit)) (now (dt .exit)) (now (dn .exit)) (a .header)) (a .split) (a .«div_split»))) ≡ Rattle.train_update.specs.Join.join R H S) × (a .code ≡ 0 → Kept (now (img .exit)) (now (img .entry))) × (a .moves ≡ movesOf (a .code) (r .split + r .«new_count») (h .«path_count») (walkFrom (λ x. sameEst (est .«idx_next») (x .«est_idx»)) (listed (h .«path_count») (nodeAt (now (img .entry)))) (r .«split_save»))) ⌝ }
+    ensures { λ a. ⌜ ((R : Round) (H : Here) (S : Search) → Stands (now (img .entry)) (now (dt .entry)) (now (dn .entry)) h r est R H S → Joins (now (fresh .entry)) (now (nt .entry)) (now (nn .entry)) r curr H S → answer (a .code) (ends (again (trainOf (now (img .exit)) (now (dt .exit)) (now (dn .exit)) (a .header)) (a .split) (a .«div_split»))) ≡ Rattle.update_definition.specs.Join.join R H S) × (a .code ≡ 0 → Kept (now (img .exit)) (now (img .entry))) × (a .moves ≡ movesOf (a .code) (r .split + r .«new_count») (h .«path_count») (walkFrom (λ x. sameEst (est .«idx_next») (x .«est_idx»)) (listed (h .«path_count») (nodeAt (now (img .entry)))) (r .«split_save»))) ⌝ }
 {
     let found = path::join_base(img, h.path_count, r.split_save, est.idx_next);
     if found.code != 0 {

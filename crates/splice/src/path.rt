@@ -9,7 +9,7 @@ ghost use Rattle.image.specs.Image.{estCount, nodePlace, nodeAt};
 ghost use Rattle.free_path.specs.Base.{ok, walkFrom};
 ghost use Rattle.free_path.specs.Columns.{answer};
 ghost use Rattle.disp_structs.specs.Listed.{listed};
-ghost use Rattle.train_update.specs.Join.{shiftOffsets, freeIsCorrect};
+ghost use Rattle.update_definition.specs.Join.{shiftOffsets, freeIsCorrect};
 ghost use Rattle.splice.specs.Read.{Kept};
 ghost use Rattle.splice.specs.Parts.{fromOn, putOffset, tailMoves};
 use crate::moves;

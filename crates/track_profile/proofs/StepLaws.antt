@@ -13,10 +13,10 @@ use Rattle.disp_structs.specs.declared.EstTime.{EstTime}
 use Rattle.disp_structs.specs.declared.DispNode.{DispNode}
 use Rattle.free_path.specs.Base.{Res, ok, no, at}
 use Rattle.free_path.specs.Validate.{stepsNext, stepsAlt, badStep, badSteps, badPath, validateFreePath}
-use Rattle.train_update.specs.State.{Ended, atEnd, blockedAt, again}
+use Rattle.update_definition.specs.State.{Ended, atEnd, blockedAt, again}
 use Rattle.tally.specs.Tally.{counted}
 use Rattle.tally.specs.declared.Tally.{Tally}
-use Rattle.train_update.specs.Update.{Given, Status, Success, Blocked, Faulty, Refused, Updated, Between, faultsOf, finish, afterRound, due, roundsFrom, roundOf, straysOf, startOf, givenOf, updateFrom, updateFreePath}
+use Rattle.update_definition.specs.Update.{Given, Status, Success, Blocked, Faulty, Refused, Updated, Between, faultsOf, finish, afterRound, due, roundsFrom, roundOf, straysOf, startOf, givenOf, updateFrom, updateFreePath}
 use Rattle.update_laws.proofs.Answers.{no-ok, ok-same, bind-ok, need-ok}
 use Rattle.link_rules.specs.declared.link_idx.LinkIdx.{LinkIdx}
 use Rattle.link_rules.specs.declared.link_idx.TrainIdx.{TrainIdx}
@@ -28,9 +28,9 @@ use Rattle.image_fault.specs.ImageFault.{imageFault}
 use Rattle.image_fault.proofs.AcceptLaws as Clean
 use Rattle.update_laws.specs.Ended.{Leaves}
 use Rattle.update_laws.proofs.Updates.{StaysFit}
-use Rattle.update_image.specs.UpdateImage.{UpdatedImage, callFault, linkIdxs, answerBy, updateFault, updatedImage}
-use Rattle.update_image.proofs.PathReads.{listed-read, read-listed}
-use Rattle.update_image.proofs.UpdateLeaves.{Trains16, leaves, left-holds}
+use Rattle.update_definition.specs.UpdateImage.{UpdatedImage, callFault, linkIdxs, answerBy, updateFault, updatedImage}
+use Rattle.update_laws.proofs.PathReads.{listed-read, read-listed}
+use Rattle.update_laws.proofs.UpdateLeaves.{Trains16, leaves, left-holds}
 use Rattle.track_profile.specs.Profile.{InProfile, distAt, offsetAt}
 use Rattle.track_profile.specs.ExactSteps.{StepsExact, SuccessIsExact, estOf}
 use Rattle.track_profile.proofs.NearLaws.{near-equal, step-exact}

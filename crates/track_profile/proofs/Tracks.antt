@@ -16,9 +16,9 @@ use Rattle.image.specs.Image.{pathCount, typeOf, pathHeader, estFrom, nodeFrom,
 use Rattle.image.specs.Codec.{decoded, putEach, putRecords, storedInto, putSize, putOffsets, putDists, constantInto, encodedInto, encoded}
 use Rattle.image_fault.specs.ImageFault.{firstUnfit, countsFit, partsFit, trainFits, estTypeFits, nodeTypeFits, zeroWord, unusedZero, recordsFit, imageFits, floatFits, timeFits, distFits, eventFits, estLinksFit, estFits, nodeFits, indicesFit, headerFits, valueFault, cycleFault, stepsTo, comesFrom, endsAt, arrivesOn, arrived, firstArrival, onRoute, innerFits, divergeFits, routeFault, imageFault}
 use Rattle.link_rules.specs.Refusals.{noRefusal, refused}
-use Rattle.train_update.specs.Update.{Success}
-use Rattle.update_cases.specs.Build.{train, metres, est, node, dive, everything}
-use Rattle.update_image.specs.UpdateImage.{UpdatedImage, linksBelow, callFault, updateFault, updatedImage}
+use Rattle.update_definition.specs.Update.{Success}
+use Rattle.update_laws.specs.Build.{train, metres, est, node, dive, everything}
+use Rattle.update_definition.specs.UpdateImage.{UpdatedImage, linksBelow, callFault, updateFault, updatedImage}
 use Rattle.track_profile.specs.Profile.{unitsOf, inProfile, offsetAt, imageInProfile, profileFault}
 use Rattle.track_profile.specs.ExactSteps.{namesNext, namesAlt}
 

@@ -10,8 +10,8 @@ use Rattle.disp_structs.specs.Floats.{nearFloat}
 use Rattle.disp_structs.specs.Values.{sameEst}
 use Rattle.image.specs.Image.{pathCount, estAt, nodeAt}
 use Rattle.link_rules.specs.Refusals.{noRefusal}
-use Rattle.train_update.specs.Update.{Success}
-use Rattle.update_image.specs.UpdateImage.{updatedImage}
+use Rattle.update_definition.specs.Update.{Success}
+use Rattle.update_definition.specs.UpdateImage.{updatedImage}
 use Rattle.track_profile.specs.Profile.{unitsOf, distAt, offsetAt, profileFault}
 
 -- ---- near

@@ -11,8 +11,8 @@ use Rattle.free_path.specs.Columns.{answer}
 use Rattle.tally.specs.Tally.{faulted, countedFaults}
 use Rattle.tally.specs.declared.Tally.{Tally}
 use Rattle.tally.proofs.TallyLaws.{faulted-within, faulted-none}
-use Rattle.train_update.specs.Update as Update
-use Rattle.update_image.specs.UpdateImage.{UpdatedImage, leftImage, storedAnswer}
+use Rattle.update_definition.specs.Update as Update
+use Rattle.update_definition.specs.UpdateImage.{UpdatedImage, leftImage, storedAnswer}
 use Rattle.update_free_path.specs.Updates.{statusOf, isRefusal, judgedBy, statusBy, ranBy, isRefused}
 use Rattle.update_free_path.specs.declared.rounds.Stop.{Stop}
 use Rattle.update_free_path.specs.declared.rounds.Stop.the-variants as Stops

@@ -14,9 +14,9 @@ use Rattle.link_rules.specs.declared.refusal.Refusal.{Refusal}
 use Rattle.image_fault.proofs.AcceptLaws.{or-else-clean}
 use Rattle.free_path.specs.Base.{Res, at}
 use Rattle.free_path.proofs.ColumnLaws.{listed-out}
-use Rattle.train_update.specs.Update as Update
-use Rattle.update_image.specs.UpdateImage.{UpdatedImage, callFault, linkIdxs, updateFault, updatedImage, storedAnswer, refusedAnswer, answerBy}
-use Rattle.update_call.proofs.CallLaws.{call-links}
+use Rattle.update_definition.specs.Update as Update
+use Rattle.update_definition.specs.UpdateImage.{UpdatedImage, callFault, linkIdxs, updateFault, updatedImage, storedAnswer, refusedAnswer, answerBy}
+use Rattle.update_free_path.proofs.FaultLaws.{call-links}
 use Rattle.splice.specs.Read.{Kept}
 use Rattle.splice.proofs.NodeLaws.{kept-count, kept-le}
 use Rattle.update_free_path.specs.Updates.{Begins, updateOf, Judged}

@@ -2,3 +2,5 @@ pub mod AnswerLaws
 pub mod RoundsLaws
 pub mod StartLaws
 pub mod CallLaws
+pub mod FaultLaws
+pub mod DivergeLaws

@@ -21,11 +21,11 @@ use Rattle.free_path.specs.Validate.{strayLink}
 use Rattle.free_path.proofs.ColumnLaws.{listed-read}
 use Rattle.tally.specs.Tally.{counted}
 use Rattle.tally.specs.declared.Tally.{Tally}
-use Rattle.train_update.specs.State as State
-use Rattle.train_update.specs.State.{again}
-use Rattle.train_update.specs.Update as Update
-use Rattle.train_update.specs.Accepted.{Accepted}
-use Rattle.train_update.specs.Fits.{Fits}
+use Rattle.update_definition.specs.State as State
+use Rattle.update_definition.specs.State.{again}
+use Rattle.update_definition.specs.Update as Update
+use Rattle.update_definition.specs.Accepted.{Accepted}
+use Rattle.update_definition.specs.Fits.{Fits}
 use Rattle.update_laws.proofs.Rounds.{round-good}
 use Rattle.update_laws.proofs.Updates.{round-fits}
 use Rattle.update_laws.specs.Ended.{StaysAccepted, NextRound}

@@ -21,15 +21,15 @@ use Rattle.free_path.specs.declared.link_opt_type.LinkOptType.{LinkOptType}
 use Rattle.free_path.proofs.ColumnLaws.{listed-read}
 use Rattle.tally.specs.Tally.{started}
 use Rattle.tally.specs.declared.Tally.{Tally}
-use Rattle.train_update.specs.State.{withDivNodes}
-use Rattle.train_update.specs.Update as Update
-use Rattle.train_update.specs.Accepted.{Accepted}
-use Rattle.train_update.specs.Fits.{Fits}
+use Rattle.update_definition.specs.State.{withDivNodes}
+use Rattle.update_definition.specs.Update as Update
+use Rattle.update_definition.specs.Accepted.{Accepted}
+use Rattle.update_definition.specs.Fits.{Fits}
 use Rattle.update_laws.proofs.Updates.{top-start}
-use Rattle.update_image.specs.UpdateImage.{linkIdxs}
-use Rattle.update_image.proofs.BytesAccepted.{bytes-accepted, fits-wider}
-use Rattle.update_call.proofs.StartLaws.{start-train, start-fits, accepted-size}
-use Rattle.update_call.proofs.RefusalLaws.{refused-number}
+use Rattle.update_definition.specs.UpdateImage.{linkIdxs}
+use Rattle.update_laws.proofs.BytesAccepted.{bytes-accepted, fits-wider}
+use Rattle.update_free_path.proofs.DivergeLaws.{start-train, start-fits, accepted-size}
+use Rattle.update_laws.proofs.RefusalLaws.{refused-number}
 use Rattle.round_start.specs.Start.{Linked}
 use Rattle.round_start.proofs.StrayLaws.{linked-accepted, class-flags, known-links}
 use Rattle.search.specs.Read.{pathOf, Marked}

@@ -18,8 +18,8 @@ use Rattle.free_path.specs.Base.{Res, ok, no}
 use Rattle.free_path.specs.Columns.{link, links, linkAt, flagged}
 use Rattle.free_path.specs.LinkOptType.{contains, linkIdxPath, linkOptType}
 use Rattle.free_path.specs.Validate.{known, validateFreePath}
-use Rattle.train_update.specs.Update as Update
-use Rattle.update_image.specs.UpdateImage.{UpdatedImage, linkIdxs, updatedImage, storedAnswer, refusedAnswer}
+use Rattle.update_definition.specs.Update as Update
+use Rattle.update_definition.specs.UpdateImage.{UpdatedImage, linkIdxs, updatedImage, storedAnswer, refusedAnswer}
 use Rattle.validate.specs.Paths.{estsOf}
 use Rattle.search.specs.Read.{pathOf}
 use Rattle.splice.specs.Read.{trainOf, Kept}

@@ -15,8 +15,8 @@ ghost use Prim.Native.Nat.{ℕ, _<_};
 ghost use Rattle.disp_structs.specs.Train.{Train};
 ghost use Rattle.image.specs.Image.{estCount, divergeRoom};
 ghost use Rattle.free_path.specs.Columns as Columns;
-ghost use Rattle.train_update.specs.Update as Update;
-ghost use Rattle.update_image.specs.UpdateImage.{leftImage, storedAnswer, refusedAnswer};
+ghost use Rattle.update_definition.specs.Update as Update;
+ghost use Rattle.update_definition.specs.UpdateImage.{leftImage, storedAnswer, refusedAnswer};
 ghost use Rattle.splice.specs.Read.{trainOf};
 ghost use Rattle.update_free_path.specs.Updates.{statusOf, updatedOf, isRefusal, errorsOf, judgedBy, statusBy, ranBy, isRefused, Named};
 

@@ -1,6 +1,7 @@
-// update_free_path (free_path.rs 252-638) on the bytes of one image, proved equal to updatedImage of update_image.
+// update_free_path (free_path.rs 252-638) on the bytes of one image, proved equal to updatedImage of update_definition.
 // Every function here is proved, the crate assumes nothing of its own, and no public function has a `requires`.
 pub mod answer;
+pub mod call;
 pub mod rounds;
 pub mod start;
 
@@ -12,13 +13,12 @@ use link_rules::link_idx::NarrowTrainIdx;
 use link_rules::link_idx::TrainIdx;
 use link_rules::refusal::Refusal;
 use start::Order;
-use update_call;
 ghost use mathlib.Core.Path.{_≡_};
 ghost use mathlib.Core.List.{List};
 ghost use Prim.Native.Nat.{ℕ, _≤_};
 ghost use lib.ListN.{length};
 ghost use Rattle.image.specs.Image.{estCount, divergeRoom, pathHeader};
-ghost use Rattle.update_image.specs.UpdateImage.{storedAnswer, updatedImage};
+ghost use Rattle.update_definition.specs.UpdateImage.{storedAnswer, updatedImage};
 ghost use Rattle.update_free_path.specs.Updates.{updatedOf, updateOf, Begins, Space, Judged};
 
 // The update runs on a copy of the image; only one that is not refused changes the image.
@@ -39,7 +39,7 @@ fn update_in(
     requires { ⌜ Begins (now image) (now occ) h × (length (now scratch) ≡ length (now image)) × Space (now image) (now occ) (now col) (now on) (now flags) (now known) (now dt) (now dn) ⌝ }
     ensures { λ x. ⌜ updatedOf x (now (image .exit)) ≡ storedAnswer (updateOf (now (image .entry)) (now (occ .entry)) (now (blocking .entry)) o) (now (image .entry)) ⌝ }
 {
-    update_call::copy_image(image, scratch);
+    call::copy_image(image, scratch);
     let r = start::run(scratch, occ, blocking, o, h, col, on, flags, known, dt, dn);
     answer::answered(image, scratch, occ, r, dt, dn)
 }
@@ -188,7 +188,7 @@ fn start_fault(image: &[u8], l: usize, blocking: &[u32], o: Order) -> Refusal
     ensures { λ r. ⌜ ((occ : List ℕ) → length occ ≡ l → Judged r (now (image .entry)) occ (now (blocking .entry)) o) ⌝ }
 {
     let moved = o.moved;
-    let f = update_call::update_fault(image, l, blocking, moved, o.limit);
+    let f = call::update_fault(image, l, blocking, moved, o.limit);
     if f.number != 0 {
         return f;
     }

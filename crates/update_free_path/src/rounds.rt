@@ -1,5 +1,5 @@
 // The loop over rounds (free_path.rs 278-635).
-use free_path::validate as counts;
+use free_path::strays;
 use image::codec::PathHeader;
 use round::End;
 use round::Given;
@@ -135,7 +135,7 @@ fn closed(w: Between) -> Ran
 pub(crate) fn strays_of(col: &[u32], h: PathHeader, occ: &[u32], known: &[u8]) -> usize
     ensures { λ r. ⌜ r ≡ count (strayLink (now (occ .entry)) (flagged (now (known .entry)))) (drop (h .free) (listed (h .«path_count») (linkAt (now (col .entry))))) ⌝ }
 {
-    counts::strays(col, h.path_count as usize, h.free as usize, occ, known)
+    strays::strays(col, h.path_count as usize, h.free as usize, occ, known)
 }
 
 // link_idx_path and is_on_path of the n nodes of the path.

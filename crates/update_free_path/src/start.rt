@@ -1,4 +1,5 @@
 // The first round of an update: what it finds, and the loop from there (free_path.rs 265-277).
+use crate::call;
 use crate::rounds;
 use crate::rounds::Between;
 use crate::rounds::Ran;
@@ -8,14 +9,13 @@ use image::codec::PathHeader;
 use link_rules::link_idx::TrainIdx;
 use round::Given;
 use tally;
-use update_call;
 ghost use mathlib.Core.Path.{_≡_};
 ghost use Prim.Native.Nat.{_≤_};
 ghost use lib.ListN.{length};
 ghost use Rattle.disp_structs.specs.Listed.{listed};
 ghost use Rattle.image.specs.Image.{divergeAt};
 ghost use Rattle.free_path.specs.Columns.{divAt};
-ghost use Rattle.train_update.specs.Update.{adjustSentinel};
+ghost use Rattle.update_definition.specs.Update.{adjustSentinel};
 ghost use Rattle.update_free_path.specs.Updates.{startAt, givenAt, Begins, Space, Finished};
 
 // What an update is told besides the image and the lists.
@@ -31,8 +31,8 @@ fn start_diverges(img: &[u8], m: u32, moved: TrainIdx, dt: &mut [u32], dn: &mut 
     ensures { λ _. ⌜ listed m (divAt (now (dt .exit)) (now (dn .exit))) ≡ adjustSentinel moved (listed m (divergeAt (now (img .entry)))) ⌝ }
 {
     let n = m as usize;
-    update_call::take_diverges(img, n, dt, dn);
-    update_call::adjust_sentinel(dt, n, moved);
+    call::take_diverges(img, n, dt, dn);
+    call::adjust_sentinel(dt, n, moved);
 }
 
 fn given_of(img: &[u8], blocking: &[u32], flags: &[u8], o: Order, free: u16) -> Given
@@ -43,7 +43,7 @@ fn given_of(img: &[u8], blocking: &[u32], flags: &[u8], o: Order, free: u16) -> 
         train_idx_moved: moved,
         is_local: o.local,
         link_opt_type: LinkOptType::new(blocking, flags),
-        offset_lowest: update_call::offset_lowest(img, free as u32),
+        offset_lowest: call::offset_lowest(img, free as u32),
     }
 }
 

@@ -15,11 +15,11 @@ use Rattle.disp_structs.specs.declared.DispNode.{DispNode}
 use Rattle.disp_structs.specs.declared.DivergeNode.{DivergeNode}
 use Rattle.est_times.proofs.Counting.{same-or-not}
 use Rattle.free_path.specs.Base.{ok, at, before, slice}
-use Rattle.train_update.specs.State.{Round, Search, Turn, goOn, blocked, pushTrains}
+use Rattle.update_definition.specs.State.{Round, Search, Turn, goOn, blocked, pushTrains}
 use Rattle.free_path.specs.Validate.{onPath}
-use Rattle.train_update.specs.Look.{Here, current, Stored, storedFrom, blockStored, takeStored, storedTrains, blockBy}
-use Rattle.train_update.specs.Update.{searchStep}
-use Rattle.train_update.specs.Accepted.{Accepted}
+use Rattle.update_definition.specs.Look.{Here, current, Stored, storedFrom, blockStored, takeStored, storedTrains, blockBy}
+use Rattle.update_definition.specs.Update.{searchStep}
+use Rattle.update_definition.specs.Accepted.{Accepted}
 use Rattle.update_laws.specs.Turns.{Stands, Looks, Rewound, Did, After}
 use Rattle.update_laws.specs.Turns.Looks.{passes, blocks}
 use Rattle.update_laws.specs.Turns.Did.{pops, shortens, givesUp, alternates, changes, saves, empties, advances, joins}

@@ -11,10 +11,10 @@ use Rattle.link_rules.specs.declared.link_idx.TrainIdx.{TrainIdx}
 use Rattle.disp_structs.specs.Values.{sameEst}
 use Rattle.disp_structs.specs.declared.DivergeNode.{DivergeNode}
 use Rattle.free_path.specs.Base.{ok, at, isEmpty, walkFrom}
-use Rattle.train_update.specs.State.{Round, Search, Turn, ends, Ended, again, viewOf, blocked, diverging, withFree, withDivNodes}
-use Rattle.train_update.specs.Look.{Here}
-use Rattle.train_update.specs.Moves.{trainsOf, changeDiverge}
-use Rattle.train_update.specs.Accepted.{Each, Accepted, DivsAccepted}
+use Rattle.update_definition.specs.State.{Round, Search, Turn, ends, Ended, again, viewOf, blocked, diverging, withFree, withDivNodes}
+use Rattle.update_definition.specs.Look.{Here}
+use Rattle.update_definition.specs.Moves.{trainsOf, changeDiverge}
+use Rattle.update_definition.specs.Accepted.{Each, Accepted, DivsAccepted}
 use Rattle.update_laws.specs.Turns.{SomeTrain}
 use Rattle.update_laws.specs.Good.{Good, NewDivGood}
 use Rattle.update_laws.specs.Ended.{DivPoint, EndsGood}

@@ -11,8 +11,8 @@ use borrow.Author.Tests.{leb-true, ltb-true, eqb-true}
 use Rattle.link_rules.specs.declared.link_idx.TrainIdx.{TrainIdx}
 use Rattle.disp_structs.specs.declared.DivergeNode.{DivergeNode}
 use Rattle.free_path.specs.Base.{ok, need, at, walkFrom, last}
-use Rattle.train_update.specs.Join.{shiftDivs, updateDivNodes, Divs}
-use Rattle.train_update.specs.Accepted.{DivsAccepted}
+use Rattle.update_definition.specs.Join.{shiftDivs, updateDivNodes, Divs}
+use Rattle.update_definition.specs.Accepted.{DivsAccepted}
 use Rattle.update_laws.proofs.Answers.{no-ok, ok-same, bind-ok, need-ok, room-ok, cond-cases}
 use Rattle.update_laws.proofs.Lists.{at-below, at-drop, at-last, last-at, walk-ok}
 use Rattle.update_laws.proofs.NewDivs.{sorted-upto}

@@ -8,7 +8,7 @@ use lib.ListN.{length, take, length-append}
 use lib.Seq.{length-take-le}
 use Rattle.disp_structs.specs.declared.DivergeNode.{DivergeNode}
 use Rattle.free_path.specs.Base.{ok, at, before, last}
-use Rattle.train_update.specs.Accepted.{Each, Sorted, InnerAccepted, DivsAccepted}
+use Rattle.update_definition.specs.Accepted.{Each, Sorted, InnerAccepted, DivsAccepted}
 use Rattle.update_laws.specs.Turns.{SomeTrain}
 use Rattle.update_laws.specs.Good.{NewDivGood}
 use Rattle.update_laws.specs.Ended.{DivPoint}

@@ -15,11 +15,11 @@ use Rattle.est_times.proofs.Counting.{count, count-le, count-lt, count-bound, c
 use Rattle.est_times.proofs.Depth.{Move, move-falls}
 use Rattle.est_times.proofs.Depth.Move.{push, pop, block}
 use Rattle.free_path.specs.Base.{Res, ok, no, popped}
-use Rattle.train_update.specs.State.{Round, Search, Turn, goOn, ends, blocked}
-use Rattle.train_update.specs.Look.{Here}
-use Rattle.train_update.specs.Moves.{alternateNode, savedNode, advanceNode}
-use Rattle.train_update.specs.Update.{searchStep, searchFrom, turnLimit}
-use Rattle.train_update.specs.Accepted.{Accepted}
+use Rattle.update_definition.specs.State.{Round, Search, Turn, goOn, ends, blocked}
+use Rattle.update_definition.specs.Look.{Here}
+use Rattle.update_definition.specs.Moves.{alternateNode, savedNode, advanceNode}
+use Rattle.update_definition.specs.Update.{searchStep, searchFrom, turnLimit}
+use Rattle.update_definition.specs.Accepted.{Accepted}
 use Rattle.update_laws.specs.Turns.{Stands, Looks, Rewound, Did, Turned, After}
 use Rattle.update_laws.specs.Turns.Looks.{passes, blocks}
 use Rattle.update_laws.specs.Turns.Did.{pops, shortens, givesUp, alternates, changes, saves, empties, advances, joins}

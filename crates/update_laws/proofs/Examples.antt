@@ -17,7 +17,7 @@ use Rattle.disp_structs.specs.declared.DivergeNode.{DivergeNode}
 use Rattle.est_times.specs.Cycles.{follow, via, reach, firstAt}
 use Rattle.free_path.specs.Base.{at, any}
 use Rattle.free_path.specs.LinkOptType.{linksOnPath, contains}
-use Rattle.train_update.specs.Accepted.{Accepted, EstAccepted, NodeAccepted, Leads}
+use Rattle.update_definition.specs.Accepted.{Accepted, EstAccepted, NodeAccepted, Leads}
 use Rattle.update_laws.proofs.Answers.{ok-same}
 use Rattle.update_laws.proofs.Lists.{each-none, each-cons, chain-one, chain-cons}
 

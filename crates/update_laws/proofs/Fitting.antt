@@ -17,12 +17,12 @@ use Rattle.disp_structs.specs.declared.DivergeNode.{DivergeNode}
 use Rattle.disp_structs.specs.declared.TrainIdxsView.{TrainIdxsView}
 use Rattle.free_path.specs.Base.{ok, at, last, popped, part, slice, any}
 use Rattle.free_path.specs.TrainIdxsView.{poolRoom, Pooled, poolPush, addOne, addFrom, closed, addBlockingTrains, addAllBlockingTrains, concatTrainIdxViews, covers, size}
-use Rattle.train_update.specs.State.{Round, Search, Turn, goOn, Ended, viewOf, diverging}
-use Rattle.train_update.specs.Look.{Here, current}
-use Rattle.train_update.specs.Moves.{alternateNode, savedNode, advanceNode}
-use Rattle.train_update.specs.Update.{searchStep, searchFrom}
-use Rattle.train_update.specs.Accepted.{Each, Accepted}
-use Rattle.train_update.specs.Fits.{NodeFits}
+use Rattle.update_definition.specs.State.{Round, Search, Turn, goOn, Ended, viewOf, diverging}
+use Rattle.update_definition.specs.Look.{Here, current}
+use Rattle.update_definition.specs.Moves.{alternateNode, savedNode, advanceNode}
+use Rattle.update_definition.specs.Update.{searchStep, searchFrom}
+use Rattle.update_definition.specs.Accepted.{Each, Accepted}
+use Rattle.update_definition.specs.Fits.{NodeFits}
 use Rattle.update_laws.specs.Turns.{Met, Stands, Looks, Rewound, Did, Turned, After}
 use Rattle.update_laws.specs.Turns.Looks.{passes, blocks}
 use Rattle.update_laws.specs.Turns.Did.{pops, shortens, givesUp, alternates, changes, saves, empties, advances, joins}

@@ -5,10 +5,10 @@ use native.Mathlib.Omega.{arith}
 use lib.ListN.{length}
 use Rattle.disp_structs.specs.declared.DivergeNode.{DivergeNode}
 use Rattle.free_path.specs.Base.{ok, Res, no, _>>=_}
-use Rattle.train_update.specs.State.{Round, Search, Turn, goOn, ends, Ended}
-use Rattle.train_update.specs.Look.{Here, lookHere, storedTrains, occupiedNext}
-use Rattle.train_update.specs.Update.{searchStep, searchFrom}
-use Rattle.train_update.specs.Accepted.{Accepted}
+use Rattle.update_definition.specs.State.{Round, Search, Turn, goOn, ends, Ended}
+use Rattle.update_definition.specs.Look.{Here, lookHere, storedTrains, occupiedNext}
+use Rattle.update_definition.specs.Update.{searchStep, searchFrom}
+use Rattle.update_definition.specs.Accepted.{Accepted}
 use Rattle.update_laws.specs.Turns.{Stands, Looks, Turned}
 use Rattle.update_laws.specs.Turns.Looks.{passes, blocks}
 use Rattle.update_laws.specs.Bounds.{Bounds}

@@ -18,10 +18,10 @@ use Rattle.disp_structs.specs.declared.Metres.{Metres}
 use Rattle.disp_structs.specs.declared.DispNode.{DispNode}
 use Rattle.free_path.specs.Base.{ok, room, at, part, slice}
 use Rattle.free_path.specs.LinkOptType.{linksOnPath}
-use Rattle.train_update.specs.State.{withPath, withFrontBack}
-use Rattle.train_update.specs.Join.{removeLinks, insertLinks, withOffset, shiftOffsets, matchAt, Ends, moveEnds, newEnds, moveFrontBack, updateFreePathHelpers}
-use Rattle.train_update.specs.Accepted.{Each, Distinct, NodeAccepted, PathAccepted}
-use Rattle.train_update.specs.Fits.{NodeFits}
+use Rattle.update_definition.specs.State.{withPath, withFrontBack}
+use Rattle.update_definition.specs.Join.{removeLinks, insertLinks, withOffset, shiftOffsets, matchAt, Ends, moveEnds, newEnds, moveFrontBack, updateFreePathHelpers}
+use Rattle.update_definition.specs.Accepted.{Each, Distinct, NodeAccepted, PathAccepted}
+use Rattle.update_definition.specs.Fits.{NodeFits}
 use Rattle.est_times.proofs.Counting.{two}
 use Rattle.update_laws.proofs.Answers.{no-ok, ok-same, bind-ok, need-ok, cond-cases, slice-ok}
 use Rattle.update_laws.proofs.Lists.{at-below, walk-ok, each-drop}

@@ -13,10 +13,10 @@ use Rattle.disp_structs.specs.declared.DivergeNode.{DivergeNode}
 use Rattle.est_times.proofs.Counting.{two, count-bound}
 use Rattle.free_path.specs.Base.{ok, before}
 use Rattle.free_path.specs.LinkOptType.{least}
-use Rattle.train_update.specs.State.{Round, Search, Turn}
-use Rattle.train_update.specs.Look.{Here}
-use Rattle.train_update.specs.Moves.{alternateFree}
-use Rattle.train_update.specs.Accepted.{Accepted, Sorted}
+use Rattle.update_definition.specs.State.{Round, Search, Turn}
+use Rattle.update_definition.specs.Look.{Here}
+use Rattle.update_definition.specs.Moves.{alternateFree}
+use Rattle.update_definition.specs.Accepted.{Accepted, Sorted}
 use Rattle.update_laws.specs.Turns.{Stands, Looks, Did, After}
 use Rattle.update_laws.specs.Turns.Looks.{passes, blocks}
 use Rattle.update_laws.specs.Turns.Did.{pops, shortens, givesUp, alternates, changes, saves, empties, advances, joins}

@@ -14,10 +14,10 @@ use Rattle.disp_structs.specs.declared.DispNode.{DispNode}
 use Rattle.disp_structs.specs.declared.DivergeNode.{DivergeNode}
 use Rattle.free_path.specs.Base.{ok, at, walkFrom}
 use Rattle.free_path.specs.LinkOptType.{linksOnPath}
-use Rattle.train_update.specs.State.{Round, Search, ends, Ended}
-use Rattle.train_update.specs.Look.{Here}
-use Rattle.train_update.specs.Join.{Divs, join}
-use Rattle.train_update.specs.Accepted.{Each, Chain, Distinct, Accepted, NodeAccepted, Leads, EndsPath, PathAccepted, DivsAccepted}
+use Rattle.update_definition.specs.State.{Round, Search, ends, Ended}
+use Rattle.update_definition.specs.Look.{Here}
+use Rattle.update_definition.specs.Join.{Divs, join}
+use Rattle.update_definition.specs.Accepted.{Each, Chain, Distinct, Accepted, NodeAccepted, Leads, EndsPath, PathAccepted, DivsAccepted}
 use Rattle.update_laws.specs.Turns.{Stands}
 use Rattle.update_laws.specs.Good.{Good, stack, NewDivGood}
 use Rattle.update_laws.specs.Ended.{DivPoint, EndsGood}

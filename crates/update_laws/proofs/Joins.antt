@@ -10,10 +10,10 @@ use Rattle.disp_structs.specs.Train.{Train}
 use Rattle.disp_structs.specs.Values.{sameEst}
 use Rattle.disp_structs.specs.declared.DispNode.{DispNode}
 use Rattle.free_path.specs.Base.{Res, ok, _>>=_, _>>_, at, walkFrom}
-use Rattle.train_update.specs.State.{Round, Search, Turn, ends, Ended, again, withPath, withDivNodes, withFrontBack, withFixed}
-use Rattle.train_update.specs.Look.{Here}
-use Rattle.train_update.specs.Join.{updateFreePathHelpers, updateDivNodes, Divs, freeIsCorrect, offsetChange, spliceAt, join}
-use Rattle.train_update.specs.Accepted.{Accepted}
+use Rattle.update_definition.specs.State.{Round, Search, Turn, ends, Ended, again, withPath, withDivNodes, withFrontBack, withFixed}
+use Rattle.update_definition.specs.Look.{Here}
+use Rattle.update_definition.specs.Join.{updateFreePathHelpers, updateDivNodes, Divs, freeIsCorrect, offsetChange, spliceAt, join}
+use Rattle.update_definition.specs.Accepted.{Accepted}
 use Rattle.update_laws.specs.Good.{stack}
 use Rattle.update_laws.proofs.Answers.{ok-same, bind-ok, then-ok}
 use Rattle.update_laws.proofs.Lists.{at-below, walk-ok}

@@ -13,8 +13,8 @@ use Rattle.disp_structs.specs.declared.DispNode.{DispNode}
 use Rattle.est_times.proofs.Counting.{two, clash}
 use Rattle.free_path.specs.Base.{ok, need, any}
 use Rattle.free_path.specs.LinkOptType.{linksOnPath, contains}
-use Rattle.train_update.specs.Join.{without, removeLinks, insertLinks}
-use Rattle.train_update.specs.Accepted.{Distinct}
+use Rattle.update_definition.specs.Join.{without, removeLinks, insertLinks}
+use Rattle.update_definition.specs.Accepted.{Distinct}
 use Rattle.update_laws.proofs.Answers.{no-ok, ok-same, bind-ok}
 
 -- ---- the links of a path

@@ -7,7 +7,7 @@ use Prim.Native.Nat.{ℕ, zero, suc, _+_, _-_, _≤_, _<_}
 use native.Mathlib.Omega.{arith}
 use lib.ListN.{length, getD, take, drop, set}
 use Rattle.free_path.specs.Base.{ok, at, last, stepsTo, walkFrom, walkBack}
-use Rattle.train_update.specs.Accepted.{Each, Chain}
+use Rattle.update_definition.specs.Accepted.{Each, Chain}
 use Rattle.update_laws.proofs.Answers.{no-ok, ok-same, bind-ok, cond-cases}
 
 module _ {A : Type 0} where

@@ -15,10 +15,10 @@ use Rattle.disp_structs.specs.declared.DispNode.{DispNode}
 use Rattle.disp_structs.specs.declared.DivergeNode.{DivergeNode}
 use Rattle.est_times.proofs.Counting.{two}
 use Rattle.free_path.specs.Base.{ok, at, popped, walkBack}
-use Rattle.train_update.specs.State.{Round, Search, Turn, viewOf, diverging}
-use Rattle.train_update.specs.Look.{Here}
-use Rattle.train_update.specs.Moves.{alternateNode, savedNode, advanceNode, rewindDivs}
-use Rattle.train_update.specs.Accepted.{Each, Sorted}
+use Rattle.update_definition.specs.State.{Round, Search, Turn, viewOf, diverging}
+use Rattle.update_definition.specs.Look.{Here}
+use Rattle.update_definition.specs.Moves.{alternateNode, savedNode, advanceNode, rewindDivs}
+use Rattle.update_definition.specs.Accepted.{Each, Sorted}
 use Rattle.update_laws.specs.Turns.{SomeTrain, Stands, Looks, Rewound, Did, After}
 use Rattle.update_laws.specs.Turns.Looks.{passes, blocks}
 use Rattle.update_laws.specs.Turns.Did.{pops, shortens, givesUp, alternates, changes, saves, empties, advances, joins}

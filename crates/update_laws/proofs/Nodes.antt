@@ -9,10 +9,10 @@ use lib.ListN.{length}
 use Rattle.disp_structs.specs.declared.DispNode.{DispNode}
 use Rattle.est_times.proofs.Counting.{clash}
 use Rattle.free_path.specs.Base.{ok}
-use Rattle.train_update.specs.State.{Round, Search, Turn}
-use Rattle.train_update.specs.Look.{Here, current}
-use Rattle.train_update.specs.Moves.{alternateNode, savedNode, advanceNode}
-use Rattle.train_update.specs.Accepted.{Each, Accepted, EstAccepted, NodeAccepted}
+use Rattle.update_definition.specs.State.{Round, Search, Turn}
+use Rattle.update_definition.specs.Look.{Here, current}
+use Rattle.update_definition.specs.Moves.{alternateNode, savedNode, advanceNode}
+use Rattle.update_definition.specs.Accepted.{Each, Accepted, EstAccepted, NodeAccepted}
 use Rattle.update_laws.specs.Turns.{Stands, Looks, Did, After}
 use Rattle.update_laws.specs.Turns.Looks.{passes, blocks}
 use Rattle.update_laws.specs.Turns.Did.{pops, shortens, givesUp, alternates, changes, saves, empties, advances, joins}

@@ -14,10 +14,10 @@ use Rattle.disp_structs.specs.declared.DispNode.{DispNode}
 use Rattle.disp_structs.specs.declared.TrainIdxsView.{TrainIdxsView}
 use Rattle.est_times.proofs.Counting.{count, count-lt, clash}
 use Rattle.free_path.specs.Base.{ok, at, popped}
-use Rattle.train_update.specs.State.{Round, Search, Turn, blocked}
-use Rattle.train_update.specs.Look.{Here}
-use Rattle.train_update.specs.Moves.{alternateNode, savedNode, advanceNode}
-use Rattle.train_update.specs.Accepted.{Each, Accepted}
+use Rattle.update_definition.specs.State.{Round, Search, Turn, blocked}
+use Rattle.update_definition.specs.Look.{Here}
+use Rattle.update_definition.specs.Moves.{alternateNode, savedNode, advanceNode}
+use Rattle.update_definition.specs.Accepted.{Each, Accepted}
 use Rattle.update_laws.specs.Turns.{Stands, Looks, Did, After}
 use Rattle.update_laws.specs.Turns.Looks.{passes, blocks}
 use Rattle.update_laws.specs.Turns.Did.{pops, shortens, givesUp, alternates, changes, saves, empties, advances, joins}

@@ -18,7 +18,7 @@ use Rattle.free_path.specs.Base.{ok, at, last, popped, part, slice, any}
 use Rattle.free_path.specs.TrainIdxsView.{poolRoom, Pooled, poolPush, addOne, addFrom, closed, addBlockingTrains, addAllBlockingTrains, concatTrainIdxViews, covers, size}
 use Rattle.update_laws.specs.Turns.{SomeTrain}
 use Rattle.update_laws.specs.Good.{PoolGood, Blocking}
-use Rattle.train_update.specs.Accepted.{Each}
+use Rattle.update_definition.specs.Accepted.{Each}
 use Rattle.update_laws.proofs.Answers.{ok-same, bind-ok, need-ok, room-ok, cond-cases, slice-ok}
 use Rattle.update_laws.proofs.Lists.{at-below, at-drop, at-left, at-right, at-last, take-below, at-push, set-other, set-same}
 

@@ -19,11 +19,11 @@ use Rattle.disp_structs.specs.declared.TrainIdxsView.{TrainIdxsView}
 use Rattle.free_path.specs.Base.{Res, ok, at, before, last, walkFrom}
 use Rattle.free_path.specs.LinkOptType.{linksOnPath, contains, linkIdxPath, least, Sentinels, afterSentinel, calcIdxSentinels, isNone, findTrainIntersect}
 use Rattle.free_path.specs.declared.link_opt_type.LinkOptType.{LinkOptType}
-use Rattle.train_update.specs.State.{Round, Search, Turn, ends, Ended, atEnd}
-use Rattle.train_update.specs.Look.{Here}
-use Rattle.train_update.specs.Moves.{notFake}
-use Rattle.train_update.specs.Update.{searchStep, searchFrom, turnLimit, Given, apart, searchBegin, meeting, splitPoint, divPoint, savePoint, searchAt, roundAt, Begin, Entry, pathEnds, searches, beginAt, beginOf, begunSearch, endFrom, roundOf}
-use Rattle.train_update.specs.Accepted.{Chain, Accepted, DivsAccepted, Leads}
+use Rattle.update_definition.specs.State.{Round, Search, Turn, ends, Ended, atEnd}
+use Rattle.update_definition.specs.Look.{Here}
+use Rattle.update_definition.specs.Moves.{notFake}
+use Rattle.update_definition.specs.Update.{searchStep, searchFrom, turnLimit, Given, apart, searchBegin, meeting, splitPoint, divPoint, savePoint, searchAt, roundAt, Begin, Entry, pathEnds, searches, beginAt, beginOf, begunSearch, endFrom, roundOf}
+use Rattle.update_definition.specs.Accepted.{Chain, Accepted, DivsAccepted, Leads}
 use Rattle.est_times.proofs.Counting.{two}
 use Rattle.update_laws.specs.Turns.{SomeTrain, Stands, Did}
 use Rattle.update_laws.specs.Turns.Did.{pops, shortens, givesUp, alternates, changes, saves, empties, advances, joins}

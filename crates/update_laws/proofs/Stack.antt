@@ -12,10 +12,10 @@ use Rattle.disp_structs.specs.declared.DispNode.{DispNode}
 use Rattle.est_times.specs.Walks.{Step, Steps}
 use Rattle.est_times.proofs.CycleLaws.{rankOf, rank-rises, steps-below, steps-distinct, steps-few, push-room}
 use Rattle.free_path.specs.Base.{ok, at, last, popped}
-use Rattle.train_update.specs.State.{Round, Search, Turn}
-use Rattle.train_update.specs.Look.{Here, current}
-use Rattle.train_update.specs.Accepted.{Chain, EstsAccepted, Accepted, Leads, nexts, alts}
-use Rattle.train_update.specs.Moves.{alternateNode, savedNode, advanceNode}
+use Rattle.update_definition.specs.State.{Round, Search, Turn}
+use Rattle.update_definition.specs.Look.{Here, current}
+use Rattle.update_definition.specs.Accepted.{Chain, EstsAccepted, Accepted, Leads, nexts, alts}
+use Rattle.update_definition.specs.Moves.{alternateNode, savedNode, advanceNode}
 use Rattle.update_laws.specs.Turns.{Stands, Looks, Did, After}
 use Rattle.update_laws.specs.Turns.Looks.{passes, blocks}
 use Rattle.update_laws.specs.Turns.Did.{pops, shortens, givesUp, alternates, changes, saves, empties, advances, joins}

@@ -16,9 +16,9 @@ use Rattle.tally.specs.declared.Tally.{Tally}
 use Rattle.free_path.specs.Base.{Res, ok, no, need, at, count}
 use Rattle.free_path.specs.Validate.{known, isStray, strays, badStep, badSteps, badPath, inConflict, validateFreePath}
 use Rattle.free_path.specs.LinkOptType.{contains}
-use Rattle.train_update.specs.State.{Ended, atEnd, blockedAt, again}
-use Rattle.train_update.specs.Update.{Given, Status, Success, Blocked, Faulty, Refused, Answer, Updated, Between, between, refused, straysOf, faultsOf, finish, afterRound, due, roundsFrom, roundOf, givenOf, startOf, updateFrom, updateFreePath}
-use Rattle.train_update.specs.Accepted.{Accepted}
+use Rattle.update_definition.specs.State.{Ended, atEnd, blockedAt, again}
+use Rattle.update_definition.specs.Update.{Given, Status, Success, Blocked, Faulty, Refused, Answer, Updated, Between, between, refused, straysOf, faultsOf, finish, afterRound, due, roundsFrom, roundOf, givenOf, startOf, updateFrom, updateFreePath}
+use Rattle.update_definition.specs.Accepted.{Accepted}
 use Rattle.update_laws.specs.Ended.{EndsGood}
 use Rattle.update_laws.proofs.Answers.{ok-same, bind-ok, need-ok}
 use Rattle.update_laws.proofs.Rounds.{round-good}

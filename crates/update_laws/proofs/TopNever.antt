@@ -19,8 +19,8 @@ use Rattle.free_path.specs.Base.{ok, at, before, last, part, walkFrom, passes}
 use Rattle.free_path.specs.LinkOptType.{linksOnPath, contains, linkIdxPath, least, Sentinels, afterSentinel, calcIdxSentinels, stops, isNone, intersect, findTrainIntersect}
 use Rattle.free_path.specs.declared.link_opt_type.LinkOptType.{LinkOptType}
 use Rattle.free_path.specs.declared.link_opt_type.LinkOptType.the-variants.{None, Single, Range, Check}
-use Rattle.train_update.specs.Update.{Given, apart, searchBegin, meeting, splitPoint, divPoint}
-use Rattle.train_update.specs.Accepted.{DivsAccepted}
+use Rattle.update_definition.specs.Update.{Given, apart, searchBegin, meeting, splitPoint, divPoint}
+use Rattle.update_definition.specs.Accepted.{DivsAccepted}
 use Rattle.update_laws.specs.Tops.{SentinelsAt, Divided}
 use Rattle.update_laws.proofs.Answers.{ok-same}
 use Rattle.update_laws.proofs.Lists.{at-below, at-some, last-at, walk-ok, walk-before}

@@ -12,10 +12,10 @@ use Rattle.link_rules.specs.declared.link_idx.TrainIdx.{TrainIdx}
 use Rattle.disp_structs.specs.Train.{Train}
 use Rattle.disp_structs.specs.declared.DivergeNode.{DivergeNode}
 use Rattle.free_path.specs.Base.{ok, at, last}
-use Rattle.train_update.specs.State.{Round, Search, Turn, Ended, atEnd, blockedAt, again, withDivNodes, diverging}
-use Rattle.train_update.specs.Look.{Here}
-use Rattle.train_update.specs.Update.{searchFrom, turnLimit, Given, roundOf, adjustSentinel}
-use Rattle.train_update.specs.Accepted.{Accepted}
+use Rattle.update_definition.specs.State.{Round, Search, Turn, Ended, atEnd, blockedAt, again, withDivNodes, diverging}
+use Rattle.update_definition.specs.Look.{Here}
+use Rattle.update_definition.specs.Update.{searchFrom, turnLimit, Given, roundOf, adjustSentinel}
+use Rattle.update_definition.specs.Accepted.{Accepted}
 use Rattle.update_laws.specs.Turns.{Did}
 use Rattle.update_laws.specs.Turns.Did.{pops, shortens, givesUp, alternates, changes, saves, empties, advances, joins}
 use Rattle.update_laws.specs.Good.{Good}

@@ -7,9 +7,9 @@ use Rattle.est_times.proofs.Counting.{count-bound}
 use Rattle.est_times.proofs.Depth.{Move}
 use Rattle.est_times.proofs.Depth.Move.{push, pop, block}
 use Rattle.free_path.specs.Base.{Res, ok, no}
-use Rattle.train_update.specs.State.{Round, Search, Turn, goOn, ends}
-use Rattle.train_update.specs.Update.{searchStep, searchFrom, turnLimit}
-use Rattle.train_update.specs.Accepted.{Accepted}
+use Rattle.update_definition.specs.State.{Round, Search, Turn, goOn, ends}
+use Rattle.update_definition.specs.Update.{searchStep, searchFrom, turnLimit}
+use Rattle.update_definition.specs.Accepted.{Accepted}
 use Rattle.update_laws.specs.Good.{Good, openAt, opens, depth}
 use Rattle.update_laws.specs.Runs.{Goes, Answers}
 use Rattle.update_laws.specs.Runs.Goes.{stays, goes}

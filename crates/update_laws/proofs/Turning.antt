@@ -17,15 +17,15 @@ use Rattle.disp_structs.specs.declared.DivergeNode.{DivergeNode}
 use Rattle.free_path.specs.Base.{Res, ok, no, room, at, before, isEmpty, part, slice, walkFrom, walkBack}
 use Rattle.free_path.specs.LinkOptType.{least}
 use Rattle.free_path.specs.TrainIdxsView.{poolRoom}
-use Rattle.train_update.specs.State.{Round, Search, Turn, goOn, ends, Ended, setDivSplit, setSave, setFree, setNew, setDivsNew, setPool, setView, viewOf, blocked, pushTrains, pushNode, pushDivs, diverging}
+use Rattle.update_definition.specs.State.{Round, Search, Turn, goOn, ends, Ended, setDivSplit, setSave, setFree, setNew, setDivsNew, setPool, setView, viewOf, blocked, pushTrains, pushNode, pushDivs, diverging}
 use Rattle.free_path.specs.Validate.{onPath}
-use Rattle.train_update.specs.Look.{Here, current, lookFrom, lookHere, blockBy, Stored, storedFrom, blockStored, takeStored, storedTrains, meetsTrain, occupiedNext, moveOf, savedMatches, moveFrom}
-use Rattle.train_update.specs.Moves.{notFake, trainsOf, shiftSave, shifts, rewindView, rewindDivs, oneBack, rewind, alternate, alternateFree, alternateNode, changeDiverge, pushSaved, savedFree, savedNode, blockEmpty, advance, advanceNode}
-use Rattle.train_update.specs.Join.{join, spliceAt, offsetChange, freeIsCorrect, updateFreePathHelpers, updateDivNodes}
-use Rattle.train_update.specs.Update.{searchStep, doMove}
-use Rattle.train_update.specs.Accepted.{Each, DivsAccepted}
-use Rattle.train_update.specs.declared.Move.{Move}
-use Rattle.train_update.specs.declared.Move.the-variants.{Rewind, Alternate, ChangeDiverge, PushSaved, BlockEmpty, Advance, Join}
+use Rattle.update_definition.specs.Look.{Here, current, lookFrom, lookHere, blockBy, Stored, storedFrom, blockStored, takeStored, storedTrains, meetsTrain, occupiedNext, moveOf, savedMatches, moveFrom}
+use Rattle.update_definition.specs.Moves.{notFake, trainsOf, shiftSave, shifts, rewindView, rewindDivs, oneBack, rewind, alternate, alternateFree, alternateNode, changeDiverge, pushSaved, savedFree, savedNode, blockEmpty, advance, advanceNode}
+use Rattle.update_definition.specs.Join.{join, spliceAt, offsetChange, freeIsCorrect, updateFreePathHelpers, updateDivNodes}
+use Rattle.update_definition.specs.Update.{searchStep, doMove}
+use Rattle.update_definition.specs.Accepted.{Each, DivsAccepted}
+use Rattle.update_definition.specs.declared.Move.{Move}
+use Rattle.update_definition.specs.declared.Move.the-variants.{Rewind, Alternate, ChangeDiverge, PushSaved, BlockEmpty, Advance, Join}
 use Rattle.update_laws.specs.Turns.{SomeTrain, Met, Stands, Looks, Stuck, Rewound, rewound, Free, Did, Turned}
 use Rattle.update_laws.specs.Turns.Looks.{passes, blocks}
 use Rattle.update_laws.specs.Turns.Did.{pops, shortens, givesUp, alternates, changes, saves, empties, advances, joins}

@@ -17,12 +17,12 @@ use Rattle.disp_structs.specs.declared.DivergeNode.{DivergeNode}
 use Rattle.disp_structs.specs.declared.TrainIdxsView.{TrainIdxsView}
 use Rattle.est_times.proofs.Counting.{two, clash, same-or-not}
 use Rattle.free_path.specs.Base.{Res, ok, at, before, any, stepsTo, walkFrom, walkBack}
-use Rattle.train_update.specs.State.{Round, Search, blocked}
+use Rattle.update_definition.specs.State.{Round, Search, blocked}
 use Rattle.free_path.specs.Validate.{onPath}
-use Rattle.train_update.specs.Look.{Here, current, lookFrom, lookHere, Stored, storedFrom, moveFrom, freeMove, moveOf, savedMatches}
-use Rattle.train_update.specs.Moves.{rewindDivs, savedNode}
-use Rattle.train_update.specs.Accepted.{Accepted}
-use Rattle.train_update.specs.declared.Move.{Move}
+use Rattle.update_definition.specs.Look.{Here, current, lookFrom, lookHere, Stored, storedFrom, moveFrom, freeMove, moveOf, savedMatches}
+use Rattle.update_definition.specs.Moves.{rewindDivs, savedNode}
+use Rattle.update_definition.specs.Accepted.{Accepted}
+use Rattle.update_definition.specs.declared.Move.{Move}
 use Rattle.update_laws.specs.Turns.{Stands, Rewound}
 use Rattle.update_laws.specs.Good.{Good, stack}
 use Rattle.update_laws.specs.Asserts.{Asserts}

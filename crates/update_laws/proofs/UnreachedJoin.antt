@@ -12,9 +12,9 @@ use Rattle.disp_structs.specs.declared.DispNode.{DispNode}
 use Rattle.disp_structs.specs.declared.DivergeNode.{DivergeNode}
 use Rattle.free_path.specs.Base.{ok, at, part, slice, walkFrom}
 use Rattle.free_path.specs.LinkOptType.{linksOnPath, contains}
-use Rattle.train_update.specs.State.{Round, Search}
-use Rattle.train_update.specs.Join.{removeLinks, shiftDivs, updateDivNodes}
-use Rattle.train_update.specs.Accepted.{Each, Accepted, Distinct}
+use Rattle.update_definition.specs.State.{Round, Search}
+use Rattle.update_definition.specs.Join.{removeLinks, shiftDivs, updateDivNodes}
+use Rattle.update_definition.specs.Accepted.{Each, Accepted, Distinct}
 use Rattle.update_laws.specs.Good.{Good}
 use Rattle.update_laws.proofs.Lists.{at-below, at-some, at-drop, last-at, walk-ok}
 use Rattle.update_laws.proofs.NewDivs.{sorted-upto}

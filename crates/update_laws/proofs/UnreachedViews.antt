@@ -15,9 +15,9 @@ use Rattle.disp_structs.specs.declared.EstIdx.{EstIdx}
 use Rattle.disp_structs.specs.declared.TrainIdxsView.{TrainIdxsView}
 use Rattle.free_path.specs.Base.{Res, ok, no, _>>=_, _>>_, need, room, at, last, part, slice, any}
 use Rattle.free_path.specs.TrainIdxsView.{poolRoom, poolPush, addOne, addFrom, closed, addBlockingTrains, addAllBlockingTrains, concatTrainIdxViews, covers, size}
-use Rattle.train_update.specs.State.{Search, viewOf, blocked}
-use Rattle.train_update.specs.Look.{Here}
-use Rattle.train_update.specs.Moves.{trainsOf, rewindView}
+use Rattle.update_definition.specs.State.{Search, viewOf, blocked}
+use Rattle.update_definition.specs.Look.{Here}
+use Rattle.update_definition.specs.Moves.{trainsOf, rewindView}
 use Rattle.update_laws.specs.Turns.{Stuck}
 use Rattle.update_laws.specs.Good.{PoolGood, Blocking, ViewsGood}
 use Rattle.update_laws.proofs.Answers.{no-ok, ok-same, room-ok}

@@ -15,10 +15,10 @@ use Rattle.disp_structs.specs.declared.DivergeNode.{DivergeNode}
 use Rattle.tally.specs.Tally.{counted}
 use Rattle.tally.specs.declared.Tally.{Tally}
 use Rattle.free_path.specs.Base.{Res, ok, no, at}
-use Rattle.train_update.specs.State.{Ended, atEnd, blockedAt, again, withDivNodes}
-use Rattle.train_update.specs.Update.{Given, Updated, Between, between, refused, straysOf, faultsOf, finish, afterRound, due, roundsFrom, roundOf, adjustSentinel, givenOf, startOf, updateFrom, updateFreePath, turnLimit}
-use Rattle.train_update.specs.Accepted.{Each, Accepted, DivsAccepted}
-use Rattle.train_update.specs.Fits.{NodeFits, Fits}
+use Rattle.update_definition.specs.State.{Ended, atEnd, blockedAt, again, withDivNodes}
+use Rattle.update_definition.specs.Update.{Given, Updated, Between, between, refused, straysOf, faultsOf, finish, afterRound, due, roundsFrom, roundOf, adjustSentinel, givenOf, startOf, updateFrom, updateFreePath, turnLimit}
+use Rattle.update_definition.specs.Accepted.{Each, Accepted, DivsAccepted}
+use Rattle.update_definition.specs.Fits.{NodeFits, Fits}
 use Rattle.update_laws.specs.Ended.{SameTrip, StaysAccepted, EndsGood, Leaves}
 use Rattle.update_laws.specs.FitsGood.{TrainFits, DivFits, EndsFit}
 use Rattle.update_laws.proofs.Answers.{no-ok, ok-same}

@@ -13,8 +13,8 @@ use Rattle.disp_structs.specs.Values.{view, isBlocked, sameEst, noEst}
 use Rattle.disp_structs.specs.declared.TrainIdxsView.{TrainIdxsView}
 use Rattle.est_times.proofs.Counting.{two, clash, same-or-not}
 use Rattle.free_path.specs.TrainIdxsView.{Pooled}
-use Rattle.train_update.specs.State.{Round, Search, Turn, viewOf}
-use Rattle.train_update.specs.Look.{Here}
+use Rattle.update_definition.specs.State.{Round, Search, Turn, viewOf}
+use Rattle.update_definition.specs.Look.{Here}
 use Rattle.update_laws.specs.Turns.{Looks, Rewound, Did, After}
 use Rattle.update_laws.specs.Turns.Looks.{passes, blocks}
 use Rattle.update_laws.specs.Turns.Did.{pops, shortens, givesUp, alternates, changes, saves, empties, advances, joins}

@@ -6,7 +6,7 @@ use Rattle.disp_structs.specs.declared.EstTime.{EstTime}
 use Rattle.disp_structs.specs.declared.DispNode.{DispNode}
 use Rattle.disp_structs.specs.declared.DivergeNode.{DivergeNode}
 use Rattle.free_path.specs.Base.{ok, at, before}
-use Rattle.train_update.specs.State.{Round, Search, blocked}
+use Rattle.update_definition.specs.State.{Round, Search, blocked}
 use Rattle.update_laws.specs.Good.{stack, depth}
 
 -- the diverge node before div_idx_split stands below the one at it

@@ -1,7 +1,7 @@
 -- The numbers of a good search, as code that holds it in arrays has them. Assumes nothing.
 use Prim.Native.Nat.{_+_, _≤_, _<_}
 use lib.ListN.{length}
-use Rattle.train_update.specs.State.{Round, Search}
+use Rattle.update_definition.specs.State.{Round, Search}
 
 -- of a search s in a round r of an accepted train
 pub record Bounds (r : Round) (s : Search) : Type 0 where

@@ -6,9 +6,9 @@ use lib.ListN.{length}
 use Rattle.disp_structs.specs.Train.{Train}
 use Rattle.disp_structs.specs.declared.DivergeNode.{DivergeNode}
 use Rattle.free_path.specs.Base.{ok, at, before}
-use Rattle.train_update.specs.State.{Turn, goOn, ends, Ended, atEnd, blockedAt, again}
-use Rattle.train_update.specs.Update.{Status, Success, Blocked, Faulty, Refused}
-use Rattle.train_update.specs.Accepted.{Accepted}
+use Rattle.update_definition.specs.State.{Turn, goOn, ends, Ended, atEnd, blockedAt, again}
+use Rattle.update_definition.specs.Update.{Status, Success, Blocked, Faulty, Refused}
+use Rattle.update_definition.specs.Accepted.{Accepted}
 
 -- the diverge nodes before k stand at split or below it, those from k on above it
 pub record DivPoint (divs : List DivergeNode) (split k : ℕ) : Type 0 where

@@ -4,9 +4,9 @@ use Rattle.link_rules.specs.LinkIdx.{holder}
 use Rattle.link_rules.specs.declared.link_idx.LinkIdx.{LinkIdx}
 use Rattle.link_rules.specs.declared.link_idx.TrainIdx.{TrainIdx}
 use Rattle.disp_structs.specs.declared.DivergeNode.{DivergeNode}
-use Rattle.train_update.specs.State.{Round, Search, Ended, atEnd, blockedAt, again}
-use Rattle.train_update.specs.Accepted.{Each}
-use Rattle.train_update.specs.Fits.{NodeFits, Fits}
+use Rattle.update_definition.specs.State.{Round, Search, Ended, atEnd, blockedAt, again}
+use Rattle.update_definition.specs.Accepted.{Each}
+use Rattle.update_definition.specs.Fits.{NodeFits, Fits}
 
 -- a train, and the train of a diverge node, in their fields
 abbrev pub TrainFits : ℕ → TrainIdx → Type 0

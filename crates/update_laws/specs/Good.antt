@@ -16,8 +16,8 @@ use Rattle.est_times.proofs.Counting.{count}
 use Rattle.est_times.proofs.Depth.{leftOf}
 use Rattle.free_path.specs.Base.{ok, at, before}
 use Rattle.free_path.specs.TrainIdxsView.{poolRoom}
-use Rattle.train_update.specs.State.{Round, Search, blocked}
-use Rattle.train_update.specs.Accepted.{Each, Chain, Leads, NodeAccepted, Sorted}
+use Rattle.update_definition.specs.State.{Round, Search, blocked}
+use Rattle.update_definition.specs.Accepted.{Each, Chain, Leads, NodeAccepted, Sorted}
 use Rattle.update_laws.specs.Turns.{SomeTrain}
 
 -- ---- the stack

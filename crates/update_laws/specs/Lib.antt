@@ -6,3 +6,4 @@ pub mod FitsGood
 pub mod Bounds
 pub mod Asserts
 pub mod Tops
+pub mod Build

@@ -2,8 +2,8 @@
 use Prim.Native.Nat.{ℕ, suc}
 use mathlib.Core.Path.{_≡_}
 use Rattle.free_path.specs.Base.{Res, ok, no}
-use Rattle.train_update.specs.State.{Round, Search, goOn, ends, Ended}
-use Rattle.train_update.specs.Update.{searchStep}
+use Rattle.update_definition.specs.State.{Round, Search, goOn, ends, Ended}
+use Rattle.update_definition.specs.Update.{searchStep}
 
 -- n turns lead from one search to another
 pub data Goes (r : Round) : ℕ → Search → Search → Type 0 where

@@ -10,7 +10,7 @@ use Rattle.disp_structs.specs.Train.{Train}
 use Rattle.disp_structs.specs.declared.DivergeNode.{DivergeNode}
 use Rattle.free_path.specs.Base.{ok, at, before, last}
 use Rattle.free_path.specs.LinkOptType.{Sentinels}
-use Rattle.train_update.specs.Accepted.{Accepted}
+use Rattle.update_definition.specs.Accepted.{Accepted}
 
 -- split is not the first node, the diverge nodes divide there, and the last one has the moved train
 pub record RoundTop (links : ℕ) (moved : TrainIdx) (t : Train) (split k : ℕ) : Type 0 where

@@ -14,12 +14,12 @@ use Rattle.disp_structs.specs.declared.DivergeNode.{DivergeNode}
 use Rattle.free_path.specs.Base.{ok, at, before, popped}
 use Rattle.free_path.specs.LinkOptType.{least}
 use Rattle.free_path.specs.TrainIdxsView.{Pooled, poolRoom}
-use Rattle.train_update.specs.State.{Round, Search, Turn, goOn, ends, Ended, blockedAt, setSplit, setDivSplit, setSave, setFree, setNew, setDivsNew, setPool, setView, viewOf, blocked, diverging, withFree}
+use Rattle.update_definition.specs.State.{Round, Search, Turn, goOn, ends, Ended, blockedAt, setSplit, setDivSplit, setSave, setFree, setNew, setDivsNew, setPool, setView, viewOf, blocked, diverging, withFree}
 use Rattle.free_path.specs.Validate.{onPath}
-use Rattle.train_update.specs.Look.{Here, current, storedTrains}
-use Rattle.train_update.specs.Moves.{trainsOf, rewindView, rewindDivs, alternateFree, alternateNode, changeDiverge, savedFree, savedNode, advanceNode}
-use Rattle.train_update.specs.Join.{join}
-use Rattle.train_update.specs.Accepted.{Each}
+use Rattle.update_definition.specs.Look.{Here, current, storedTrains}
+use Rattle.update_definition.specs.Moves.{trainsOf, rewindView, rewindDivs, alternateFree, alternateNode, changeDiverge, savedFree, savedNode, advanceNode}
+use Rattle.update_definition.specs.Join.{join}
+use Rattle.update_definition.specs.Accepted.{Each}
 
 -- a train that is not 0
 abbrev pub SomeTrain : TrainIdx → Type 0

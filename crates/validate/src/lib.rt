@@ -1,5 +1,7 @@
 // The number of errors of validate_free_path (free_path.rs 748-820), over the bytes of an image.
 // Every function here is proved, the crate assumes nothing of its own, and no public function has a `requires`.
+pub mod step;
+
 ghost use mathlib.Core.Path.{_≡_};
 ghost use mathlib.Core.Bool.{cond};
 ghost use Prim.Native.Nat.{_+_, _<_, _^_};
@@ -17,7 +19,6 @@ use disp_structs::Metres;
 use disp_structs::Seconds;
 use disp_structs::floats;
 use free_path::columns;
-use free_path::validate;
 use image::codec;
 use link_rules::octets;
 
@@ -80,7 +81,7 @@ fn step_errors(img: &[u8], n: u32) -> Errors
             return Errors { code: 13, count: 0 };
         }
         let y = codec::est_at(img, b.est_idx.0);
-        k = more(k, validate::bad_step(a, b, x, y));
+        k = more(k, step::bad_step(a, b, x, y));
         a = b;
         x = y;
         i += 1;

@@ -14,8 +14,8 @@ use Rattle.link_rules.specs.Refusals.{noRefusal, refused}
 use Rattle.link_rules.specs.declared.refusal.Refusal.{Refusal}
 use Rattle.image_fault.proofs.ScanLaws.{both}
 use Rattle.image_fault.proofs.AcceptLaws.{or-else-clean}
-use Rattle.update_image.specs.UpdateImage.{UpdatedImage, callFault, updatedImage}
-use Rattle.update_image.proofs.UpdateLeaves.{Trains16, left-accepted}
+use Rattle.update_definition.specs.UpdateImage.{UpdatedImage, callFault, updatedImage}
+use Rattle.update_laws.proofs.UpdateLeaves.{Trains16, left-accepted}
 use Rattle.yard_check.specs.Yard.{slotCount, partBegin, partEnd, partOf, withPart, yardFits, yardFault}
 use Rattle.yard_check.specs.Check.{CheckArgs, rowSize, slotsFault, reportFault, checkFault, Row, unvisitedRow, refusedRow, finishedRow, movedRow, updatedRow, isErredRow, rowAt, isFinished, visit, visitBy, visited, slotVisit, slotRow, slotImage, yardAfter, howMany, firstNot, Refused, answerBy, answerOf, Checked, check, checkDone, checkedBy, checkedWith}
 use Rattle.yard_check.proofs.VisitLaws.{slot-keeps, slot-refused, images-fit, trains-stay, images-bytes}

@@ -13,12 +13,12 @@ use Rattle.link_rules.specs.Matching.{OccupanciesMatch}
 use Rattle.link_rules.proofs.OctetLaws.{Bytes}
 use Rattle.image_fault.specs.ImageFault.{imageFault}
 use Rattle.link_rules.specs.declared.refusal.Refusal.{Refusal}
-use Rattle.train_update.specs.Update.{Status, Success, Blocked, Faulty, Refused}
-use Rattle.update_image.specs.UpdateImage.{UpdatedImage, updatedImage}
-use Rattle.update_image.specs.UpdateMatch.{CallsMatch}
-use Rattle.update_image.proofs.UpdateLeaves.{Trains16}
-use Rattle.update_image.proofs.UpdateCounts.{image-counts}
-use Rattle.update_image.proofs.ImageRenumbering.{call-fault-match}
+use Rattle.update_definition.specs.Update.{Status, Success, Blocked, Faulty, Refused}
+use Rattle.update_definition.specs.UpdateImage.{UpdatedImage, updatedImage}
+use Rattle.update_definition.specs.UpdateMatch.{CallsMatch}
+use Rattle.update_laws.proofs.UpdateLeaves.{Trains16}
+use Rattle.update_laws.proofs.UpdateCounts.{image-counts}
+use Rattle.update_laws.proofs.ImageRenumbering.{call-fault-match}
 use Rattle.yard_check.specs.Yard.{slotCount, partOf, yardFits}
 use Rattle.yard_check.specs.Check.{CheckArgs, rowSize, slotsFault, reportFault, checkFault, Row, rowAt, statusRow, isBlockedRow, isErredRow, isFinished, Visit, visitBy, visited, slotVisit, slotRow, slotImage, yardAfter, reportAfter, howMany, answerBy, answerOf, Checked, checkDone, checkedBy, checkedWith}
 use Rattle.yard_check.specs.YardMatch.{YardsMatch, rRow, ReportsMatch, AnswersMatch, NotRefused, ArgsMatch}

@@ -22,11 +22,11 @@ use Rattle.link_rules.specs.declared.refusal.Refusal.{Refusal}
 use Rattle.image.specs.Image.{estCount, pathCount, divergeCount}
 use Rattle.image_fault.proofs.ScanLaws.{step-fit, step-unfit}
 use Rattle.free_path.specs.Base.{Res, ok, no, at}
-use Rattle.train_update.specs.Update.{Status, Success, Blocked, Faulty, Refused, Updated, givenOf, startOf, updateFrom, updateFreePath}
+use Rattle.update_definition.specs.Update.{Status, Success, Blocked, Faulty, Refused, Updated, givenOf, startOf, updateFrom, updateFreePath}
 use Rattle.update_laws.proofs.Tally.{StatusFew}
-use Rattle.update_image.specs.UpdateImage.{UpdatedImage, callFault, answerBy, refusedAnswer, linkIdxs, updateFault, updatedImage}
-use Rattle.update_image.proofs.UpdateCounts.{image-counts}
-use Rattle.update_call.proofs.RefusalLaws.{refused-number}
+use Rattle.update_definition.specs.UpdateImage.{UpdatedImage, callFault, answerBy, refusedAnswer, linkIdxs, updateFault, updatedImage}
+use Rattle.update_laws.proofs.UpdateCounts.{image-counts}
+use Rattle.update_laws.proofs.RefusalLaws.{refused-number}
 use Rattle.yard_check.specs.Check.{CheckArgs, refusedRow, updatedRow, isFinished, visit, visited}
 use Rattle.yard_check.specs.Checks.{staysRow, StatusFits, ColumnsFit}
 use Rattle.yard_check.proofs.CheckLaws.{visit-refused, visit-finished, visit-moved, visit-updated}

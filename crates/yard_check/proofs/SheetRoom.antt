@@ -16,7 +16,7 @@ use Rattle.link_rules.specs.Refusals.{noRefusal, refused, orElse}
 use Rattle.link_rules.specs.declared.refusal.Refusal.{Refusal}
 use Rattle.image_fault.proofs.ScanLaws.{both}
 use Rattle.image_fault.proofs.AcceptLaws.{accepted, fits-counts, clean-header}
-use Rattle.update_image.specs.UpdateImage.{linksBelow, callFault}
+use Rattle.update_definition.specs.UpdateImage.{linksBelow, callFault}
 use Rattle.yard_check.specs.Yard.{slotCount, partOf, yardFits, yardFault}
 use Rattle.yard_check.specs.Check.{CheckArgs, rowSize, slotsFault, reportFault, checkFault, Row, isFinishedRow, isBlockedRow, isErredRow, rowAt, slotRow, howMany, firstNot, answerBy, answerOf, Checked, checkDone, checkedBy, checkedWith}
 use Rattle.yard_check.specs.Sheet.{bundleFits, checkedBundle, occupancyCount, codeWord, refusedWord, refusedLine, firstLine, freeColumn, slotLine, slotLines, checkText, checkLines, sheetText}

@@ -14,15 +14,15 @@ use Rattle.free_path.specs.LinkOptType.{linksOnPath, contains, classWalk, linkO
 use Rattle.free_path.specs.TrainIdxsView.{poolPush, addOne, addFrom, closed, addBlockingTrains, addAllBlockingTrains, concatTrainIdxViews}
 use Rattle.free_path.specs.SearchLimit.{maximumNumber}
 use Rattle.free_path.specs.Validate.{isStray, strays, stepsNext, stepsAlt, badStep, onPath, badSteps, inConflict, validateFreePath}
-use Rattle.train_update.specs.State.{pushTrains, pushNode, pushDivs, diverging}
-use Rattle.train_update.specs.Look.{lookFrom, blockBy, storedFrom, blockStored, takeStored, storedTrains, occupiedNext, moveOf}
-use Rattle.train_update.specs.Moves.{shiftSave, rewindDivs, oneBack, rewind, alternate, changeDiverge, pushSaved, blockEmpty, advance}
-use Rattle.train_update.specs.Join.{without, removeLinks, insertLinks, shiftOffsets, moveEnds, newEnds, updateFreePathHelpers, shiftDivs, updateDivNodes, freeIsCorrect, spliceAt, join}
-use Rattle.train_update.specs.Update.{searchStep, searchFrom, meeting, splitPoint, beginAt, beginOf, roundOf, finish, afterRound, roundsFrom, adjustSentinel, updateFreePath}
+use Rattle.update_definition.specs.State.{pushTrains, pushNode, pushDivs, diverging}
+use Rattle.update_definition.specs.Look.{lookFrom, blockBy, storedFrom, blockStored, takeStored, storedTrains, occupiedNext, moveOf}
+use Rattle.update_definition.specs.Moves.{shiftSave, rewindDivs, oneBack, rewind, alternate, changeDiverge, pushSaved, blockEmpty, advance}
+use Rattle.update_definition.specs.Join.{without, removeLinks, insertLinks, shiftOffsets, moveEnds, newEnds, updateFreePathHelpers, shiftDivs, updateDivNodes, freeIsCorrect, spliceAt, join}
+use Rattle.update_definition.specs.Update.{searchStep, searchFrom, meeting, splitPoint, beginAt, beginOf, roundOf, finish, afterRound, roundsFrom, adjustSentinel, updateFreePath}
 use Rattle.image.specs.Image.{typeOf, pathHeader, estFrom, nodeFrom, divergeFrom, putNode, putDiverge, zeroWords, putPathHeader}
 use Rattle.image.specs.Codec.{decoded, putEach, putRecords, storedInto}
 use Rattle.image_fault.specs.ImageFault.{firstUnfit, countsFit, partsFit, trainFits, estTypeFits, nodeTypeFits, zeroWord, unusedZero, recordsFit, imageFits, floatFits, timeFits, distFits, eventFits, estLinksFit, estFits, nodeFits, indicesFit, headerFits, valueFault, cycleFault, stepsTo as steps, comesFrom, endsAt, arrivesOn, arrived, firstArrival, onRoute, innerFits, divergeFits, routeFault, imageFault}
-use Rattle.update_image.specs.UpdateImage.{linksBelow, callFault, updateFault, updatedImage}
+use Rattle.update_definition.specs.UpdateImage.{linksBelow, callFault, updateFault, updatedImage}
 use Rattle.yard_check.specs.Yard.{partEnd, partOf, withPart, partFits, yardFits}
 use Rattle.yard_check.specs.Check.{slotsFault, reportFault, checkFault, putRow, isFinished, visited, slotVisit, yardAfter, reportAfter, howMany, firstNot, answerOf, checkedWith}
 

@@ -12,7 +12,7 @@ use borrow.Rule.Slice.PartMut.{post-is}
 use borrow.Author.Tests.{le-ltb}
 use Rattle.image.proofs.Writers.{side}
 use Rattle.link_rules.specs.declared.refusal.Refusal.{Refusal}
-use Rattle.update_call.proofs.CallLaws.{call-links}
+use Rattle.update_free_path.proofs.FaultLaws.{call-links}
 use Rattle.yard_check.specs.Yard.{slotCount, partFrom, partUntil, partOf, withPart}
 use Rattle.yard_check.specs.Check.{CheckArgs, rowSize, checkFault, Row, unvisitedRow, isFinishedRow, isBlockedRow, isErredRow, putRow, Visit, visit, visited, slotVisit, slotRow, slotImage, yardAfter, reportAfter, howMany, firstNot, Refused, Erred, answerBy, answerOf, check, checkDone, checkedBy, checkedWith}
 use Rattle.yard_check.specs.Checks.{rowOf, talliedOf, tallyAfter, NextTurn, Visits, SlotVisited, AllVisited}

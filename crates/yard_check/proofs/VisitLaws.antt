@@ -16,9 +16,9 @@ use Rattle.image.proofs.Writers.{zero-writes, each-writes, le-outside}
 use Rattle.image.proofs.RecordLaws.{node-writes, diverge-writes}
 use Rattle.image.proofs.Parts.{putPath, clearPath, putDiverges, putCounts, counts-writes, indices-writes}
 use Rattle.image_fault.specs.ImageFault.{imageFault}
-use Rattle.train_update.specs.Update.{Status, Success, Blocked, Faulty, Refused, Updated}
-use Rattle.update_image.specs.UpdateImage.{UpdatedImage, leftImage, answerBy, updateFault, updatedImage}
-use Rattle.update_image.proofs.UpdateLeaves.{length-kept, bytes-kept, refused-leaves}
+use Rattle.update_definition.specs.Update.{Status, Success, Blocked, Faulty, Refused, Updated}
+use Rattle.update_definition.specs.UpdateImage.{UpdatedImage, leftImage, answerBy, updateFault, updatedImage}
+use Rattle.update_laws.proofs.UpdateLeaves.{length-kept, bytes-kept, refused-leaves}
 use Rattle.yard_check.specs.Yard.{slotCount, partOf}
 use Rattle.yard_check.specs.Check.{CheckArgs, Row, unvisitedRow, finishedRow, movedRow, refusedRow, statusRow, updatedRow, visit, visitBy, visited, isFinished, slotVisit, slotRow, slotImage}
 use Rattle.yard_check.proofs.YardLaws.{Fits, ImagesFit, TrainsStay, part-bytes}

@@ -15,11 +15,11 @@ use Rattle.image.proofs.MatchLaws.{path-count, header-high}
 use Rattle.image_fault.specs.ImageFault.{imageFault}
 use Rattle.link_rules.specs.declared.refusal.Refusal.{Refusal}
 use Rattle.image_fault.proofs.MatchLaws.{image-fault-match}
-use Rattle.train_update.specs.Update.{Status, Success, Blocked, Faulty, Refused}
-use Rattle.update_image.specs.UpdateImage.{UpdatedImage, updatedImage}
-use Rattle.update_image.specs.UpdateMatch.{CallsMatch, UpdatesMatch}
-use Rattle.update_image.proofs.UpdateLeaves.{Trains16}
-use Rattle.update_image.proofs.ImageRenumbering.{update-match}
+use Rattle.update_definition.specs.Update.{Status, Success, Blocked, Faulty, Refused}
+use Rattle.update_definition.specs.UpdateImage.{UpdatedImage, updatedImage}
+use Rattle.update_definition.specs.UpdateMatch.{CallsMatch, UpdatesMatch}
+use Rattle.update_laws.proofs.UpdateLeaves.{Trains16}
+use Rattle.update_laws.proofs.ImageRenumbering.{update-match}
 use Rattle.yard_check.specs.Yard.{partOf}
 use Rattle.yard_check.specs.Check.{CheckArgs, Row, unvisitedRow, statusRow, isFinished, Visit, visit, visitBy, visited, slotVisit}
 use Rattle.yard_check.specs.YardMatch.{rRow, ArgsMatch}

@@ -10,8 +10,8 @@ use Rattle.image_reader.specs.Reader.{freeOf}
 use Rattle.image_fault.specs.ImageFault.{imageFault}
 use Rattle.link_rules.specs.Refusals.{noRefusal, refused, orElse}
 use Rattle.link_rules.specs.declared.refusal.Refusal.{Refusal}
-use Rattle.train_update.specs.Update.{Answer as UpdateAnswer, Status, Success, Blocked, Faulty, Refused as UpdateRefused}
-use Rattle.update_image.specs.UpdateImage.{UpdatedImage, callFault, updatedImage}
+use Rattle.update_definition.specs.Update.{Answer as UpdateAnswer, Status, Success, Blocked, Faulty, Refused as UpdateRefused}
+use Rattle.update_definition.specs.UpdateImage.{UpdatedImage, callFault, updatedImage}
 use Rattle.yard_check.specs.Yard.{slotCount, partOf, withPart, yardFault}
 
 -- what a check is given beside the yard, the occupancy and the report

@@ -4,8 +4,8 @@ use mathlib.Core.Path.{_≡_}
 use mathlib.Core.Bool.{cond, true, _&&_}
 use mathlib.Core.List.{List}
 use lib.Dec.{eqb}
-use Rattle.train_update.specs.Update as Update
-use Rattle.update_image.specs.UpdateImage.{callFault}
+use Rattle.update_definition.specs.Update as Update
+use Rattle.update_definition.specs.UpdateImage.{callFault}
 use Rattle.yard_check.specs.Yard.{slotCount, withPart, yardFits}
 use Rattle.yard_check.specs.Check.{CheckArgs, Row, plainRow, refusedRow, isFinishedRow, isBlockedRow, isErredRow, slotRow, slotImage, yardAfter, reportAfter, howMany, firstNot, Answer, Refused, Erred, Done, Checked, check}
 use Rattle.yard_check.specs.declared.check.Answer as Code

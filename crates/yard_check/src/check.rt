@@ -9,10 +9,10 @@ use link_rules::link_idx::NarrowTrainIdx;
 use link_rules::link_idx::TrainIdx;
 use link_rules::octets;
 use link_rules::refusal::Refusal;
-use update_call;
 use update_free_path;
 use update_free_path::answer::Status;
 use update_free_path::answer::Updated;
+use update_free_path::call;
 ghost use mathlib.Core.Path.{_≡_};
 ghost use mathlib.Core.Bool.{cond, not, _&&_};
 ghost use mathlib.Core.List.{List, []};
@@ -21,7 +21,7 @@ ghost use lib.Dec.{eqb};
 ghost use lib.ListN.{length};
 ghost use Rattle.image_fault.specs.ImageFault.{imageFault};
 ghost use Rattle.link_rules.specs.Refusals.{orElse};
-ghost use Rattle.update_image.specs.UpdateImage.{callFault};
+ghost use Rattle.update_definition.specs.UpdateImage.{callFault};
 ghost use Rattle.update_free_path.specs.Updates as Updates;
 ghost use Rattle.yard_check.specs.Check as Check;
 ghost use Rattle.yard_check.specs.Checks.{argsOf, rowOf, answeredOf, checkedOf, staysRow, ColumnsFit, talliedOf, tallyAfter, NextTurn, Visits, SlotVisited, AllVisited};
@@ -91,7 +91,7 @@ fn slots_fault(slots: u32, a: Args, long: usize) -> Refusal
 fn check_fault(yard: &[u8], l: usize, blocking: &[u32], a: Args, long: usize) -> Refusal
     ensures { λ r. ⌜ ((occ : List ℕ) → length occ ≡ l → r ≡ Check.checkFault (now (yard .entry)) occ (argsOf (now (blocking .entry)) a) long) ⌝ }
 {
-    let f = update_call::call_fault(l, blocking, a.moved, a.limit);
+    let f = call::call_fault(l, blocking, a.moved, a.limit);
     if f.number != 0 {
         return f;
     }

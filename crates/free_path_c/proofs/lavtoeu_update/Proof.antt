@@ -1,7 +1,7 @@
 use mathlib.Core.Path.{_∙_, ap}
 use mathlib.Core.Bool.{Bool}
 use denote.Ref.{now}
-use Rattle.update_image.specs.UpdateImage.{UpdatedImage, updatedImage}
+use Rattle.update_definition.specs.UpdateImage.{UpdatedImage, updatedImage}
 use Rattle.free_path_c.specs.Words.{statusWord, updateWords}
 use borrow.Author.Needs.{needs}
 use Rattle.free_path_c.proofs.lavtoeu_update.Statement.{statement}

@@ -3,8 +3,8 @@ use mathlib.Core.List.{List}
 use Prim.Native.Nat.{ℕ}
 use denote.Ref.{now}
 use Rattle.image.specs.Codec.{decoded}
-use Rattle.train_update.specs.Update.{Updated}
-use Rattle.update_image.specs.UpdateImage.{storedAnswer}
+use Rattle.update_definition.specs.Update.{Updated}
+use Rattle.update_definition.specs.UpdateImage.{storedAnswer}
 use Rattle.update_free_path.specs.Updates.{Begins, Space, updateOf}
 use Rattle.update_free_path.proofs.CallLaws.{kept-sizes}
 use borrow.Author.Needs.{needs}

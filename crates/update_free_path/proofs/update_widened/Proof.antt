@@ -2,7 +2,7 @@ use mathlib.Core.Path.{sym, ap, subst, _∙_}
 use mathlib.Core.List.{List}
 use Prim.Native.Nat.{ℕ}
 use denote.Ref.{now}
-use Rattle.update_image.specs.UpdateImage.{storedAnswer}
+use Rattle.update_definition.specs.UpdateImage.{storedAnswer}
 use Rattle.update_free_path.specs.Updates.{Begins, updateOf}
 use borrow.Author.Needs.{needs}
 use Rattle.update_free_path.proofs.update_widened.Statement.{statement}

@@ -3,7 +3,7 @@ use Rattle.round.specs.declared.RoundEnd.{RoundEnd}
 use mathlib.Core.Path.{refl, sym, ap, _∙_}
 use mathlib.Core.Bool.{true}
 use Rattle.est_times.proofs.Counting.{clash}
-use Rattle.search_moves.specs.Effects.{onward}
+use Rattle.search.specs.Effects.{onward}
 use Rattle.round.proofs.EndLaws.{ends-blocked}
 use borrow.Author.Needs.{needs}
 use Rattle.round.proofs.ending.by_effect.Statement.{statement}

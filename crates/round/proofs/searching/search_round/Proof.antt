@@ -9,19 +9,19 @@ use borrow.Author.Needs.{needs}
 use borrow.Author.Tests.{not-true, not-false}
 use Rattle.disp_structs.specs.Listed.{listed}
 use Rattle.image.specs.Image.{estCount, divergeRoom, nodeAt}
-use Rattle.train_update.specs.State as State
-use Rattle.train_update.specs.Join as Joined
-use Rattle.train_update.specs.Moves.{changeDiverge}
-use Rattle.train_update.specs.Update.{searchFrom, turnLimit}
+use Rattle.update_definition.specs.State as State
+use Rattle.update_definition.specs.Join as Joined
+use Rattle.update_definition.specs.Moves.{changeDiverge}
+use Rattle.update_definition.specs.Update.{searchFrom, turnLimit}
 use Rattle.free_path.specs.Base.{Res}
 use Rattle.update_laws.specs.Good.{Good}
 use Rattle.update_laws.specs.Turns as Turns
 use Rattle.search.specs.Read.{divsOf, roundOf, hereOf, searchIn, viewsOf, Arrays, arrays}
 use Rattle.search.specs.declared.Place.{Place}
 use Rattle.search.specs.declared.look.Here.{Here}
-use Rattle.search_moves.specs.Effects.{leaves, effectOf, turnOf}
-use Rattle.search_moves.proofs.TurnLaws.{turn-done}
-use Rattle.search_loop.specs.Runs.{endOf, Ran}
+use Rattle.search.specs.Effects.{leaves, effectOf, turnOf}
+use Rattle.search.proofs.TurnLaws.{turn-done}
+use Rattle.search.specs.Runs.{endOf, Ran}
 use Rattle.splice.specs.Read.{trainOf, Stands, Joins, Changes}
 use Rattle.splice.proofs.NodeLaws.{kept-count}
 use Rattle.round.specs.Rounds.{Room}
@@ -37,8 +37,8 @@ use Rattle.round.proofs.ending.changed.Reads as changed-reads
 use Rattle.round.proofs.ending.is_join.Reads as is-join-reads
 use Rattle.round.proofs.ending.joined.Reads as joined-reads
 use Rattle.round.proofs.ending.reached.Reads as reached-reads
-use Rattle.search_loop.proofs.run.Reads as run-reads
-use Rattle.search_moves.proofs.turn.is_left.Reads as is-left-reads
+use Rattle.search.proofs.run.run.Reads as run-reads
+use Rattle.search.proofs.turn.is_left.Reads as is-left-reads
 
 -- ---- after the search
 

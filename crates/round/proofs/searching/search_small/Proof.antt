@@ -3,9 +3,9 @@ use mathlib.Core.Path.{refl, sym, subst}
 use Prim.Native.Nat.{ℕ}
 use native.Mathlib.Omega.{arith}
 use lib.ListN.{length, length-replicate}
-use Rattle.train_update.specs.State as State
+use Rattle.update_definition.specs.State as State
 use Rattle.search.specs.Read.{roundOf}
-use Rattle.search_loop.specs.Runs.{Begins}
+use Rattle.search.specs.Runs.{Begins}
 use Rattle.splice.specs.Read.{trainOf}
 use Rattle.round.proofs.StartLaws.{zeroed-same}
 use borrow.Author.Needs.{needs}

@@ -3,7 +3,7 @@ use mathlib.Core.Path.{_≡_, refl, sym, ap, _∙_}
 use Prim.Native.Nat.{ℕ}
 use Rattle.free_path.specs.Base.{ok}
 use Rattle.free_path.specs.Columns.{answer}
-use Rattle.train_update.specs.Update.{savePoint}
+use Rattle.update_definition.specs.Update.{savePoint}
 use Rattle.search.specs.Read.{divsOf, pathOf}
 use Rattle.round_start.specs.Start.{dividedAt}
 use Rattle.round.specs.Rounds.{isAtEnd}

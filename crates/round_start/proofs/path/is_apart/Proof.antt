@@ -2,7 +2,7 @@ use mathlib.Core.Path.{sym, ap, _∙_}
 use denote.Ref.{now}
 use mathlib.Core.Bool.{not}
 use Rattle.free_path.specs.LinkOptType.{linksOnPath, contains}
-use Rattle.train_update.specs.Update.{apart}
+use Rattle.update_definition.specs.Update.{apart}
 use Rattle.search.specs.Read.{pathOf}
 use borrow.Author.Needs.{needs}
 use Rattle.round_start.proofs.path.is_apart.Statement.{statement}

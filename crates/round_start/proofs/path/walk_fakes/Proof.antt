@@ -8,7 +8,7 @@ use Rattle.disp_structs.specs.declared.LinkEvent.{LinkEvent}
 use Rattle.image.specs.Image.{nodeAt}
 use Rattle.free_path.specs.Base.{walkFrom}
 use Rattle.splice.proofs.ListLaws.{walk-hit, walk-miss, walk-none}
-use Rattle.train_update.specs.Moves.{notFake}
+use Rattle.update_definition.specs.Moves.{notFake}
 use Rattle.search.specs.Read.{pathOf}
 use borrow.Author.Needs.{needs}
 use Rattle.round_start.proofs.path.walk_fakes.Statement.{statement}

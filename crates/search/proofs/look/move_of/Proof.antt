@@ -5,8 +5,8 @@ use Rattle.disp_structs.specs.Values.{sameEst, noEst, sameEvent}
 use Rattle.disp_structs.specs.declared.LinkEvent.{LinkEvent}
 use Rattle.image.specs.Image.{nodeAt}
 use Rattle.free_path.proofs.ColumnLaws.{listed-read, listed-out}
-use Rattle.train_update.specs.State.{blocked}
-use Rattle.train_update.specs.Look.{blockedMove}
+use Rattle.update_definition.specs.State.{blocked}
+use Rattle.update_definition.specs.Look.{blockedMove}
 use Rattle.search.specs.Read.{roundOf, hereOf, searchOf, viewsOf}
 use Rattle.search.proofs.ChoiceLaws as L
 use borrow.Author.Needs.{needs}

@@ -2,7 +2,7 @@ use denote.Ref.{now}
 use mathlib.Core.Path.{_≡_, _∙_}
 use Prim.Native.Nat.{_≤_}
 use native.Mathlib.Omega.{arith}
-use Rattle.train_update.specs.Look.{storedFrom}
+use Rattle.update_definition.specs.Look.{storedFrom}
 use Rattle.search.specs.Read.{divsOf}
 use Rattle.search.proofs.StoredLaws.{withMet, met-none, walk-end, walk-stop, walk-turn}
 use borrow.Author.Needs.{needs}

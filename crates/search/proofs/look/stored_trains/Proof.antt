@@ -3,7 +3,7 @@ use mathlib.Core.Path.{refl, ap, _∙_}
 use Rattle.free_path.specs.Base.{_>>=_, Res}
 use Rattle.free_path.specs.Columns.{trains}
 use lib.ListN.{take}
-use Rattle.train_update.specs.State as State
+use Rattle.update_definition.specs.State as State
 use Rattle.search.specs.Read.{roundOf, hereOf, searchIn, arrays, viewsOf, divsOf, settle}
 use Rattle.search.proofs.StoredLaws as L
 use borrow.Author.Needs.{needs}

@@ -6,7 +6,7 @@ use lib.ListN.{take, drop}
 use Rattle.disp_structs.specs.Listed.{listed}
 use Rattle.disp_structs.specs.declared.DivergeNode.{DivergeNode}
 use Rattle.free_path.specs.Columns.{answer, divAt}
-use Rattle.train_update.specs.State.{ends, again}
+use Rattle.update_definition.specs.State.{ends, again}
 use Rattle.splice.specs.Read.{trainOf}
 use Rattle.splice.specs.declared.Again.{Again}
 use Rattle.splice.proofs.JoinLaws.{told}

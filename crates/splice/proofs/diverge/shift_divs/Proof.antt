@@ -6,7 +6,7 @@ use lib.ListN.{length, getD}
 use lib.Seq.{getD-set-other}
 use Rattle.free_path.specs.Columns.{divAt}
 use Rattle.disp_structs.specs.Listed.{listed}
-use Rattle.train_update.specs.Join.{shiftDivs}
+use Rattle.update_definition.specs.Join.{shiftDivs}
 use Rattle.splice.specs.Parts.{fromOn}
 use Rattle.splice.proofs.DivLaws.{shift-end, shift-no, shift-turn}
 use borrow.Author.Needs.{needs}

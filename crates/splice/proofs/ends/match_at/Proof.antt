@@ -4,7 +4,7 @@ use denote.Ref.{now}
 use Rattle.disp_structs.specs.declared.LinkEvent.{LinkEvent}
 use Rattle.image.specs.Image.{nodeAt}
 use Rattle.disp_structs.specs.Listed.{listed}
-use Rattle.train_update.specs.Join.{matchNew}
+use Rattle.update_definition.specs.Join.{matchNew}
 use Rattle.splice.proofs.ListLaws.{read-in, read-out}
 use borrow.Author.Needs.{needs}
 use Rattle.splice.proofs.ends.match_at.Statement.{statement}

@@ -6,7 +6,7 @@ use Rattle.disp_structs.specs.Values.{sameEvent}
 use Rattle.disp_structs.specs.declared.LinkEvent.{LinkEvent}
 use Rattle.image.specs.Image.{nodeAt}
 use Rattle.disp_structs.specs.Listed.{listed}
-use Rattle.train_update.specs.Join.{matchNew}
+use Rattle.update_definition.specs.Join.{matchNew}
 use Rattle.splice.proofs.ListLaws.{walk-hit, walk-miss, walk-none}
 use borrow.Author.Needs.{needs}
 use Rattle.splice.proofs.ends.match_new.Statement.{statement}

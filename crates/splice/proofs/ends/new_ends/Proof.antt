@@ -1,6 +1,6 @@
 use native.Mathlib.Omega.{arith}
 use borrow.Author.Tests.{lt-ltb, le-ltb, le-leb, lt-leb}
-use Rattle.train_update.specs.Join.{newEnds}
+use Rattle.update_definition.specs.Join.{newEnds}
 use borrow.Author.Needs.{needs}
 use Rattle.splice.proofs.ends.new_ends.Statement.{statement}
 use Rattle.splice.proofs.ends.new_ends.Tie as tie

@@ -4,7 +4,7 @@ use native.Mathlib.Omega.{arith}
 use denote.Ref.{now}
 use Rattle.free_path.specs.Columns.{divAt}
 use Rattle.disp_structs.specs.Listed.{listed}
-use Rattle.train_update.specs.Join.{updateDivNodes}
+use Rattle.update_definition.specs.Join.{updateDivNodes}
 use Rattle.splice.specs.Parts.{DivsFit}
 use borrow.Author.Needs.{needs}
 use Rattle.splice.proofs.join.divs_at.Statement.{statement}

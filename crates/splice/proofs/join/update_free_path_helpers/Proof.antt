@@ -1,7 +1,7 @@
-use Rattle.train_update.specs.State.{withFrontBack}
+use Rattle.update_definition.specs.State.{withFrontBack}
 use mathlib.Core.Path.{refl}
 use denote.Ref.{now}
-use Rattle.train_update.specs.State.{withPath}
+use Rattle.update_definition.specs.State.{withPath}
 use Rattle.image.specs.Image.{nodeAt}
 use Rattle.disp_structs.specs.Listed.{listed}
 use Rattle.splice.proofs.JoinLaws.{helped-links, helped-offsets, helped-sides}

@@ -9,7 +9,7 @@ use Rattle.disp_structs.specs.Floats.{inReach}
 use Rattle.disp_structs.specs.declared.DispNode.{DispNode}
 use Rattle.image.specs.Image.{nodeAt}
 use Rattle.disp_structs.specs.Listed.{listed}
-use Rattle.train_update.specs.Join.{shiftOffsets}
+use Rattle.update_definition.specs.Join.{shiftOffsets}
 use Rattle.splice.specs.Read.{Kept}
 use Rattle.splice.specs.Parts.{fromOn, putOffset}
 use Rattle.splice.proofs.NodeLaws.{kept-count, kept-then, kept-eq, offset-kept, offsets-end, offsets-no, offsets-turn}

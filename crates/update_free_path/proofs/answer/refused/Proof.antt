@@ -1,6 +1,6 @@
 use mathlib.Core.Path.{ap₂}
 use Rattle.tally.specs.declared.Tally.{Tally}
-use Rattle.train_update.specs.Update.{Status, answerOf}
+use Rattle.update_definition.specs.Update.{Status, answerOf}
 use borrow.Author.Needs.{needs}
 use Rattle.update_free_path.proofs.answer.refused.Statement.{statement}
 use Rattle.update_free_path.proofs.answer.refused.Tie as tie

@@ -1,5 +1,5 @@
 use mathlib.Core.Path.{ap, _∙_}
-use Rattle.train_update.specs.Update.{adjustSentinel}
+use Rattle.update_definition.specs.Update.{adjustSentinel}
 use borrow.Author.Needs.{needs}
 use Rattle.update_free_path.proofs.start.start_diverges.Statement.{statement}
 use Rattle.update_free_path.proofs.start.start_diverges.Tie as tie

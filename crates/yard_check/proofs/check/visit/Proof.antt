@@ -1,8 +1,8 @@
 use mathlib.Core.Path.{sym, ap, subst, _∙_}
 use native.Mathlib.Omega.{arith}
 use denote.Ref.{now}
-use Rattle.update_image.specs.UpdateImage.{UpdatedImage}
-use Rattle.update_call.proofs.CallLaws.{call-links}
+use Rattle.update_definition.specs.UpdateImage.{UpdatedImage}
+use Rattle.update_free_path.proofs.FaultLaws.{call-links}
 use Rattle.yard_check.specs.Check as Check
 use Rattle.yard_check.specs.Checks.{argsOf, ColumnsFit}
 use Rattle.yard_check.proofs.RowLaws.{columns-fit, finished-stays, moved-stays, updated-at-once}

@@ -1,0 +1,181 @@
+// One turn of the search of update_free_path (free_path.rs 345-575), up to ChangeDiverge and Join.
+use crate::Effect;
+use crate::Moved;
+use crate::Place;
+use crate::Round;
+use crate::look;
+use crate::look::Here;
+use crate::moves;
+use crate::rewind;
+use disp_structs::DispNode;
+use update_definition::Move;
+ghost use mathlib.Core.Path.{_≡_};
+ghost use mathlib.Core.Bool.{true, false};
+ghost use mathlib.Core.List.{List};
+ghost use Prim.Native.Nat.{ℕ, _+_, _≤_};
+ghost use lib.ListN.{length};
+ghost use Rattle.disp_structs.specs.Train.{Train};
+ghost use Rattle.disp_structs.specs.declared.DispNode.{DispNode};
+ghost use Rattle.image.specs.Image.{estPlace};
+ghost use Rattle.free_path.specs.Base.{ok};
+ghost use Rattle.update_definition.specs.Look.{current, lookHere};
+ghost use Rattle.update_definition.specs.Update.{doMove, searchStep};
+ghost use Rattle.search.specs.Read.{divsOf, pathOf, roundOf, hereOf, searchIn, arrays, Small, Lent, Marked};
+ghost use Rattle.search.specs.Effects.{Sized, Goes, Looked, effectOf, leaves, turnOf};
+
+// The move, its effect (Stay where the caller has to do the move), where the search stood, and where it stands. A turn that is refused before its
+// move has Advance and the refusal.
+pub struct Turned {
+    pub go: Move,
+    pub effect: Effect,
+    pub here: Here,
+    pub place: Place,
+}
+
+// ChangeDiverge and Join are left to the caller.
+pub fn is_left(go: Move) -> bool
+    ensures { λ b. ⌜ b ≡ leaves go ⌝ }
+{
+    match go {
+        Move::Rewind => false,
+        Move::Alternate => false,
+        Move::ChangeDiverge => true,
+        Move::PushSaved => false,
+        Move::BlockEmpty => false,
+        Move::Advance => false,
+        Move::Join => true,
+    }
+}
+
+// The moves that are not left to the caller; the arms of the other two are not reached.
+fn do_move(
+    go: Move,
+    img: &[u8],
+    r: Round,
+    h: Here,
+    p: Place,
+    pool: &mut [u32],
+    begins: &mut [u32],
+    ends: &mut [u32],
+    nt: &mut [u32],
+    nn: &mut [u32],
+) -> Moved
+    requires { ⌜ (leaves go ≡ false) × Small p × Sized r × Lent (r .«est_count») (arrays (now pool) (now begins) (now ends)) × (h .«idx_join_new» ≤ p .«idx_split» + p .«new_count») × (r .«diverge_room» ≤ length (now nt)) × (r .«diverge_room» ≤ length (now nn)) ⌝ }
+    ensures { λ x. ⌜ ((t : Train) (occ dt dn : List ℕ) (new : List DispNode) → length new ≡ p .«new_count» → effectOf (roundOf t occ (now (img .entry)) dt dn r) (searchIn (r .«est_count») (x .place) new (divsOf (x .place .«div_count») (now (nt .exit)) (now (nn .exit))) (arrays (now (pool .exit)) (now (begins .exit)) (now (ends .exit)))) (x .effect) ≡ doMove go (roundOf t occ (now (img .entry)) dt dn r) (hereOf h) (searchIn (r .«est_count») p new (divsOf (p .«div_count») (now (nt .entry)) (now (nn .entry))) (arrays (now (pool .entry)) (now (begins .entry)) (now (ends .entry))))) × Goes r p (x .place) ⌝ }
+{
+    match go {
+        Move::Rewind => {
+            return rewind::rewind(img, r, h, p, pool, begins, ends, nn);
+        }
+        Move::Alternate => {
+            return moves::alternate(r, h, p, pool, begins, ends, nt, nn);
+        }
+        Move::ChangeDiverge => {
+            return Moved {
+                effect: Effect::Refused(13),
+                place: p,
+            };
+        }
+        Move::PushSaved => {
+            return moves::push_saved(img, r, h, p);
+        }
+        Move::BlockEmpty => {
+            return moves::block_empty(r, h, p, begins, ends);
+        }
+        Move::Advance => {
+            return moves::advance(r, h, p);
+        }
+        Move::Join => {
+            return Moved {
+                effect: Effect::Refused(13),
+                place: p,
+            };
+        }
+    }
+}
+
+fn answered(go: Move, effect: Effect, h: Here, p: Place) -> Turned
+    ensures { λ x. ⌜ x ≡ record { go = go; effect = effect; here = h; place = p } ⌝ }
+{
+    Turned {
+        go: go,
+        effect: effect,
+        here: h,
+        place: p,
+    }
+}
+
+fn stopped(code: u32, h: Here, p: Place) -> Turned
+    ensures { λ x. ⌜ x ≡ record { go = Move.Advance; effect = Effect.Refused code; here = h; place = p } ⌝ }
+{
+    answered(Move::Advance, Effect::Refused(code), h, p)
+}
+
+// A turn that stands at h, from there on.
+fn turn_from(
+    img: &[u8],
+    occ: &[u32],
+    on: &[u8],
+    dt: &[u32],
+    dn: &[u32],
+    r: Round,
+    h: Here,
+    p: Place,
+    pool: &mut [u32],
+    begins: &mut [u32],
+    ends: &mut [u32],
+    nt: &mut [u32],
+    nn: &mut [u32],
+) -> Turned
+    requires { ⌜ Small p × Sized r × Lent (r .«est_count») (arrays (now pool) (now begins) (now ends)) × (r .«diverge_room» ≤ length (now nt)) × (r .«diverge_room» ≤ length (now nn)) × Marked (now on) (pathOf (now img) (r .«path_count»)) × (h .«idx_join_new» ≤ p .«idx_split» + p .«new_count») ⌝ }
+    ensures { λ x. ⌜ ((t : Train) (new : List DispNode) → length new ≡ p .«new_count» → lookHere (roundOf t (now (occ .entry)) (now (img .entry)) (now (dt .entry)) (now (dn .entry)) r) (searchIn (r .«est_count») p new (divsOf (p .«div_count») (now (nt .entry)) (now (nn .entry))) (arrays (now (pool .entry)) (now (begins .entry)) (now (ends .entry)))) ≡ ok (hereOf h) → (turnOf (x .go) (x .effect) (roundOf t (now (occ .entry)) (now (img .entry)) (now (dt .entry)) (now (dn .entry)) r) (hereOf h) (searchIn (r .«est_count») (x .place) new (divsOf (x .place .«div_count») (now (nt .exit)) (now (nn .exit))) (arrays (now (pool .exit)) (now (begins .exit)) (now (ends .exit)))) ≡ searchStep (roundOf t (now (occ .entry)) (now (img .entry)) (now (dt .entry)) (now (dn .entry)) r) (searchIn (r .«est_count») p new (divsOf (p .«div_count») (now (nt .entry)) (now (nn .entry))) (arrays (now (pool .entry)) (now (begins .entry)) (now (ends .entry))))) × (leaves (x .go) ≡ true → Looked (roundOf t (now (occ .entry)) (now (img .entry)) (now (dt .entry)) (now (dn .entry)) r) (searchIn (r .«est_count») p new (divsOf (p .«div_count») (now (nt .entry)) (now (nn .entry))) (arrays (now (pool .entry)) (now (begins .entry)) (now (ends .entry)))) (hereOf h) (searchIn (r .«est_count») (x .place) new (divsOf (x .place .«div_count») (now (nt .exit)) (now (nn .exit))) (arrays (now (pool .exit)) (now (begins .exit)) (now (ends .exit)))))) × Goes r p (x .place) × (x .here ≡ h) ⌝ }
+{
+    let t = look::stored_trains(dt, dn, on, r, h, p, pool, begins, ends);
+    if t.code != 0 {
+        return stopped(t.code, h, p);
+    }
+    let s = t.place;
+    let u = look::occupied_next(occ, r, h, s, pool, begins, ends);
+    if u.code != 0 {
+        return stopped(u.code, h, p);
+    }
+    let q = u.place;
+    let m = look::move_of(img, on, r, h, q, ends);
+    if m.code != 0 {
+        return stopped(m.code, h, p);
+    }
+    let go = m.go;
+    if is_left(go) {
+        return answered(go, Effect::Stay, h, q);
+    }
+    let x = do_move(go, img, r, h, q, pool, begins, ends, nt, nn);
+    let effect = x.effect;
+    let place = x.place;
+    answered(go, effect, h, place)
+}
+
+// curr is the last node of the new path, or else the node before idx_split.
+pub(crate) fn turn(
+    img: &[u8],
+    occ: &[u32],
+    on: &[u8],
+    dt: &[u32],
+    dn: &[u32],
+    r: Round,
+    p: Place,
+    curr: DispNode,
+    pool: &mut [u32],
+    begins: &mut [u32],
+    ends: &mut [u32],
+    nt: &mut [u32],
+    nn: &mut [u32],
+) -> Turned
+    requires { ⌜ Small p × Sized r × Lent (r .«est_count») (arrays (now pool) (now begins) (now ends)) × (r .«diverge_room» ≤ length (now nt)) × (r .«diverge_room» ≤ length (now nn)) × Marked (now on) (pathOf (now img) (r .«path_count»)) × (estPlace (r .«est_count») ≤ length (now img)) ⌝ }
+    ensures { λ x. ⌜ ((t : Train) (new : List DispNode) → length new ≡ p .«new_count» → current (pathOf (now (img .entry)) (r .«path_count»)) new (p .«idx_split») ≡ ok curr → (turnOf (x .go) (x .effect) (roundOf t (now (occ .entry)) (now (img .entry)) (now (dt .entry)) (now (dn .entry)) r) (hereOf (x .here)) (searchIn (r .«est_count») (x .place) new (divsOf (x .place .«div_count») (now (nt .exit)) (now (nn .exit))) (arrays (now (pool .exit)) (now (begins .exit)) (now (ends .exit)))) ≡ searchStep (roundOf t (now (occ .entry)) (now (img .entry)) (now (dt .entry)) (now (dn .entry)) r) (searchIn (r .«est_count») p new (divsOf (p .«div_count») (now (nt .entry)) (now (nn .entry))) (arrays (now (pool .entry)) (now (begins .entry)) (now (ends .entry))))) × (leaves (x .go) ≡ true → Looked (roundOf t (now (occ .entry)) (now (img .entry)) (now (dt .entry)) (now (dn .entry)) r) (searchIn (r .«est_count») p new (divsOf (p .«div_count») (now (nt .entry)) (now (nn .entry))) (arrays (now (pool .entry)) (now (begins .entry)) (now (ends .entry)))) (hereOf (x .here)) (searchIn (r .«est_count») (x .place) new (divsOf (x .place .«div_count») (now (nt .exit)) (now (nn .exit))) (arrays (now (pool .exit)) (now (begins .exit)) (now (ends .exit)))))) × Goes r p (x .place) ⌝ }
+{
+    let h = look::look_here(img, r, p, curr, ends, dn);
+    if h.code != 0 {
+        return stopped(h.code, h, p);
+    }
+    turn_from(img, occ, on, dt, dn, r, h, p, pool, begins, ends, nt, nn)
+}

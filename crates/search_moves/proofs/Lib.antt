@@ -1,4 +1,0 @@
-pub mod PushLaws
-pub mod DepositLaws
-pub mod RewindLaws
-pub mod TurnLaws

@@ -1,3 +1,0 @@
-pub mod Sidings
-pub mod PanicSites
-pub mod FreeAbove

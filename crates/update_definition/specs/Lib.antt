@@ -1,0 +1,10 @@
+pub mod State
+pub mod Look
+pub mod Moves
+pub mod Join
+pub mod Update
+pub mod Renumbered
+pub mod Accepted
+pub mod Fits
+pub mod UpdateImage
+pub mod UpdateMatch

@@ -1,0 +1,34 @@
+-- One update over two numberings (document 01, demand 3): p renumbers links, q trains. Assumes nothing.
+use mathlib.Core.Path.{_≡_}
+use mathlib.Core.Bool.{true, false}
+use mathlib.Core.List.{List, map}
+use Prim.Native.Nat.{ℕ, _-_, _≤_, _<_}
+use lib.ListN.{length}
+use Rattle.link_rules.specs.LinkIdx.{noLink, occupied}
+use Rattle.link_rules.specs.Renumbering.{Renumbering, rLink}
+use Rattle.link_rules.specs.Matching.{OccupanciesMatch}
+use Rattle.link_rules.specs.declared.link_idx.LinkIdx.{LinkIdx}
+use Rattle.disp_structs.specs.Renumbered.{rTrainDisp}
+use Rattle.free_path.specs.LinkOptType.{contains}
+use Rattle.free_path.specs.Order.{Perm}
+use Rattle.update_definition.specs.Update.{Updated}
+
+-- the occupancy and the blocking list of an update, and those of it over the second numbering
+pub record TwoNumberings (p q : ℕ → ℕ) (occ occ′ : List ℕ) (blocking blocking′ : List LinkIdx) : Type 0 where
+  -- 1 to L - 1 are permuted
+  pub links : Renumbering (length occ - 1) p
+  -- 1 to some number are permuted
+  pub lastTrain : ℕ
+  pub trains : Renumbering lastTrain q
+  pub occupancies : OccupanciesMatch p q occ occ′
+  -- the second list has the renumbered links of the first, in any order, repeats kept
+  pub order : Perm LinkIdx (map (rLink p) blocking) blocking′
+  -- refusals 2 and 4 let them pass
+  pub short : length occ ≤ 4000
+  pub below : (l : LinkIdx) → contains blocking l ≡ true → l .0 < length occ
+  -- entry 0 of the occupancy is empty
+  pub zero-empty : occupied occ noLink ≡ false
+
+-- the same answer, and the renumbered train
+abbrev pub rUpdated : (ℕ → ℕ) → (ℕ → ℕ) → Updated → Updated
+rUpdated p q u = record { answer = u .answer; train = rTrainDisp p q (u .train) }

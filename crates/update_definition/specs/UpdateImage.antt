@@ -1,0 +1,74 @@
+-- Update (document 01, Operations) on the bytes of one image: its refusals in order, else the update of the train that the image holds. Assumes nothing.
+use Prim.Native.Nat.{ℕ, zero, suc}
+use mathlib.Core.Bool.{Bool, cond, _&&_, _||_, true}
+use mathlib.Core.List.{List, [], _∷_, map}
+use lib.Dec.{ltb, leb, eqb}
+use lib.ListN.{length}
+use Rattle.link_rules.specs.declared.link_idx.LinkIdx.{LinkIdx}
+use Rattle.disp_structs.specs.Train.{Train}
+use Rattle.image.specs.Codec.{decoded, storedInto}
+use Rattle.image_fault.specs.ImageFault.{lengthFault, imageFault}
+use Rattle.link_rules.specs.Refusals.{noRefusal, refused, refusedUnless, orElse}
+use Rattle.link_rules.specs.declared.refusal.Refusal.{Refusal}
+use Rattle.tally.specs.Tally.{started}
+use Rattle.update_definition.specs.Update.{Status, Success, Blocked, Faulty, Refused, Answer, Updated, answerOf, updateFreePath}
+
+-- the answer, and the image that is left
+pub record UpdatedImage : Type 0 where
+  pub answer : Answer
+  pub image : List ℕ
+
+-- ---- refusals 2, 4 and 5
+
+-- every link is below L
+unfoldable pub linksBelow : ℕ → List ℕ → Bool
+linksBelow l [] = true
+linksBelow l (b ∷ bs) = ltb b l && linksBelow l bs
+
+-- 4: more than 4,000 blocking links, or one that is not below L
+abbrev pub blockingFault : ℕ → List ℕ → Refusal
+blockingFault l blocking = refusedUnless (leb (length blocking) 4000 && linksBelow l blocking) 4
+
+-- 5: moved or limit 0
+abbrev pub orderFault : ℕ → ℕ → Refusal
+orderFault moved limit = cond (eqb moved 0 || eqb limit 0) (refused 5 0) noRefusal
+
+unfoldable pub callFault : List ℕ → List ℕ → ℕ → ℕ → Refusal
+callFault occ blocking moved limit =
+    orElse (lengthFault (length occ))
+    (orElse (blockingFault (length occ) blocking)
+    (orderFault moved limit))
+
+-- ---- the update
+
+-- a refusal leaves the image, every other answer stores the train
+abbrev pub leftImage : Status → Train → List ℕ → List ℕ
+leftImage Success t img = storedInto t img
+leftImage Blocked t img = storedInto t img
+leftImage (Faulty n) t img = storedInto t img
+leftImage (Refused n place) t img = img
+
+abbrev pub storedAnswer : Updated → List ℕ → UpdatedImage
+storedAnswer u img = record { answer = u .answer; image = leftImage (u .answer .status) (u .train) img }
+
+-- refused before anything is counted
+abbrev pub refusedAnswer : ℕ → ℕ → List ℕ → UpdatedImage
+refusedAnswer n place img = record { answer = answerOf (Refused n place) (started 0); image = img }
+
+abbrev pub answerBy : ℕ → ℕ → Updated → List ℕ → UpdatedImage
+answerBy zero place u img = storedAnswer u img
+answerBy (suc n) place u img = refusedAnswer (suc n) place img
+
+abbrev pub linkIdxs : List ℕ → List LinkIdx
+linkIdxs blocking = map (λ (n : ℕ). record { 0 = n }) blocking
+
+-- refusals 2 to 9 of the call and of the image
+unfoldable pub updateFault : List ℕ → List ℕ → List ℕ → ℕ → ℕ → Refusal
+updateFault img occ blocking moved limit = orElse (callFault occ blocking moved limit) (imageFault img (length occ))
+
+-- the image, the occupancy, the blocking list, the moved train, local, the round limit; 10 to 13 are those of updateFreePath
+unfoldable pub updatedImage : List ℕ → List ℕ → List ℕ → ℕ → Bool → ℕ → UpdatedImage
+updatedImage img occ blocking moved local limit =
+    let f = updateFault img occ blocking moved limit in
+    let u = updateFreePath occ (linkIdxs blocking) (record { 0 = moved }) local limit (decoded img) in
+    answerBy (f .number) (f .place) u img

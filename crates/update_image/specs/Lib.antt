@@ -1,2 +1,0 @@
-pub mod UpdateImage
-pub mod UpdateMatch
