@@ -222,6 +222,38 @@ pub fn profile(rng: &mut Rng) -> Case {
     Case::profile(&image)
 }
 
+/// The ceiling of a train, half of them damaged.
+pub fn ceiling(rng: &mut Rng) -> Case {
+    let image = some_train(rng).image;
+    Case::ceiling(&if rng.chance(50) { damaged(rng, &image, LINKS) } else { image })
+}
+
+/// The ceiling of a yard, some of them of up to 63 slots, with damaged images or a wrong header.
+pub fn yard_ceiling(rng: &mut Rng) -> Case {
+    let limit = rng.pick(&[0, 1, 2, 20, 40_000, 65_535]);
+    let yard = match rng.below(10) {
+        0..=4 => odd_check(rng).yard,
+        5..=6 => damaged_check(rng).0.yard,
+        _ => full_yard(rng),
+    };
+    Case::yard_ceiling(&yard, limit)
+}
+
+/// A yard of some trains of any generator, some of them damaged.
+fn full_yard(rng: &mut Rng) -> Vec<u8> {
+    let slots = rng.pick(&[1, 8, 62, 63]);
+    let images: Vec<Vec<u8>> = (1..=slots)
+        .map(|slot| {
+            let c = some_train(rng);
+            let mut image = if rng.chance(20) { c.damaged(rng).image } else { c.image };
+            image.resize(image.len().max(HEADER), 0);
+            put_u16(&mut image, 32, slot);
+            image
+        })
+        .collect();
+    yard_of(&images)
+}
+
 /// A case of any operation of document 01.
 pub fn any(rng: &mut Rng) -> Case {
     match rng.below(100) {
@@ -247,6 +279,8 @@ pub fn by_name(name: &str, rng: &mut Rng) -> Option<Case> {
         "leaf" => leaves::any(rng),
         "page" => page(rng),
         "profile" => profile(rng),
+        "ceiling" => ceiling(rng),
+        "yard-ceiling" => yard_ceiling(rng),
         "any" => any(rng),
         _ => return None,
     })

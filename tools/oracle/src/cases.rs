@@ -21,6 +21,8 @@ pub const STEP: u32 = 11;
 pub const LIST: u32 = 12;
 pub const PAGE: u32 = 13;
 pub const PROFILE: u32 = 14;
+pub const CEILING: u32 = 15;
+pub const YARD_CEILING: u32 = 16;
 
 const HEAD: usize = 104;
 /// The length of an output buffer that is as its input was.
@@ -93,6 +95,15 @@ impl Case {
         Case { op: PROFILE, ins: [image.to_vec(), vec![], vec![], vec![]], ..Case::default() }
     }
 
+    pub fn ceiling(image: &[u8]) -> Case {
+        Case { op: CEILING, ins: [image.to_vec(), vec![], vec![], vec![]], ..Case::default() }
+    }
+
+    pub fn yard_ceiling(yard: &[u8], limit: u16) -> Case {
+        let args = [limit as u32, 0, 0, 0, 0, 0, 0, 0];
+        Case { op: YARD_CEILING, args, ins: [yard.to_vec(), vec![], vec![], vec![]], ..Case::default() }
+    }
+
     pub fn tagged(mut self, tag: u32) -> Case {
         self.tag = tag;
         self
@@ -111,6 +122,8 @@ impl Case {
             LIST => self.answer_list(),
             PAGE => self.answer_page(),
             PROFILE => self.put_plain(model::profile(&self.ins[0])),
+            CEILING => self.put_number(model::ceiling(&self.ins[0])),
+            YARD_CEILING => self.put_number(model::yard_ceiling(&self.ins[0], self.args[0] as u16)),
             _ => leaves::answer(&mut self),
         }
         self
@@ -121,6 +134,15 @@ impl Case {
             self.answer[0] = r.number as u32;
             self.answer[1] = r.place;
         }
+    }
+
+    /// A number in two halves behind the refusal and its place, low half first.
+    fn put_number(&mut self, r: Result<u64, Refusal>) {
+        if let Ok(n) = r {
+            self.answer[2] = n as u32;
+            self.answer[3] = (n >> 32) as u32;
+        }
+        self.put_plain(r.map(|_| ()));
     }
 
     fn answer_mark(&mut self) {

@@ -4,7 +4,7 @@
 use crate::cases::Case;
 use crate::gen::odd_blocking;
 use crate::layout::*;
-use crate::model::{self, CheckArgs, Checked};
+use crate::model::{self, CheckArgs, Checked, Updated, Visit};
 use crate::rng::Rng;
 use crate::yards::*;
 use std::fmt::Write;
@@ -177,7 +177,7 @@ fn renumbered(rng: &mut Rng, r: &Renumbering, c: &Call) -> Call {
 #[derive(Debug, PartialEq)]
 pub enum Answer {
     Marked(Result<(), Refusal>),
-    Checked(Checked, Vec<u8>),
+    Checked(Checked, Vec<u8>, Vec<Visit>),
 }
 
 pub fn run(y: &mut Yard, c: &Call) -> Answer {
@@ -193,15 +193,15 @@ pub fn run(y: &mut Yard, c: &Call) -> Answer {
                 local: *local,
                 limit: *limit,
             };
-            let checked = model::check(&mut y.yard, &args, &mut report);
-            Answer::Checked(checked, report)
+            let (checked, visits) = model::check_visits(&mut y.yard, &args, &mut report);
+            Answer::Checked(checked, report, visits)
         }
     }
 }
 
 /// Does the second answer match the first? The next begin is not compared.
 fn match_answers(r: &Renumbering, a: &Answer, b: &Answer) -> bool {
-    let (Answer::Checked(x, rows), Answer::Checked(y, other)) = (a, b) else { return a == b };
+    let (Answer::Checked(x, rows, visits), Answer::Checked(y, other, others)) = (a, b) else { return a == b };
     let same = match (x, y) {
         (Checked::Done { deadlock: p, .. }, Checked::Done { deadlock: q, .. }) => p == q,
         _ => x == y,
@@ -212,8 +212,17 @@ fn match_answers(r: &Renumbering, a: &Answer, b: &Answer) -> bool {
     (0..rows.len() / 16).all(|i| {
         let mut row = model::row_at(rows, i);
         row.holder = r.train(row.holder);
-        row == model::row_at(other, r.train(i as u16 + 1) as usize - 1)
+        let j = r.train(i as u16 + 1) as usize - 1;
+        row == model::row_at(other, j) && match_updates(&visits[i].updated, &others[j].updated)
     })
+}
+
+/// What an update tells beside the record of its slot: the steps.
+fn match_updates(a: &Option<Updated>, b: &Option<Updated>) -> bool {
+    match (a, b) {
+        (Some(a), Some(b)) => a.steps == b.steps,
+        _ => a.is_none() && b.is_none(),
+    }
 }
 
 fn match_states(r: &Renumbering, a: &Yard, b: &Yard) -> bool {
@@ -224,7 +233,7 @@ fn match_states(r: &Renumbering, a: &Yard, b: &Yard) -> bool {
 
 /// Are the premises met at this check? `occ` is what the check found.
 fn premises_met(p: &Premises, c: &Call, a: &Answer, occ: &[u16]) -> bool {
-    let (Call::Check { begin, .. }, Answer::Checked(x, rows)) = (c, a) else { return true };
+    let (Call::Check { begin, .. }, Answer::Checked(x, rows, _)) = (c, a) else { return true };
     if matches!(x, Checked::Refused(_)) {
         return true;
     }
@@ -289,7 +298,7 @@ fn list(rng: &mut Rng, p: &Premises, tally: &mut Tally) {
             return;
         }
         tally.calls += 1;
-        if matches!(a, Answer::Checked(ref x, _) if !matches!(x, Checked::Refused(_))) {
+        if matches!(a, Answer::Checked(ref x, ..) if !matches!(x, Checked::Refused(_))) {
             tally.checks += 1;
         }
         if !match_answers(&r, &a, &b) || !match_states(&r, &first, &second) {

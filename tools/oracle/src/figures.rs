@@ -80,6 +80,8 @@ fn names(c: &Case) -> Vec<String> {
         LAY_OUT => vec![done("layout", a[0])],
         PAGE => vec![done("page", a[0])],
         PROFILE => vec![done("profile", a[0])],
+        CEILING => vec![done("ceiling", a[0])],
+        YARD_CEILING => vec![done("yard ceiling", a[0])],
         UPDATE if a[0] < 3 => vec![format!("update {}", ["success", "blocked", "faulty"][a[0] as usize])],
         UPDATE if a[1] == 11 => {
             vec![refused("update", 11), format!("{} by {}", refused("update", 11), hook::state().cause)]

@@ -56,6 +56,11 @@ pub fn rounds_and_strays() -> (u32, u32) {
     })
 }
 
+/// Entries into the search loop over all rounds, a refused one too.
+pub fn steps() -> u64 {
+    RUN.with(|r| r.borrow().entries_all as u64)
+}
+
 fn refuse(number: u8, cause: &'static str) -> ! {
     RUN.with(|r| r.borrow_mut().cause = cause);
     std::panic::resume_unwind(Box::new(Refused(number)))

@@ -18,4 +18,5 @@ pub mod selftest;
 pub mod shims;
 pub mod sums;
 pub mod text;
+pub mod trials;
 pub mod yards;

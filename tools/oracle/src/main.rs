@@ -3,7 +3,7 @@
 use oracle::cases::{read_all, Case, PAGE, SHEET};
 use oracle::demand3::{self, Premises, ALL};
 use oracle::rng::Rng;
-use oracle::{calls, figures, model, record, selftest, sums};
+use oracle::{calls, figures, model, record, selftest, sums, trials};
 use std::io::{Read, Write};
 use std::process::exit;
 
@@ -14,10 +14,12 @@ const USAGE: &str = "usage:
   oracle show    < CASES                  one line for each case
   oracle sums    < CASES                  what the program answers prints of them behind --sums
   oracle summary < CASES                  counts of answers, sites and branches
-  oracle generate KIND SEED COUNT > CASES KIND: mark, layout, update, large, check, tidy, sheet, list, leaf, page, profile, any
+  oracle generate KIND SEED COUNT > CASES KIND: mark, layout, update, large, check, tidy, sheet, list, leaf, page, profile,
+                                          ceiling, yard-ceiling, any
   oracle record SEED > CASES              the recorded list
   oracle fuzz SEED UPDATES                plain text against hooked text, and counts
-  oracle demand3 SEED LISTS [PREMISE]     PREMISE left out: begin, entry0, strays";
+  oracle demand3 SEED LISTS [PREMISE]     PREMISE left out: begin, entry0, strays
+  oracle trial REQUEST SEED COUNT         what a change request claims, over COUNT calls";
 
 fn input() -> Vec<Case> {
     let mut b = vec![];
@@ -73,7 +75,7 @@ fn without(name: Option<&str>) -> Option<Premises> {
 }
 
 fn usage() -> ! {
-    eprintln!("{USAGE}");
+    eprintln!("{USAGE}\nREQUEST: {}", trials::names().join(", "));
     exit(2)
 }
 
@@ -115,6 +117,9 @@ fn main() {
             let tally = demand3::fuzz(number(seed), number(lists), &premises);
             tally.print(&name.map_or("all premises".into(), |n| format!("without {n}")));
             (tally.counterexamples == 0) == name.is_none()
+        }
+        ["trial", request, seed, count] => {
+            trials::run(request, number(seed), number(count)).unwrap_or_else(|| usage())
         }
         _ => usage(),
     };

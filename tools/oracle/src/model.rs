@@ -304,11 +304,13 @@ pub struct Updated {
     pub outcome: Outcome,
     pub rounds: u32,
     pub strays: u32,
+    /// Entries into the search loop.
+    pub steps: u64,
     pub line: u32,
 }
 
 fn refused(r: Refusal) -> Updated {
-    Updated { outcome: Outcome::Refused(r), rounds: 0, strays: 0, line: 0 }
+    Updated { outcome: Outcome::Refused(r), rounds: 0, strays: 0, steps: 0, line: 0 }
 }
 
 /// Arguments of update and check: 2, 4, 5.
@@ -380,7 +382,7 @@ fn update_train(
     });
     let (outcome, line) = run_hooked(t, occ, &links(blocking), moved, local);
     let (rounds, strays) = hook::rounds_and_strays();
-    Updated { outcome, rounds, strays, line }
+    Updated { outcome, rounds, strays, steps: hook::steps(), line }
 }
 
 /// Reads the image, runs the plain text and writes: no hooks, no limit. For the
@@ -509,22 +511,35 @@ pub struct CheckArgs<'a> {
     pub limit: u16,
 }
 
-fn check_slot(image: &mut [u8], slot: usize, a: &CheckArgs, occ: &[TrainIdx]) -> (Row, u32) {
+/// What became of a slot: its record, and the answer of its update where it had one.
+#[derive(Debug, Clone, Copy, Default, PartialEq)]
+pub struct Visit {
+    pub row: Row,
+    pub updated: Option<Updated>,
+}
+
+impl Visit {
+    fn of(row: Row) -> Visit {
+        Visit { row, updated: None }
+    }
+}
+
+fn check_slot(image: &mut [u8], slot: usize, a: &CheckArgs, occ: &[TrainIdx]) -> Visit {
     let mut t = match read_image(image, a.occ.len()) {
         Ok(t) => t,
-        Err(r) => return (row_refused(r), 0),
+        Err(r) => return Visit::of(row_refused(r)),
     };
     if t.free as usize == t.path.len() {
-        return (Row { code: FINISHED, ..Row::default() }, 0);
+        return Visit::of(Row { code: FINISHED, ..Row::default() });
     }
     if slot == a.moved as usize {
-        return (Row { code: MOVED, ..Row::default() }, 0);
+        return Visit::of(Row { code: MOVED, ..Row::default() });
     }
     let u = update_train(&mut t, occ, a.blocking, a.moved, a.local, a.limit);
     if !matches!(u.outcome, Outcome::Refused(_)) {
         write_image(&t, image);
     }
-    (row_of(&u, a.moved), u.line)
+    Visit { row: row_of(&u, a.moved), updated: Some(u) }
 }
 
 fn check_refusal(yard: &[u8], a: &CheckArgs, report: &[u8]) -> Result<Vec<std::ops::Range<usize>>, Refusal> {
@@ -541,26 +556,32 @@ fn check_refusal(yard: &[u8], a: &CheckArgs, report: &[u8]) -> Result<Vec<std::o
 }
 
 pub fn check(yard: &mut [u8], a: &CheckArgs, report: &mut [u8]) -> Checked {
+    check_visits(yard, a, report).0
+}
+
+/// The same with what became of each slot; of a refused check nothing.
+pub fn check_visits(yard: &mut [u8], a: &CheckArgs, report: &mut [u8]) -> (Checked, Vec<Visit>) {
     let parts = match check_refusal(yard, a, report) {
         Ok(parts) => parts,
-        Err(r) => return Checked::Refused(r),
+        Err(r) => return (Checked::Refused(r), vec![]),
     };
     let occ = trains(a.occ);
     let begin = a.begin as usize;
-    let rows: Vec<Row> = parts
+    let visits: Vec<Visit> = parts
         .iter()
         .enumerate()
         .map(|(i, part)| {
             if i + 1 < begin {
-                return Row::default();
+                return Visit::default();
             }
-            check_slot(&mut yard[part.clone()], i + 1, a, &occ).0
+            check_slot(&mut yard[part.clone()], i + 1, a, &occ)
         })
         .collect();
+    let rows: Vec<Row> = visits.iter().map(|v| v.row).collect();
     for (i, row) in rows.iter().enumerate() {
         put_row(report, i, row);
     }
-    answer_of(&rows, begin)
+    (answer_of(&rows, begin), visits)
 }
 
 fn answer_of(rows: &[Row], begin: usize) -> Checked {
@@ -718,4 +739,21 @@ pub fn profile(image: &[u8]) -> Result<(), Refusal> {
     } else {
         Err(refusal(29))
     }
+}
+
+// ---- ceilings
+
+/// The most entries into the search loop in a round, from the image alone.
+pub fn ceiling(image: &[u8]) -> Result<u64, Refusal> {
+    let t = read_image(image, LINKS)?;
+    Ok(3 * t.est.len() as u64 + 1)
+}
+
+/// The same for every slot of a yard and up to the round limit; a refused image adds nothing.
+pub fn yard_ceiling(yard: &[u8], limit: u16) -> Result<u64, Refusal> {
+    if limit == 0 {
+        return Err(refusal(5));
+    }
+    let parts = read_yard(yard).ok_or(refusal(14))?;
+    Ok(parts.into_iter().map(|part| ceiling(&yard[part]).map_or(0, |n| n * limit as u64)).sum())
 }

@@ -91,6 +91,42 @@ fn profile(offset: f64) -> String {
     model::profile(&one_node(offset)).map_or_else(|r| format!("refused {}", r.number), |()| "within".into())
 }
 
+/// Link 1 to link 3, and a siding over link 2 round it.
+pub fn siding_train() -> Vec<u8> {
+    let est = |next, alt, prev, prev_alt, link, kind| Est {
+        dist_to_next: if kind == ARRIVE && next != 0 { 100.0 } else { 0.0 },
+        next,
+        alt,
+        prev,
+        prev_alt,
+        link,
+        kind,
+    };
+    let est = [
+        est(1, 2, 0, 0, 0, FAKE),
+        est(4, 0, 0, 0, 1, ARRIVE),
+        est(3, 0, 0, 0, 0, FAKE),
+        est(4, 0, 2, 0, 2, ARRIVE),
+        est(0, 0, 1, 3, 3, ARRIVE),
+    ];
+    let mut image = vec![0; image_size(5, 4)];
+    model::lay_out(&est_bytes(&est), 1, 0.0, 0.0, 4, 4, &mut image).unwrap();
+    image
+}
+
+/// An update of that train after train 2 moved to link 1.
+fn siding(occ: [u16; 4]) -> model::Updated {
+    model::update(&mut siding_train(), &occ, &[1, 2], 2, false, 5)
+}
+
+fn ceiling(r: Result<u64, Refusal>) -> String {
+    r.map_or_else(|r| format!("refused {}", r.number), |n| n.to_string())
+}
+
+fn yard_ceiling(limit: u16) -> String {
+    ceiling(model::yard_ceiling(&yard_of(&[siding_train()]), limit))
+}
+
 /// Each example with its value and what document 01 or a change request says.
 fn examples() -> Vec<(&'static str, String, &'static str)> {
     let near = |a: f64, b: f64| if utils::near(a, b) { "yes" } else { "no" }.to_string();
@@ -123,6 +159,14 @@ fn examples() -> Vec<(&'static str, String, &'static str)> {
         ("Q-13", profile(-1.0 / 1_024.0), "refused 29"),
         ("Q-13", profile(40_000.0), "within"),
         ("Q-13", profile(40_000.0 + 1.0 / 1_024.0), "refused 29"),
+        ("Q-9", siding([0, 2, 0, 0]).steps.to_string(), "3"),
+        ("Q-9", siding([0, 2, 2, 0]).steps.to_string(), "3"),
+        // a Single stops at its link though it is empty, in every round up to the limit
+        ("Q-9", siding([0, 0, 0, 0]).steps.to_string(), "5"),
+        ("Q-9", ceiling(model::ceiling(&siding_train())), "16"),
+        ("Q-9", ceiling(model::ceiling(&[])), "refused 6"),
+        ("Q-9", yard_ceiling(65_535), "1048560"),
+        ("Q-9", yard_ceiling(0), "refused 5"),
     ]
 }
 
