@@ -71,6 +71,8 @@ COUNT = ("crate::hook::count(&self.disp_path,"
          " self.disp_node_idx_free.idx(), links_blocked);")
 POOL_SELF = " crate::hook::pool(self.train_idxs_blocking.len());"
 POOL = " crate::hook::pool(trains_blocking.len());"
+GIVEN_NEXT = " crate::hook::given(%d, self.est_time_statuses[est_curr.idx_next.idx()].train_idxs_view);"
+GIVEN_HERE = " crate::hook::given(437, self.est_time_statuses[disp_node_curr.est_idx.idx()].train_idxs_view);"
 NEW_OFFSET = " crate::hook::offset(self.disp_path_new.last().unwrap().offset);"
 
 # line of free_path.rs: (at the line's start or end, what is put there)
@@ -82,12 +84,18 @@ HOOKS = {
     278: ("end", " crate::hook::round();"),
     309: ("start", COUNT + " "),
     346: ("start", "crate::hook::entry(); "),
+    387: ("end", GIVEN_NEXT % 380),
     389: ("end", POOL_SELF),
+    408: ("end", GIVEN_NEXT % 404),
     409: ("end", POOL_SELF),
+    446: ("end", GIVEN_HERE),
+    470: ("start", "crate::hook::blocked(&self.train_idxs_blocking, self.est_idxs_blocked.last().map("
+                   "|i| self.est_time_statuses[i.idx()].train_idxs_view)); "),
     491: ("end", " crate::hook::diverge_new(self.div_nodes_new.len());"),
     499: ("end", NEW_OFFSET),
     526: ("end", " crate::hook::diverge(self.div_nodes.len());"),
     549: ("end", NEW_OFFSET),
+    559: ("end", GIVEN_NEXT % 559),
     572: ("end", ";" + NEW_OFFSET),
     634: ("start", COUNT + " "),
     673: ("end", " crate::hook::diverge(self.div_nodes.len());"),

@@ -4,7 +4,7 @@
 use crate::cases::Case;
 use crate::gen::odd_blocking;
 use crate::layout::*;
-use crate::model::{self, CheckArgs, Checked, Updated, Visit};
+use crate::model::{self, CheckArgs, Checked, Outcome, Updated, Visit};
 use crate::rng::Rng;
 use crate::yards::*;
 use std::fmt::Write;
@@ -213,14 +213,14 @@ fn match_answers(r: &Renumbering, a: &Answer, b: &Answer) -> bool {
         let mut row = model::row_at(rows, i);
         row.holder = r.train(row.holder);
         let j = r.train(i as u16 + 1) as usize - 1;
-        row == model::row_at(other, j) && match_updates(&visits[i].updated, &others[j].updated)
+        row == model::row_at(other, j) && match_updates(r, &visits[i].updated, &others[j].updated)
     })
 }
 
-/// What an update tells beside the record of its slot: the steps.
-fn match_updates(a: &Option<Updated>, b: &Option<Updated>) -> bool {
+/// What an update tells beside the record of its slot: the steps, the holder.
+fn match_updates(r: &Renumbering, a: &Option<Updated>, b: &Option<Updated>) -> bool {
     match (a, b) {
-        (Some(a), Some(b)) => a.steps == b.steps,
+        (Some(a), Some(b)) => a.steps == b.steps && r.train(a.holder) == b.holder,
         _ => a.is_none() && b.is_none(),
     }
 }
@@ -274,6 +274,9 @@ pub struct Tally {
     pub lists: u64,
     pub calls: u64,
     pub checks: u64,
+    /// Slots of these checks that are blocked, and those held by another than the moved train.
+    pub blocked: u64,
+    pub others: u64,
     pub counterexamples: u64,
     pub smallest: Option<(usize, String)>,
 }
@@ -298,9 +301,7 @@ fn list(rng: &mut Rng, p: &Premises, tally: &mut Tally) {
             return;
         }
         tally.calls += 1;
-        if matches!(a, Answer::Checked(ref x, ..) if !matches!(x, Checked::Refused(_))) {
-            tally.checks += 1;
-        }
+        tally.see(&call, &a);
         if !match_answers(&r, &a, &b) || !match_states(&r, &first, &second) {
             counterexample(tally, &before, &r, &call, &a, &b);
             return;
@@ -346,10 +347,23 @@ pub fn fuzz(seed: u64, lists: u64, p: &Premises) -> Tally {
 }
 
 impl Tally {
+    fn see(&mut self, c: &Call, a: &Answer) {
+        let (Call::Check { moved, .. }, Answer::Checked(x, _, visits)) = (c, a) else { return };
+        self.checks += !matches!(x, Checked::Refused(_)) as u64;
+        for u in visits.iter().filter_map(|v| v.updated).filter(|u| u.outcome == Outcome::Blocked) {
+            self.blocked += 1;
+            self.others += (u.holder != *moved) as u64;
+        }
+    }
+
     pub fn print(&self, name: &str) {
         println!(
             "{name}: {} lists, {} calls and of them {} checks compared, {} counterexamples",
             self.lists, self.calls, self.checks, self.counterexamples
+        );
+        println!(
+            "  {} blocked slots, {} of them held by another than the moved train",
+            self.blocked, self.others
         );
         if let Some((_, text)) = &self.smallest {
             print!("the smallest:\n{text}");

@@ -2,7 +2,7 @@
 //! and the counters of branches. A refusal unwinds with `Refused`.
 
 use crate::shims::si;
-use crate::text::structs::{DispNode, EstType, TrainIdx};
+use crate::text::structs::{DispNode, EstType, TrainIdx, TrainIdxsView};
 use std::cell::{Cell, RefCell};
 
 pub const POOL_ROOM: usize = 2_048;
@@ -30,6 +30,12 @@ pub struct Run {
     pub entries_most: usize,
     /// The same over all rounds.
     pub entries_all: usize,
+    /// The blocking view last given to an est node in this round, and the line that gave it.
+    pub given: Option<(u32, TrainIdxsView)>,
+    /// The first train of that view where the round ended Blocked.
+    pub holder: u16,
+    /// The first train of the est node that was blocked last, for the trial of Q-3.
+    pub last_blocked: u16,
 }
 
 const BRANCH_ROOM: usize = 256;
@@ -61,6 +67,11 @@ pub fn steps() -> u64 {
     RUN.with(|r| r.borrow().entries_all as u64)
 }
 
+/// Who holds the train of an update that ended Blocked; 0 after any other.
+pub fn holder() -> u16 {
+    RUN.with(|r| r.borrow().holder)
+}
+
 fn refuse(number: u8, cause: &'static str) -> ! {
     RUN.with(|r| r.borrow_mut().cause = cause);
     std::panic::resume_unwind(Box::new(Refused(number)))
@@ -75,6 +86,7 @@ pub fn round() {
         }
         r.rounds += 1;
         r.entries = 0;
+        r.given = None;
         false
     });
     if due {
@@ -89,6 +101,24 @@ pub fn entry() {
         r.entries += 1;
         r.entries_all += 1;
         r.entries_most = r.entries_most.max(r.entries);
+    });
+}
+
+/// A blocking view is given to an est node.
+pub fn given(line: u32, view: TrainIdxsView) {
+    RUN.with(|r| r.borrow_mut().given = Some((line, view)));
+}
+
+/// The round ends Blocked; the pool still holds its trains. `last` is the view of the est node that was blocked last.
+pub fn blocked(pool: &[TrainIdx], last: Option<TrainIdxsView>) {
+    let first = |view: Option<TrainIdxsView>| match view {
+        Some(v) if v.idx_begin != v.idx_end => pool[v.idx_begin as usize].map_or(0, u16::from),
+        _ => 0,
+    };
+    RUN.with(|r| {
+        let mut r = r.borrow_mut();
+        r.holder = first(r.given.map(|(_, view)| view));
+        r.last_blocked = first(last);
     });
 }
 

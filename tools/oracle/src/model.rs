@@ -306,11 +306,13 @@ pub struct Updated {
     pub strays: u32,
     /// Entries into the search loop.
     pub steps: u64,
+    /// Who holds a blocked train; 0 in every other answer.
+    pub holder: u16,
     pub line: u32,
 }
 
 fn refused(r: Refusal) -> Updated {
-    Updated { outcome: Outcome::Refused(r), rounds: 0, strays: 0, steps: 0, line: 0 }
+    Updated { outcome: Outcome::Refused(r), rounds: 0, strays: 0, steps: 0, holder: 0, line: 0 }
 }
 
 /// Arguments of update and check: 2, 4, 5.
@@ -382,7 +384,7 @@ fn update_train(
     });
     let (outcome, line) = run_hooked(t, occ, &links(blocking), moved, local);
     let (rounds, strays) = hook::rounds_and_strays();
-    Updated { outcome, rounds, strays, steps: hook::steps(), line }
+    Updated { outcome, rounds, strays, steps: hook::steps(), holder: hook::holder(), line }
 }
 
 /// Reads the image, runs the plain text and writes: no hooks, no limit. For the

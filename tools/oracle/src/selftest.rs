@@ -119,6 +119,11 @@ fn siding(occ: [u16; 4]) -> model::Updated {
     model::update(&mut siding_train(), &occ, &[1, 2], 2, false, 5)
 }
 
+/// Who holds the train of the siding.
+fn held(occ: [u16; 4]) -> String {
+    siding(occ).holder.to_string()
+}
+
 fn ceiling(r: Result<u64, Refusal>) -> String {
     r.map_or_else(|r| format!("refused {}", r.number), |n| n.to_string())
 }
@@ -159,6 +164,9 @@ fn examples() -> Vec<(&'static str, String, &'static str)> {
         ("Q-13", profile(-1.0 / 1_024.0), "refused 29"),
         ("Q-13", profile(40_000.0), "within"),
         ("Q-13", profile(40_000.0 + 1.0 / 1_024.0), "refused 29"),
+        ("Q-3", held([0, 7, 9, 0]), "9"),
+        ("Q-3", held([0, 2, 2, 0]), "2"),
+        ("Q-3", held([0, 2, 0, 0]), "0"),
         ("Q-9", siding([0, 2, 0, 0]).steps.to_string(), "3"),
         ("Q-9", siding([0, 2, 2, 0]).steps.to_string(), "3"),
         // a Single stops at its link though it is empty, in every round up to the limit
