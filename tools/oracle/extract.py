@@ -82,6 +82,7 @@ HOOKS = {
     203: ("end", POOL),
     273: ("start", COUNT + " "),
     278: ("end", " crate::hook::round();"),
+    304: ("end", " crate::hook::meeting(idx_split, idx_sentinel, &self.link_idx_path, links_blocked);"),
     309: ("start", COUNT + " "),
     346: ("start", "crate::hook::entry(); "),
     387: ("end", GIVEN_NEXT % 380),

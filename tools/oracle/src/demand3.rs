@@ -217,10 +217,10 @@ fn match_answers(r: &Renumbering, a: &Answer, b: &Answer) -> bool {
     })
 }
 
-/// What an update tells beside the record of its slot: the steps, the holder.
+/// What an update tells beside the record of its slot: the steps, the holder, the train met.
 fn match_updates(r: &Renumbering, a: &Option<Updated>, b: &Option<Updated>) -> bool {
     match (a, b) {
-        (Some(a), Some(b)) => a.steps == b.steps && r.train(a.holder) == b.holder,
+        (Some(a), Some(b)) => a.steps == b.steps && r.train(a.holder) == b.holder && r.train(a.met) == b.met,
         _ => a.is_none() && b.is_none(),
     }
 }
@@ -277,6 +277,9 @@ pub struct Tally {
     /// Slots of these checks that are blocked, and those held by another than the moved train.
     pub blocked: u64,
     pub others: u64,
+    /// Slots in which a train was met, and those in which it is not the moved one.
+    pub met: u64,
+    pub met_others: u64,
     pub counterexamples: u64,
     pub smallest: Option<(usize, String)>,
 }
@@ -350,9 +353,12 @@ impl Tally {
     fn see(&mut self, c: &Call, a: &Answer) {
         let (Call::Check { moved, .. }, Answer::Checked(x, _, visits)) = (c, a) else { return };
         self.checks += !matches!(x, Checked::Refused(_)) as u64;
-        for u in visits.iter().filter_map(|v| v.updated).filter(|u| u.outcome == Outcome::Blocked) {
-            self.blocked += 1;
-            self.others += (u.holder != *moved) as u64;
+        for u in visits.iter().filter_map(|v| v.updated) {
+            let blocked = u.outcome == Outcome::Blocked;
+            self.blocked += blocked as u64;
+            self.others += (blocked && u.holder != *moved) as u64;
+            self.met += (u.met != 0) as u64;
+            self.met_others += (u.met != 0 && u.met != *moved) as u64;
         }
     }
 
@@ -364,6 +370,10 @@ impl Tally {
         println!(
             "  {} blocked slots, {} of them held by another than the moved train",
             self.blocked, self.others
+        );
+        println!(
+            "  {} slots that met a train, {} of them another than the moved one",
+            self.met, self.met_others
         );
         if let Some((_, text)) = &self.smallest {
             print!("the smallest:\n{text}");

@@ -2,7 +2,7 @@
 //! and the counters of branches. A refusal unwinds with `Refused`.
 
 use crate::shims::si;
-use crate::text::structs::{DispNode, EstType, TrainIdx, TrainIdxsView};
+use crate::text::structs::{DispNode, EstType, LinkIdx, TrainIdx, TrainIdxsView};
 use std::cell::{Cell, RefCell};
 
 pub const POOL_ROOM: usize = 2_048;
@@ -34,6 +34,8 @@ pub struct Run {
     pub given: Option<(u32, TrainIdxsView)>,
     /// The first train of that view where the round ended Blocked.
     pub holder: u16,
+    /// The train where the search of the first round for a meeting place stopped; none where none ran.
+    pub met: Option<u16>,
     /// The first train of the est node that was blocked last, for the trial of Q-3.
     pub last_blocked: u16,
 }
@@ -72,6 +74,11 @@ pub fn holder() -> u16 {
     RUN.with(|r| r.borrow().holder)
 }
 
+/// The train that was met in the first round; 0 where none was, or no search for a meeting place ran.
+pub fn met() -> u16 {
+    RUN.with(|r| r.borrow().met.unwrap_or(0))
+}
+
 fn refuse(number: u8, cause: &'static str) -> ! {
     RUN.with(|r| r.borrow_mut().cause = cause);
     std::panic::resume_unwind(Box::new(Refused(number)))
@@ -101,6 +108,17 @@ pub fn entry() {
         r.entries += 1;
         r.entries_all += 1;
         r.entries_most = r.entries_most.max(r.entries);
+    });
+}
+
+/// The search for a meeting place has stopped at this index of the path; the sentinel's is the straighten point.
+pub fn meeting(at: usize, sentinel: usize, link_idx_path: &[LinkIdx], links_blocked: &[TrainIdx]) {
+    RUN.with(|r| {
+        let mut r = r.borrow_mut();
+        if r.rounds == 1 {
+            let train = if at < sentinel { links_blocked[link_idx_path[at].idx()] } else { None };
+            r.met = Some(train.map_or(0, u16::from));
+        }
     });
 }
 

@@ -308,11 +308,13 @@ pub struct Updated {
     pub steps: u64,
     /// Who holds a blocked train; 0 in every other answer.
     pub holder: u16,
+    /// The train that was met; 0 in a refused answer.
+    pub met: u16,
     pub line: u32,
 }
 
 fn refused(r: Refusal) -> Updated {
-    Updated { outcome: Outcome::Refused(r), rounds: 0, strays: 0, steps: 0, holder: 0, line: 0 }
+    Updated { outcome: Outcome::Refused(r), rounds: 0, strays: 0, steps: 0, holder: 0, met: 0, line: 0 }
 }
 
 /// Arguments of update and check: 2, 4, 5.
@@ -384,7 +386,8 @@ fn update_train(
     });
     let (outcome, line) = run_hooked(t, occ, &links(blocking), moved, local);
     let (rounds, strays) = hook::rounds_and_strays();
-    Updated { outcome, rounds, strays, steps: hook::steps(), holder: hook::holder(), line }
+    let met = if matches!(outcome, Outcome::Refused(_)) { 0 } else { hook::met() };
+    Updated { outcome, rounds, strays, steps: hook::steps(), holder: hook::holder(), met, line }
 }
 
 /// Reads the image, runs the plain text and writes: no hooks, no limit. For the

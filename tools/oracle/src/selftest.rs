@@ -167,6 +167,8 @@ fn examples() -> Vec<(&'static str, String, &'static str)> {
         ("Q-3", held([0, 7, 9, 0]), "9"),
         ("Q-3", held([0, 2, 2, 0]), "2"),
         ("Q-3", held([0, 2, 0, 0]), "0"),
+        ("Q-14", siding([0, 7, 0, 0]).met.to_string(), "7"),
+        ("Q-14", siding([0, 0, 7, 0]).met.to_string(), "0"),
         ("Q-9", siding([0, 2, 0, 0]).steps.to_string(), "3"),
         ("Q-9", siding([0, 2, 2, 0]).steps.to_string(), "3"),
         // a Single stops at its link though it is empty, in every round up to the limit

@@ -1,6 +1,7 @@
 //! Trials at scale of what the change requests claim, over random calls: what was met is counted, and each claim that fails.
 
 mod holder;
+mod met;
 mod steps;
 
 use crate::calls;
@@ -10,7 +11,8 @@ use crate::rng::Rng;
 use crate::yards::*;
 
 /// The requests with their trials, each of which takes a seed and a number of calls and is true where every claim held.
-const TRIALS: [(&str, fn(u64, u64) -> bool); 2] = [("Q-3", holder::run), ("Q-9", steps::run)];
+const TRIALS: [(&str, fn(u64, u64) -> bool); 3] =
+    [("Q-3", holder::run), ("Q-9", steps::run), ("Q-14", met::run)];
 
 /// None where there is no trial of this name.
 pub fn run(request: &str, seed: u64, count: u64) -> Option<bool> {
