@@ -53,7 +53,7 @@ fn print(name: &str, c: &CheckCase, turns: usize) {
         local: c.local,
         limit: c.limit,
     };
-    let mut report = vec![0; 16 * SLOTS];
+    let mut report = vec![0; model::ROW * SLOTS];
     let [_, _, _, erred, deadlock, ..] = calls::of_check(c, &report).answered().answer;
     let (mut one, mut other) = (c.yard.clone(), c.yard.clone());
     let (told, begin) = told_check(&c.args());

@@ -4,6 +4,7 @@ use oracle::calls;
 use oracle::cases::Case;
 use oracle::gen::{self, UpdateCase};
 use oracle::layout::{put_u16, read_image, yard_of};
+use oracle::model::ROW;
 use oracle::rng::Rng;
 use oracle::yards::CheckCase;
 
@@ -54,7 +55,7 @@ pub fn large(rng: &mut Rng) -> Case {
         })
         .collect();
     let c = of_updates(rng, updates);
-    let report = vec![0xA5; 16 * slots];
+    let report = vec![0xA5; ROW * slots];
     calls::of_check(&c, &report)
 }
 

@@ -4,7 +4,7 @@ use crate::library;
 use crate::updates::Source;
 use oracle::cases::{Case, CHECK, PAGE, UPDATE};
 use oracle::layout::read_image;
-use oracle::model::LINKS;
+use oracle::model::{LINKS, ROW};
 use std::collections::BTreeMap;
 
 /// The number of cases whose answers differ, how many were refused by each number (0: by none), how updates and checks
@@ -48,7 +48,7 @@ impl Tally {
         let number = judged.answer[library::number_at(judged.op)];
         count(&mut self.refused, number);
         if judged.op == CHECK && number == 0 {
-            judged.outs[1].chunks(16).for_each(|row| count(&mut self.codes, row[0]));
+            judged.outs[1].chunks(ROW).for_each(|row| count(&mut self.codes, row[0]));
         }
         if judged.op == PAGE && number == 0 {
             self.add_lines(&judged.ins[0]);

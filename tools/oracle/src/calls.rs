@@ -5,7 +5,7 @@ use crate::demand3;
 use crate::gen::*;
 use crate::layout::*;
 use crate::leaves;
-use crate::model::LINKS;
+use crate::model::{LINKS, ROW};
 use crate::rng::Rng;
 use crate::yards::*;
 
@@ -122,7 +122,7 @@ pub fn check(rng: &mut Rng) -> Case {
         damaged_check(rng)
     } else {
         let c = odd_check(rng);
-        let len = 16 * u32_at(&c.yard, 4) as usize;
+        let len = ROW * u32_at(&c.yard, 4) as usize;
         (c, len)
     };
     of_check(&c, &vec![0xA5; report])
@@ -132,7 +132,7 @@ pub fn check(rng: &mut Rng) -> Case {
 pub fn tidy(rng: &mut Rng) -> Case {
     let (sections, trains, moves) = (rng.from(1, 6), rng.from(1, 4), rng.from(1, 25));
     match tidy_run(rng, sections, trains, moves).pop() {
-        Some(c) => of_check(&c, &vec![0xA5; 16 * trains]),
+        Some(c) => of_check(&c, &vec![0xA5; ROW * trains]),
         None => tidy(rng),
     }
 }

@@ -152,7 +152,7 @@ pub fn call_of(rng: &mut Rng, y: &Yard, premises: &Premises) -> Call {
         begin: if premises.begin && !rng.chance(2) { 1 } else { rng.from(0, s + 2) as u32 },
         local: rng.chance(50),
         limit: rng.pick(&[0, 1, 3, 20, 20, 20, 20, 20, 20, 20]),
-        report: if rng.chance(1) { 16 * s + 1 } else { 16 * s },
+        report: model::ROW * s + rng.chance(1) as usize,
     }
 }
 
@@ -209,7 +209,7 @@ fn match_answers(r: &Renumbering, a: &Answer, b: &Answer) -> bool {
     if !same || matches!(x, Checked::Refused(_)) {
         return same;
     }
-    (0..rows.len() / 16).all(|i| {
+    (0..rows.len() / model::ROW).all(|i| {
         let mut row = model::row_at(rows, i);
         row.holder = r.train(row.holder);
         let j = r.train(i as u16 + 1) as usize - 1;
@@ -237,7 +237,7 @@ fn premises_met(p: &Premises, c: &Call, a: &Answer, occ: &[u16]) -> bool {
     if matches!(x, Checked::Refused(_)) {
         return true;
     }
-    let strays = (0..rows.len() / 16).any(|i| model::row_at(rows, i).strays != 0);
+    let strays = (0..rows.len() / model::ROW).any(|i| model::row_at(rows, i).strays != 0);
     (!p.begin || *begin == 1) && (!p.entry_zero || occ[0] == 0) && (!p.strays || !strays)
 }
 

@@ -94,7 +94,8 @@ fn names(c: &Case) -> Vec<String> {
             } else {
                 format!("check  deadlock {}", ["no", "yes"][a[4] as usize])
             };
-            let rows = (0..c.outs[1].len() / 16).map(|i| slot_code(model::row_at(&c.outs[1], i).code));
+            let rows =
+                (0..c.outs[1].len() / model::ROW).map(|i| slot_code(model::row_at(&c.outs[1], i).code));
             std::iter::once(first).chain(rows).collect()
         }
         SHEET => vec![sheet_name(&c.outs[0])],
@@ -183,7 +184,7 @@ impl Figures {
     pub fn check(&mut self, c: &CheckCase, report_len: usize) {
         let case = calls::of_check(c, &vec![0xA5; report_len]).answered();
         self.see(&case);
-        let slots = case.outs[1].len() / 16;
+        let slots = case.outs[1].len() / model::ROW;
         let any_refused = (0..slots).any(|i| model::row_at(&case.outs[1], i).code > model::FAULTY);
         if case.answer[0] == 2 || any_refused {
             return;
@@ -313,7 +314,7 @@ fn step(f: &mut Figures, rng: &mut Rng) {
         }
         7..=60 => {
             let c = odd_check(rng);
-            let len = 16 * u32_at(&c.yard, 4) as usize;
+            let len = model::ROW * u32_at(&c.yard, 4) as usize;
             f.check(&c, len);
         }
         61..=80 => {
@@ -342,7 +343,7 @@ fn odd_steps(f: &mut Figures, rng: &mut Rng) {
 /// A tidy run; each slot of its checks is also updated alone, as it is and with changes.
 fn tidy_steps(f: &mut Figures, rng: &mut Rng, sections: usize, trains: usize, moves: usize) {
     for c in tidy_run(rng, sections, trains, moves) {
-        f.check(&c, 16 * trains);
+        f.check(&c, model::ROW * trains);
         c.slots().into_iter().for_each(|u| alone(f, rng, u));
     }
 }

@@ -452,6 +452,9 @@ pub enum Checked {
     Refused(Refusal),
 }
 
+/// Bytes of a record of the report.
+pub const ROW: usize = 16;
+
 /// A record of the report.
 #[derive(Debug, Clone, Copy, Default, PartialEq, Eq)]
 pub struct Row {
@@ -485,7 +488,7 @@ fn row_of(u: &Updated, moved: u16) -> Row {
 }
 
 pub fn row_at(report: &[u8], i: usize) -> Row {
-    let r = &report[16 * i..16 * i + 16];
+    let r = &report[ROW * i..][..ROW];
     Row {
         code: u16_at(r, 0),
         place: u16_at(r, 2),
@@ -497,7 +500,7 @@ pub fn row_at(report: &[u8], i: usize) -> Row {
 }
 
 fn put_row(report: &mut [u8], i: usize, x: &Row) {
-    let r = &mut report[16 * i..16 * i + 16];
+    let r = &mut report[ROW * i..][..ROW];
     for (j, n) in [x.code, x.place, x.rounds, x.holder].into_iter().enumerate() {
         put_u16(r, 2 * j, n);
     }
@@ -554,7 +557,7 @@ fn check_refusal(yard: &[u8], a: &CheckArgs, report: &[u8]) -> Result<Vec<std::o
     if a.moved as usize > s || a.begin == 0 || a.begin as usize > s + 1 {
         return Err(refusal(15));
     }
-    if report.len() != 16 * s {
+    if report.len() != ROW * s {
         return Err(refusal(16));
     }
     Ok(parts)
@@ -646,7 +649,7 @@ pub fn sheet(bytes: &[u8]) -> String {
     };
     let mut yard = bundle.yard.to_vec();
     let slots = read_yard(&yard).map_or(0, |parts| parts.len());
-    let mut report = vec![0; 16 * slots];
+    let mut report = vec![0; ROW * slots];
     let args = CheckArgs {
         occ: &bundle.occupancy,
         blocking: &bundle.blocking,

@@ -90,7 +90,8 @@ fn keys(c: &Case) -> Vec<String> {
 /// For each slot its code, alone and with the answer.
 fn check_keys(c: &Case) -> Vec<String> {
     let a = c.answer;
-    let rows: Vec<model::Row> = (0..c.outs[1].len() / 16).map(|i| model::row_at(&c.outs[1], i)).collect();
+    let rows: Vec<model::Row> =
+        (0..c.outs[1].len() / model::ROW).map(|i| model::row_at(&c.outs[1], i)).collect();
     rows.iter()
         .map(|r| format!("{} {} {} {} {}", a[0], a[3].min(3), a[4], r.code, rows.len().min(2)))
         .collect()
@@ -429,7 +430,7 @@ fn boundary_yards() -> Vec<Case> {
     let (tiny, call) = (tiny_yard, tiny_check);
     let mut cases = vec![];
     for slots in [1, 2, 63, 64] {
-        cases.push(of_check(&call(tiny(slots), 1, 1), &vec![9; 16 * slots]));
+        cases.push(of_check(&call(tiny(slots), 1, 1), &vec![9; model::ROW * slots]));
     }
     for (moved, begin) in [(0, 1), (2, 1), (3, 1), (4, 1), (1, 0), (1, 3), (1, 4), (1, 5), (1, u32::MAX)] {
         cases.push(of_check(&call(tiny(3), moved, begin), &[9; 48]));
@@ -449,7 +450,7 @@ fn boundary_yards() -> Vec<Case> {
     }
     for (l, k) in [(0, 0), (1, 0), (2, 4_000), (2, 4_001), (4_000, 0), (4_001, 0)] {
         let c = CheckCase { occ: vec![0; l], blocking: vec![1; k], ..call(tiny(1), 1, 1) };
-        cases.push(of_check(&c, &[9; 16]));
+        cases.push(of_check(&c, &[9; model::ROW]));
     }
     cases.extend(short_parts());
     cases
@@ -471,7 +472,7 @@ fn short_parts() -> Vec<Case> {
                 local: false,
                 limit: 1,
             };
-            of_check(&c, &[9; 16])
+            of_check(&c, &[9; model::ROW])
         })
         .collect()
 }
@@ -671,7 +672,7 @@ fn tidy_checks(rng: &mut Rng) -> Vec<Case> {
     for _ in 0..60 {
         let (sections, trains) = (rng.from(1, 5), rng.from(1, 3));
         for c in tidy_run(rng, sections, trains, 25) {
-            let case = of_check(&c, &vec![0xA5; 16 * trains]).answered();
+            let case = of_check(&c, &vec![0xA5; model::ROW * trains]).answered();
             by_key.offer_all(&case);
         }
     }

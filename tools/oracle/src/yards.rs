@@ -331,7 +331,7 @@ pub fn tidy_run(rng: &mut Rng, sections: usize, trains: usize, moves: usize) -> 
         let slot = rng.from(1, trains);
         let before = yard.clone();
         let Some(case) = yard.advance(rng, slot) else { continue };
-        let mut report = vec![0; 16 * trains];
+        let mut report = vec![0; model::ROW * trains];
         let checked = model::check(&mut yard.yard, &case.args(), &mut report);
         seen.push(case);
         match checked {
@@ -399,7 +399,7 @@ pub fn odd_check(rng: &mut Rng) -> CheckCase {
 pub fn damaged_check(rng: &mut Rng) -> (CheckCase, usize) {
     let mut c = odd_check(rng);
     let slots = u32_at(&c.yard, 4) as usize;
-    let mut report = 16 * slots;
+    let mut report = model::ROW * slots;
     match rng.below(10) {
         0 => c.occ.resize(rng.pick(&[0, 1, 2, 4_000, 4_001]), 0),
         1 => c.blocking.push(rng.pick(&[c.occ.len() as u32 - 1, c.occ.len() as u32, u32::MAX])),
@@ -407,7 +407,7 @@ pub fn damaged_check(rng: &mut Rng) -> (CheckCase, usize) {
         3 => c.moved = rng.pick(&[0, slots as u16, slots as u16 + 1]),
         4 => c.limit = 0,
         5 => c.begin = rng.pick(&[0, slots as u32, slots as u32 + 1, slots as u32 + 2]),
-        6 => report = rng.pick(&[0, report - 1, report + 1, report + 16]),
+        6 => report = rng.pick(&[0, report - 1, report + 1, report + model::ROW]),
         7 => put_u32(&mut c.yard, 4 * rng.below(2 + slots), rng.pick(&[0, 1, 63, 64, u32::MAX])),
         8 => {
             let part = read_yard(&c.yard).unwrap()[rng.below(slots)].clone();

@@ -7,6 +7,7 @@ mod steps;
 use crate::calls;
 use crate::gen::*;
 use crate::layout::*;
+use crate::model::ROW;
 use crate::rng::Rng;
 use crate::yards::*;
 
@@ -120,5 +121,5 @@ fn checks(rng: &mut Rng) -> CheckCase {
 
 /// A report of the right length for a yard, or none where it has no slots to count.
 fn report_of(yard: &[u8]) -> Vec<u8> {
-    vec![0xA5; read_yard(yard).map_or(0, |parts| 16 * parts.len())]
+    vec![0xA5; read_yard(yard).map_or(0, |parts| ROW * parts.len())]
 }
