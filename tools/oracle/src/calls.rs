@@ -7,6 +7,7 @@ use crate::layout::*;
 use crate::leaves;
 use crate::model::{LINKS, ROW};
 use crate::rng::Rng;
+use crate::wide_calls;
 use crate::yards::*;
 
 pub fn of_update(c: &UpdateCase) -> Case {
@@ -281,6 +282,11 @@ pub fn by_name(name: &str, rng: &mut Rng) -> Option<Case> {
         "profile" => profile(rng),
         "ceiling" => ceiling(rng),
         "yard-ceiling" => yard_ceiling(rng),
+        "mark-wide" => wide_calls::mark(rng),
+        "update-wide" => wide_calls::update(rng),
+        "check-wide" => wide_calls::check(rng),
+        "widen" => wide_calls::widen(rng),
+        "narrow" => wide_calls::narrow(rng),
         "any" => any(rng),
         _ => return None,
     })

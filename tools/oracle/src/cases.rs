@@ -4,6 +4,7 @@
 use crate::layout::*;
 use crate::leaves;
 use crate::model::{self, CheckArgs, Checked, Outcome};
+use crate::wide::{self, WideArgs};
 use crate::yards::Yard;
 
 pub const MARK: u32 = 1;
@@ -23,6 +24,11 @@ pub const PAGE: u32 = 13;
 pub const PROFILE: u32 = 14;
 pub const CEILING: u32 = 15;
 pub const YARD_CEILING: u32 = 16;
+pub const WIDE_MARK: u32 = 17;
+pub const WIDE_UPDATE: u32 = 18;
+pub const WIDE_CHECK: u32 = 19;
+pub const WIDEN: u32 = 20;
+pub const NARROW: u32 = 21;
 
 const HEAD: usize = 104;
 /// The length of an output buffer that is as its input was.
@@ -42,10 +48,11 @@ pub struct Case {
 /// The input that an output buffer was before the call: its index, by operation.
 fn before(op: u32) -> [Option<usize>; 2] {
     match op {
-        MARK => [Some(1), None],
+        MARK | WIDE_MARK => [Some(1), None],
         LAY_OUT => [Some(1), None],
-        UPDATE => [Some(0), None],
-        CHECK => [Some(0), Some(3)],
+        UPDATE | WIDE_UPDATE => [Some(0), None],
+        CHECK | WIDE_CHECK => [Some(0), Some(3)],
+        WIDEN | NARROW => [Some(1), None],
         UNION => [Some(0), None],
         PAGE => [Some(1), None],
         _ => [None, None],
@@ -104,6 +111,38 @@ impl Case {
         Case { op: YARD_CEILING, args, ins: [yard.to_vec(), vec![], vec![], vec![]], ..Case::default() }
     }
 
+    pub fn wide_mark(table: &[u8], occ: &[u32], link: u32, train: u32) -> Case {
+        let ins = [table.to_vec(), u32_bytes(occ), vec![], vec![]];
+        Case { op: WIDE_MARK, args: [link, train, 0, 0, 0, 0, 0, 0], ins, ..Case::default() }
+    }
+
+    pub fn wide_update(
+        image: &[u8],
+        occ: &[u32],
+        blocking: &[u32],
+        moved: u32,
+        local: bool,
+        limit: u16,
+    ) -> Case {
+        let ins = [image.to_vec(), u32_bytes(occ), u32_bytes(blocking), vec![]];
+        let args = [moved, local as u32, limit as u32, 0, 0, 0, 0, 0];
+        Case { op: WIDE_UPDATE, args, ins, ..Case::default() }
+    }
+
+    pub fn wide_check(yard: &[u8], a: &WideArgs, report: &[u8]) -> Case {
+        let ins = [yard.to_vec(), u32_bytes(a.occ), u32_bytes(a.blocking), report.to_vec()];
+        let args = [a.moved, a.begin, a.local as u32, a.limit as u32, 0, 0, 0, 0];
+        Case { op: WIDE_CHECK, args, ins, ..Case::default() }
+    }
+
+    pub fn widen(image: &[u8], out: &[u8]) -> Case {
+        Case { op: WIDEN, ins: [image.to_vec(), out.to_vec(), vec![], vec![]], ..Case::default() }
+    }
+
+    pub fn narrow(image: &[u8], out: &[u8]) -> Case {
+        Case { op: NARROW, ..Case::widen(image, out) }
+    }
+
     pub fn tagged(mut self, tag: u32) -> Case {
         self.tag = tag;
         self
@@ -123,6 +162,11 @@ impl Case {
             PAGE => self.answer_page(),
             PROFILE => self.put_plain(model::profile(&self.ins[0])),
             CEILING => self.put_number(model::ceiling(&self.ins[0])),
+            WIDE_MARK => self.answer_wide_mark(),
+            WIDE_UPDATE => self.answer_wide_update(),
+            WIDE_CHECK => self.answer_wide_check(),
+            WIDEN => self.answer_conversion(wide::widen),
+            NARROW => self.answer_conversion(wide::narrow),
             YARD_CEILING => self.put_number(model::yard_ceiling(&self.ins[0], self.args[0] as u16)),
             _ => leaves::answer(&mut self),
         }
@@ -177,6 +221,51 @@ impl Case {
         self.outs = [image, vec![]];
     }
 
+    fn answer_wide_mark(&mut self) {
+        let mut occ = u32s(&self.ins[1]);
+        let r = wide::mark(&self.ins[0], &mut occ, self.args[0], self.args[1]);
+        self.put_plain(r);
+        self.outs = [u32_bytes(&occ), vec![]];
+    }
+
+    fn answer_wide_update(&mut self) {
+        let a = self.args;
+        let mut image = self.ins[0].clone();
+        let (occ, blocking) = (u32s(&self.ins[1]), u32s(&self.ins[2]));
+        let u = wide::update(&mut image, &occ, &blocking, a[0], a[1] != 0, a[2] as u16);
+        let (kind, number, place, faults_or_holder) = match u.outcome {
+            Outcome::Success => (0, 0, 0, 0),
+            Outcome::Blocked => (1, 0, 0, u.holder),
+            Outcome::Faulty(n) => (2, 0, 0, n),
+            Outcome::Refused(r) => (3, r.number as u32, r.place, 0),
+        };
+        let steps = u32::try_from(u.steps).expect("steps within their ceiling");
+        self.answer = [kind, number, place, faults_or_holder, u.rounds, u.strays, steps, u.met];
+        self.line = u.line;
+        self.outs = [image, vec![]];
+    }
+
+    /// The arguments of a check over a wide occupancy.
+    pub fn wide_args<'a>(&self, occ: &'a [u32], blocking: &'a [u32]) -> WideArgs<'a> {
+        let [moved, begin, local, limit, ..] = self.args;
+        WideArgs { occ, blocking, moved, begin, local: local != 0, limit: limit as u16 }
+    }
+
+    fn answer_wide_check(&mut self) {
+        let (mut yard, mut report) = (self.ins[0].clone(), self.ins[3].clone());
+        let (occ, blocking) = (u32s(&self.ins[1]), u32s(&self.ins[2]));
+        let checked = wide::check(&mut yard, &self.wide_args(&occ, &blocking), &mut report);
+        self.put_checked(checked);
+        self.outs = [yard, report];
+    }
+
+    fn answer_conversion(&mut self, convert: fn(&[u8], &mut [u8]) -> Result<(), Refusal>) {
+        let mut out = self.ins[1].clone();
+        let r = convert(&self.ins[0], &mut out);
+        self.put_plain(r);
+        self.outs = [out, vec![]];
+    }
+
     /// The float whose low half is the argument at this place, and its high half the next.
     pub fn float(&self, at: usize) -> f64 {
         f64::from_bits(self.args[at] as u64 | (self.args[at + 1] as u64) << 32)
@@ -193,12 +282,17 @@ impl Case {
         let mut report = self.ins[3].clone();
         let (occ, blocking) = (u16s(&self.ins[1]), u32s(&self.ins[2]));
         let args = self.check_args(&occ, &blocking);
-        self.answer = match model::check(&mut yard, &args, &mut report) {
+        let checked = model::check(&mut yard, &args, &mut report);
+        self.put_checked(checked);
+        self.outs = [yard, report];
+    }
+
+    fn put_checked(&mut self, checked: Checked) {
+        self.answer = match checked {
             Checked::Done { deadlock, next } => [0, 0, 0, 0, deadlock as u32, next, 0, 0],
             Checked::Erred(n) => [1, 0, 0, n, 0, 0, 0, 0],
             Checked::Refused(r) => [2, r.number as u32, r.place, 0, 0, 0, 0, 0],
         };
-        self.outs = [yard, report];
     }
 
     /// Each call on what the call before it left.

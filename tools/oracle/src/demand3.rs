@@ -20,17 +20,18 @@ pub struct Premises {
 pub const ALL: Premises = Premises { begin: true, entry_zero: true, strays: true };
 pub const BEGIN: Premises = Premises { begin: true, entry_zero: false, strays: false };
 
-/// Links permuted within 1 to L - 1; trains 1 to S among themselves, the others turned round.
-struct Renumbering {
-    links: Vec<u32>,
-    slots: Vec<u16>,
+/// Links permuted within 1 to L - 1; trains 1 to S among themselves, the others turned round up to the largest train.
+pub struct Renumbering {
+    pub links: Vec<u32>,
+    pub slots: Vec<u32>,
     turn: u32,
+    top: u32,
 }
 
 impl Renumbering {
-    fn new(rng: &mut Rng, l: usize, s: usize) -> Self {
+    pub fn new(rng: &mut Rng, l: usize, s: usize, top: u32) -> Self {
         let mut links: Vec<u32> = (0..l as u32).collect();
-        let mut slots: Vec<u16> = (0..=s as u16).collect();
+        let mut slots: Vec<u32> = (0..=s as u32).collect();
         match rng.below(3) {
             0 => {
                 let (a, b) = (rng.from(1, l - 1), rng.from(1, l - 1));
@@ -41,21 +42,26 @@ impl Renumbering {
         if rng.chance(70) {
             rng.shuffle(&mut slots[1..]);
         }
-        let turn = if rng.chance(50) { 0 } else { rng.below(65_535 - s) as u32 };
-        Renumbering { links, slots, turn }
+        let turn = if rng.chance(50) { 0 } else { rng.below(top as usize - s) as u32 };
+        Renumbering { links, slots, turn, top }
     }
-    fn link(&self, n: u32) -> u32 {
+    pub fn link(&self, n: u32) -> u32 {
         self.links.get(n as usize).copied().unwrap_or(n)
     }
-    fn train(&self, n: u16) -> u16 {
+    /// A number above the largest train stays itself.
+    pub fn train(&self, n: u32) -> u32 {
         let s = self.slots.len() as u32 - 1;
         match self.slots.get(n as usize) {
             Some(&m) => m,
-            None => (s + 1 + (n as u32 - s - 1 + self.turn) % (65_535 - s)) as u16,
+            None if n > self.top => n,
+            None => s + 1 + (n - s - 1 + self.turn) % (self.top - s),
         }
     }
+    fn narrow(&self, n: u16) -> u16 {
+        u16::try_from(self.train(n as u32)).expect("a train of 16 bits")
+    }
 
-    fn table(&self, table: &[u8]) -> Vec<u8> {
+    pub fn table(&self, table: &[u8]) -> Vec<u8> {
         let old = read_table(table).unwrap();
         let mut new = vec![LinkRecord::default(); old.len()];
         for (i, x) in old.iter().enumerate() {
@@ -70,14 +76,14 @@ impl Renumbering {
     fn occupancy(&self, occ: &[u16]) -> Vec<u16> {
         let mut new = vec![0; occ.len()];
         for (i, &t) in occ.iter().enumerate() {
-            new[self.link(i as u32) as usize] = self.train(t);
+            new[self.link(i as u32) as usize] = self.narrow(t);
         }
         new
     }
 
     fn image(&self, image: &[u8], l: usize) -> Vec<u8> {
-        let mut t = read_image(image, l).expect("an accepted yard stays accepted");
-        t.train = self.train(t.train);
+        let mut t = read_any(image, l).expect("an accepted yard stays accepted");
+        t.train = self.narrow(t.train);
         t.est.iter_mut().for_each(|x| x.link = self.link(x.link));
         t.path.iter_mut().for_each(|x| x.link = self.link(x.link));
         t.div.iter_mut().for_each(|d| d.train = self.train(d.train));
@@ -85,11 +91,11 @@ impl Renumbering {
     }
 
     /// The images of the renumbered yard, by slot.
-    fn images(&self, yard: &[u8], l: usize) -> Vec<Vec<u8>> {
+    pub fn images(&self, yard: &[u8], l: usize) -> Vec<Vec<u8>> {
         let parts = read_yard(yard).unwrap();
         let mut images = vec![vec![]; parts.len()];
         for (i, part) in parts.into_iter().enumerate() {
-            images[self.train(i as u16 + 1) as usize - 1] = self.image(&yard[part], l);
+            images[self.train(i as u32 + 1) as usize - 1] = self.image(&yard[part], l);
         }
         images
     }
@@ -123,8 +129,28 @@ impl Call {
     }
 }
 
+/// What a call is made for: the number of links and slots, which links are held, and blocking links of a train.
+pub struct About<'a> {
+    pub l: usize,
+    pub s: usize,
+    pub held: &'a dyn Fn(usize) -> bool,
+}
+
+/// A call for a yard of any width: the blocking links are those held and some others.
+pub fn call_about(rng: &mut Rng, y: &About) -> Call {
+    call_with(rng, y, &ALL, |_| vec![])
+}
+
 pub fn call_of(rng: &mut Rng, y: &Yard, premises: &Premises) -> Call {
     let (l, s) = (y.occ.len(), y.slots());
+    let about = About { l, s, held: &|i| y.occ[i] != 0 };
+    call_with(rng, &about, premises, |rng| {
+        y.train(rng.from(1, s)).map_or(vec![], |t| odd_blocking(rng, &t, &y.occ))
+    })
+}
+
+fn call_with(rng: &mut Rng, y: &About, premises: &Premises, of_train: impl Fn(&mut Rng) -> Vec<u32>) -> Call {
+    let (l, s) = (y.l, y.s);
     if rng.chance(55) {
         let link = if rng.chance(3) { rng.pick(&[0, l as u32, u32::MAX]) } else { rng.from(1, l - 1) as u32 };
         let train = match rng.below(10) {
@@ -135,9 +161,9 @@ pub fn call_of(rng: &mut Rng, y: &Yard, premises: &Premises) -> Call {
         return Call::Mark { link, train };
     }
     let mut blocking: Vec<u32> = match rng.below(10) {
-        0 => y.train(rng.from(1, s)).map_or(vec![], |t| odd_blocking(rng, &t, &y.occ)),
+        0 => of_train(rng),
         1 if !premises.strays => vec![],
-        _ => (1..l as u32).filter(|&i| y.occ[i as usize] != 0).collect(),
+        _ => (1..l as u32).filter(|&i| (y.held)(i as usize)).collect(),
     };
     for _ in 0..rng.pick(&[0, 0, 1, 2]) {
         blocking.push(rng.below(l) as u32);
@@ -158,13 +184,13 @@ pub fn call_of(rng: &mut Rng, y: &Yard, premises: &Premises) -> Call {
 
 fn renumbered(rng: &mut Rng, r: &Renumbering, c: &Call) -> Call {
     match c {
-        Call::Mark { link, train } => Call::Mark { link: r.link(*link), train: r.train(*train) },
+        Call::Mark { link, train } => Call::Mark { link: r.link(*link), train: r.narrow(*train) },
         Call::Check { blocking, moved, begin, local, limit, report } => {
             let mut blocking: Vec<u32> = blocking.iter().map(|&b| r.link(b)).collect();
             rng.shuffle(&mut blocking);
             Call::Check {
                 blocking,
-                moved: r.train(*moved),
+                moved: r.narrow(*moved),
                 begin: *begin,
                 local: *local,
                 limit: *limit,
@@ -212,13 +238,13 @@ fn match_answers(r: &Renumbering, a: &Answer, b: &Answer) -> bool {
     (0..rows.len() / model::ROW).all(|i| {
         let mut row = model::row_at(rows, i);
         row.holder = r.train(row.holder);
-        let j = r.train(i as u16 + 1) as usize - 1;
+        let j = r.train(i as u32 + 1) as usize - 1;
         row == model::row_at(other, j) && match_updates(r, &visits[i].updated, &others[j].updated)
     })
 }
 
 /// What an update tells beside the record of its slot: the steps, the holder, the train met.
-fn match_updates(r: &Renumbering, a: &Option<Updated>, b: &Option<Updated>) -> bool {
+pub fn match_updates(r: &Renumbering, a: &Option<Updated>, b: &Option<Updated>) -> bool {
     match (a, b) {
         (Some(a), Some(b)) => a.steps == b.steps && r.train(a.holder) == b.holder && r.train(a.met) == b.met,
         _ => a.is_none() && b.is_none(),
@@ -292,7 +318,7 @@ fn list(rng: &mut Rng, p: &Premises, tally: &mut Tally) {
         false if rng.chance(50) => first.occ[0] = 5,
         _ => {}
     }
-    let r = Renumbering::new(rng, first.occ.len(), first.slots());
+    let r = Renumbering::new(rng, first.occ.len(), first.slots(), u16::MAX as u32);
     let mut second = r.yard(&first);
     tally.lists += 1;
     for _ in 0..rng.from(1, 6) {
@@ -356,9 +382,9 @@ impl Tally {
         for u in visits.iter().filter_map(|v| v.updated) {
             let blocked = u.outcome == Outcome::Blocked;
             self.blocked += blocked as u64;
-            self.others += (blocked && u.holder != *moved) as u64;
+            self.others += (blocked && u.holder != *moved as u32) as u64;
             self.met += (u.met != 0) as u64;
-            self.met_others += (u.met != 0 && u.met != *moved) as u64;
+            self.met_others += (u.met != 0 && u.met != *moved as u32) as u64;
         }
     }
 

@@ -82,6 +82,15 @@ fn names(c: &Case) -> Vec<String> {
         PROFILE => vec![done("profile", a[0])],
         CEILING => vec![done("ceiling", a[0])],
         YARD_CEILING => vec![done("yard ceiling", a[0])],
+        WIDE_MARK => vec![done("wide mark", a[0])],
+        WIDEN => vec![done("widen", a[0])],
+        NARROW => vec![done("narrow", a[0])],
+        WIDE_UPDATE if a[0] < 3 => {
+            vec![format!("wide update {}", ["success", "blocked", "faulty"][a[0] as usize])]
+        }
+        WIDE_UPDATE => vec![refused("wide update", a[1])],
+        WIDE_CHECK if a[0] == 2 => vec![refused("wide check", a[1])],
+        WIDE_CHECK => vec![["wide check not erred", "wide check erred"][a[0] as usize].into()],
         UPDATE if a[0] < 3 => vec![format!("update {}", ["success", "blocked", "faulty"][a[0] as usize])],
         UPDATE if a[1] == 11 => {
             vec![refused("update", 11), format!("{} by {}", refused("update", 11), hook::state().cause)]

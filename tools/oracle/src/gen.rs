@@ -278,10 +278,10 @@ fn diverges(rng: &mut Rng, est: &[Est], walk: &[u32], w: Odds) -> Vec<Diverge> {
             0
         };
         for _ in 0..count {
-            div.push(Diverge { train: rng.from(1, 5) as u16, node: i as u16 });
+            div.push(Diverge { train: rng.from(1, 5) as u32, node: i as u16 });
         }
     }
-    div.push(Diverge { train: rng.below(6) as u16, node: n as u16 });
+    div.push(Diverge { train: rng.below(6) as u32, node: n as u16 });
     div
 }
 
@@ -304,6 +304,7 @@ pub fn odd_train(rng: &mut Rng, e: usize, l: usize) -> Train {
     let (front, back) = (near_free(rng), near_free(rng));
     let slack = rng.pick(&[0, 0, 1, 2, 8]);
     Train {
+        wide: false,
         div_room: div.len() + slack,
         est,
         path,
@@ -403,6 +404,7 @@ pub fn twin_train(rng: &mut Rng, l: usize) -> Train {
     let path = nodes_of(rng, &est, &walk, free, l, w);
     let div = diverges(rng, &est, &walk, w);
     Train {
+        wide: false,
         div_room: div.len() + rng.pick(&[0, 1, 4, 8]),
         est,
         path,
@@ -479,6 +481,7 @@ pub fn dense_update(rng: &mut Rng, e: usize, l: usize) -> UpdateCase {
     let path = nodes_of(rng, &est, &walk, free, l, w);
     let div = diverges(rng, &est, &walk, w);
     let t = Train {
+        wide: false,
         div_room: div.len() + 30,
         est,
         path,
@@ -599,7 +602,7 @@ pub fn change(rng: &mut Rng, t: &mut Train, l: usize) {
         12 => t.dist_disp_path_search = rng.pick(&[0.0, 10.0, 1e12]),
         13 => {
             let m = rng.below(t.div.len());
-            t.div[m].train = rng.from(1, 5) as u16;
+            t.div[m].train = rng.from(1, 5) as u32;
         }
         14 => {
             if t.div.len() > 2 {
@@ -611,7 +614,7 @@ pub fn change(rng: &mut Rng, t: &mut Train, l: usize) {
             if t.div.len() < t.div_room && n > 1 {
                 let node = rng.from(1, n - 1) as u16;
                 let at = t.div.iter().position(|d| d.node > node).unwrap();
-                t.div.insert(at, Diverge { train: rng.from(1, 5) as u16, node });
+                t.div.insert(at, Diverge { train: rng.from(1, 5) as u32, node });
             }
         }
     }
@@ -644,6 +647,7 @@ fn leaving(est: Vec<Est>, walk: &[u32], step: f64, stored: Vec<Diverge>, q: usiz
     div.extend(stored);
     div.push(Diverge { train: 0, node: walk.len() as u16 });
     Train {
+        wide: false,
         path: path.collect(),
         est,
         div,
@@ -687,7 +691,7 @@ fn comb_net(depth: usize) -> Vec<Est> {
 pub fn comb(rng: &mut Rng, depth: usize, q: usize, stored: usize) -> UpdateCase {
     let walk: Vec<u32> = (0..=depth as u32 + 1).collect();
     let mut div: Vec<Diverge> = (0..stored.min(q - 2))
-        .map(|i| Diverge { train: 1_000 + i as u16, node: rng.from(1, depth + 1) as u16 })
+        .map(|i| Diverge { train: 1_000 + i as u32, node: rng.from(1, depth + 1) as u16 })
         .collect();
     div.sort_by_key(|d| d.node);
     let mut occ: Vec<u16> = (0..depth as u16 + 3).collect();
@@ -730,7 +734,7 @@ fn deposit_net() -> Vec<Est> {
 /// A train on the first alternate with `stored` trains deposited at the split:
 /// diverge lists near Q.
 pub fn deposit(rng: &mut Rng, stored: usize, q: usize) -> UpdateCase {
-    let div = (0..stored).map(|i| Diverge { train: 10 + i as u16, node: 2 }).collect();
+    let div = (0..stored).map(|i| Diverge { train: 10 + i as u32, node: 2 }).collect();
     let mut occ = vec![0u16; 4];
     for link in 1..4 {
         if rng.chance(60) {

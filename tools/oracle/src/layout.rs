@@ -42,16 +42,17 @@ pub struct Node {
     pub kind: u8,
 }
 
-/// A diverge record.
+/// A diverge record. Its train has 16 bits in a narrow image, 32 in a wide one.
 #[derive(Debug, Clone, Copy, PartialEq, Eq)]
 pub struct Diverge {
-    pub train: u16,
+    pub train: u32,
     pub node: u16,
 }
 
 /// One train: what an image holds.
 #[derive(Debug, Clone, PartialEq)]
 pub struct Train {
+    pub wide: bool,
     pub est: Vec<Est>,
     pub path: Vec<Node>,
     pub div: Vec<Diverge>,
@@ -100,8 +101,27 @@ pub fn path_offset(e: usize) -> usize {
 pub fn diverge_offset(e: usize) -> usize {
     HEADER + 2 * RECORD * e
 }
+/// Bytes of a diverge record.
+pub fn diverge_size(wide: bool) -> usize {
+    if wide {
+        8
+    } else {
+        4
+    }
+}
+/// The size of a narrow image.
 pub fn image_size(e: usize, q: usize) -> usize {
-    diverge_offset(e) + 4 * q
+    size_of_image(e, q, false)
+}
+pub fn size_of_image(e: usize, q: usize, wide: bool) -> usize {
+    diverge_offset(e) + diverge_size(wide) * q
+}
+/// The byte of a header that says whether an image is wide; the spare ones follow it.
+pub const WIDE: usize = 42;
+
+/// An image, or what stands for one in a yard, is wide exactly if this byte is 1.
+pub fn is_wide(b: &[u8]) -> bool {
+    b.get(WIDE) == Some(&1)
 }
 pub fn est_count_ok(e: usize) -> bool {
     (1..=512).contains(&e)
@@ -180,6 +200,7 @@ pub fn read_est(bytes: &[u8]) -> Option<Vec<Est>> {
 // ---- 6: header, size, type, spare byte, unused record
 
 struct Sizes {
+    wide: bool,
     e: usize,
     n: usize,
     m: usize,
@@ -192,18 +213,28 @@ fn sizes_of(b: &[u8]) -> Option<Sizes> {
     }
     let at = |i: usize| u32_at(b, 4 * i) as usize;
     let (e, n, m, q) = (at(1), at(2), at(3), at(4));
+    let wide = is_wide(b);
     let ok = est_count_ok(e)
         && (1..=e).contains(&n)
         && diverge_room_ok(q)
         && (2..=q).contains(&m)
-        && at(0) == image_size(e, q)
-        && b.len() == image_size(e, q)
+        && at(0) == size_of_image(e, q, wide)
+        && b.len() == size_of_image(e, q, wide)
         && at(5) == HEADER
         && at(6) == path_offset(e)
         && at(7) == diverge_offset(e)
         && u16_at(b, 32) != 0
-        && zeros(&b[42..48]);
-    ok.then_some(Sizes { e, n, m, q })
+        && b[WIDE] <= 1
+        && zeros(&b[WIDE + 1..48]);
+    ok.then_some(Sizes { wide, e, n, m, q })
+}
+
+/// None where a spare byte is not zero.
+fn diverge_at(r: &[u8]) -> Option<Diverge> {
+    match r.len() {
+        4 => Some(Diverge { train: u16_at(r, 0) as u32, node: u16_at(r, 2) }),
+        _ => zeros(&r[6..]).then(|| Diverge { train: u32_at(r, 0), node: u16_at(r, 4) }),
+    }
 }
 
 fn records_of(b: &[u8], s: &Sizes) -> Option<Train> {
@@ -211,14 +242,16 @@ fn records_of(b: &[u8], s: &Sizes) -> Option<Train> {
     let path_part = &b[path_offset(s.e)..diverge_offset(s.e)];
     let div_part = &b[diverge_offset(s.e)..];
     let (path_used, path_rest) = path_part.split_at(RECORD * s.n);
-    let (div_used, div_rest) = div_part.split_at(4 * s.m);
+    let record = diverge_size(s.wide);
+    let (div_used, div_rest) = div_part.split_at(record * s.m);
     if !path_used.chunks_exact(RECORD).all(node_shape_ok) || !zeros(path_rest) || !zeros(div_rest) {
         return None;
     }
     Some(Train {
+        wide: s.wide,
         est: read_est(est_part)?,
         path: path_used.chunks_exact(RECORD).map(node_at).collect(),
-        div: div_used.chunks_exact(4).map(|r| Diverge { train: u16_at(r, 0), node: u16_at(r, 2) }).collect(),
+        div: div_used.chunks_exact(record).map(diverge_at).collect::<Option<_>>()?,
         div_room: s.q,
         train: u16_at(b, 32),
         fixed: u16_at(b, 34),
@@ -366,20 +399,46 @@ fn order(t: &Train, l: usize) -> Result<(), Refusal> {
 
 // ---- images
 
-/// Reads an image for L links: 6, 7, 8, 9.
-pub fn read_image(b: &[u8], l: usize) -> Result<Train, Refusal> {
-    let t = sizes_of(b).and_then(|s| records_of(b, &s)).ok_or(refusal(6))?;
-    values(&t, l)?;
+/// The largest train of a wide image and of the occupancy beside it.
+pub const MOST_TRAIN: u32 = 999_999;
+
+/// What is laid out as an image, wide or narrow: 6.
+pub fn laid_out(b: &[u8]) -> Result<Train, Refusal> {
+    sizes_of(b).and_then(|s| records_of(b, &s)).ok_or(refusal(6))
+}
+
+/// 7, then 22 of a diverge record's train, 8, 9.
+pub fn judged(t: &Train, l: usize) -> Result<(), Refusal> {
+    values(t, l)?;
+    if let Some(i) = t.div.iter().position(|d| d.train > MOST_TRAIN) {
+        return Err(refusal_at(22, i));
+    }
     cycles(&t.est)?;
-    order(&t, l)?;
+    order(t, l)
+}
+
+/// Reads an image of either width for L links: 6, 7, 22, 8, 9.
+pub fn read_any(b: &[u8], l: usize) -> Result<Train, Refusal> {
+    let t = laid_out(b)?;
+    judged(&t, l)?;
     Ok(t)
+}
+
+/// Reads a narrow image for L links: 6, 7, 8, 9.
+pub fn read_image(b: &[u8], l: usize) -> Result<Train, Refusal> {
+    if is_wide(b) {
+        return Err(refusal(6));
+    }
+    read_any(b, l)
 }
 
 /// Writes an image into a buffer of its size.
 pub fn write_image(t: &Train, b: &mut [u8]) {
     let e = t.est.len();
-    assert!(t.path.len() <= e && t.div.len() <= t.div_room && b.len() == image_size(e, t.div_room));
+    let size = size_of_image(e, t.div_room, t.wide);
+    assert!(t.path.len() <= e && t.div.len() <= t.div_room && b.len() == size);
     b.fill(0);
+    b[WIDE] = t.wide as u8;
     let head = [b.len(), e, t.path.len(), t.div.len(), t.div_room, HEADER, path_offset(e), diverge_offset(e)];
     for (i, n) in head.into_iter().enumerate() {
         put_u32(b, 4 * i, n as u32);
@@ -395,14 +454,20 @@ pub fn write_image(t: &Train, b: &mut [u8]) {
     for (i, x) in t.path.iter().enumerate() {
         put_node(&mut b[path_offset(e) + RECORD * i..][..RECORD], x);
     }
-    for (i, d) in t.div.iter().enumerate() {
-        put_u16(b, diverge_offset(e) + 4 * i, d.train);
-        put_u16(b, diverge_offset(e) + 4 * i + 2, d.node);
+    let records = b[diverge_offset(e)..].chunks_exact_mut(diverge_size(t.wide));
+    for (r, d) in records.zip(&t.div) {
+        if t.wide {
+            put_u32(r, 0, d.train);
+            put_u16(r, 4, d.node);
+        } else {
+            put_u16(r, 0, u16::try_from(d.train).expect("a train of 16 bits"));
+            put_u16(r, 2, d.node);
+        }
     }
 }
 
 pub fn image_of(t: &Train) -> Vec<u8> {
-    let mut b = vec![0; image_size(t.est.len(), t.div_room)];
+    let mut b = vec![0; size_of_image(t.est.len(), t.div_room, t.wide)];
     write_image(t, &mut b);
     b
 }

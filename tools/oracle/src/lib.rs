@@ -19,4 +19,6 @@ pub mod shims;
 pub mod sums;
 pub mod text;
 pub mod trials;
+pub mod wide;
+pub mod wide_calls;
 pub mod yards;

@@ -74,7 +74,7 @@ macro_rules! edition {
                     .div
                     .iter()
                     .map(|x| DivergeNode {
-                        train_idx: train_idx(x.train),
+                        train_idx: train_idx(u16::try_from(x.train).expect("a train of 16 bits")),
                         disp_node_idx: NonZeroU16::new(x.node),
                     })
                     .collect(),
@@ -109,7 +109,7 @@ macro_rules! edition {
             t.div.extend(
                 d.div_nodes
                     .iter()
-                    .map(|x| Diverge { train: number(x.train_idx), node: number(x.disp_node_idx) }),
+                    .map(|x| Diverge { train: number(x.train_idx) as u32, node: number(x.disp_node_idx) }),
             );
             t.fixed = number(d.disp_node_idx_fixed);
             t.free = number(d.disp_node_idx_free);
@@ -272,6 +272,7 @@ fn laid_out(est: Vec<Est>, train: u16, search: f64, fixed_max: f64, div_room: us
     .ok()
     .expect("a train with a number is made");
     let mut t = Train {
+        wide: false,
         est,
         path: vec![],
         div: vec![],
@@ -307,18 +308,18 @@ pub struct Updated {
     /// Entries into the search loop.
     pub steps: u64,
     /// Who holds a blocked train; 0 in every other answer.
-    pub holder: u16,
+    pub holder: u32,
     /// The train that was met; 0 in a refused answer.
-    pub met: u16,
+    pub met: u32,
     pub line: u32,
 }
 
-fn refused(r: Refusal) -> Updated {
+pub fn refused(r: Refusal) -> Updated {
     Updated { outcome: Outcome::Refused(r), rounds: 0, strays: 0, steps: 0, holder: 0, met: 0, line: 0 }
 }
 
 /// Arguments of update and check: 2, 4, 5.
-fn arguments(l: usize, blocking: &[u32], moved: u16, limit: u16) -> Result<(), Refusal> {
+pub fn arguments(l: usize, blocking: &[u32], moved: u32, limit: u16) -> Result<(), Refusal> {
     if !link_count_ok(l) {
         return Err(refusal(2));
     }
@@ -339,7 +340,7 @@ pub fn update(
     local: bool,
     limit: u16,
 ) -> Updated {
-    if let Err(r) = arguments(occ.len(), blocking, moved, limit) {
+    if let Err(r) = arguments(occ.len(), blocking, moved as u32, limit) {
         return refused(r);
     }
     let mut t = match read_image(image, occ.len()) {
@@ -386,8 +387,20 @@ fn update_train(
     });
     let (outcome, line) = run_hooked(t, occ, &links(blocking), moved, local);
     let (rounds, strays) = hook::rounds_and_strays();
-    let met = if matches!(outcome, Outcome::Refused(_)) { 0 } else { hook::met() };
-    Updated { outcome, rounds, strays, steps: hook::steps(), holder: hook::holder(), met, line }
+    let met = if matches!(outcome, Outcome::Refused(_)) { 0 } else { hook::met() as u32 };
+    Updated { outcome, rounds, strays, steps: hook::steps(), holder: hook::holder() as u32, met, line }
+}
+
+/// The same over an occupancy as it is lent.
+pub fn update_accepted(
+    t: &mut Train,
+    occ: &[u16],
+    blocking: &[u32],
+    moved: u16,
+    local: bool,
+    limit: u16,
+) -> Updated {
+    update_train(t, &trains(occ), blocking, moved, local, limit)
 }
 
 /// Reads the image, runs the plain text and writes: no hooks, no limit. For the
@@ -461,7 +474,7 @@ pub struct Row {
     pub code: u16,
     pub place: u16,
     pub rounds: u16,
-    pub holder: u16,
+    pub holder: u32,
     pub strays: u32,
     pub faults: u32,
 }
@@ -473,11 +486,11 @@ pub const BLOCKED: u16 = 4;
 pub const FAULTY: u16 = 5;
 pub const REFUSED: u16 = 16;
 
-fn row_refused(r: Refusal) -> Row {
+pub fn row_refused(r: Refusal) -> Row {
     Row { code: REFUSED + r.number as u16, place: r.place as u16, ..Row::default() }
 }
 
-fn row_of(u: &Updated, moved: u16) -> Row {
+pub fn row_of(u: &Updated, moved: u32) -> Row {
     let row = match u.outcome {
         Outcome::Success => Row { code: SUCCESS, ..Row::default() },
         Outcome::Blocked => Row { code: BLOCKED, holder: moved, ..Row::default() },
@@ -493,15 +506,16 @@ pub fn row_at(report: &[u8], i: usize) -> Row {
         code: u16_at(r, 0),
         place: u16_at(r, 2),
         rounds: u16_at(r, 4),
-        holder: u16_at(r, 6),
+        holder: u16_at(r, 6) as u32,
         strays: u32_at(r, 8),
         faults: u32_at(r, 12),
     }
 }
 
-fn put_row(report: &mut [u8], i: usize, x: &Row) {
+pub fn put_row(report: &mut [u8], i: usize, x: &Row) {
     let r = &mut report[ROW * i..][..ROW];
-    for (j, n) in [x.code, x.place, x.rounds, x.holder].into_iter().enumerate() {
+    let holder = u16::try_from(x.holder).expect("a train of 16 bits");
+    for (j, n) in [x.code, x.place, x.rounds, holder].into_iter().enumerate() {
         put_u16(r, 2 * j, n);
     }
     put_u32(r, 8, x.strays);
@@ -527,7 +541,7 @@ pub struct Visit {
 }
 
 impl Visit {
-    fn of(row: Row) -> Visit {
+    pub fn of(row: Row) -> Visit {
         Visit { row, updated: None }
     }
 }
@@ -547,11 +561,11 @@ fn check_slot(image: &mut [u8], slot: usize, a: &CheckArgs, occ: &[TrainIdx]) ->
     if !matches!(u.outcome, Outcome::Refused(_)) {
         write_image(&t, image);
     }
-    Visit { row: row_of(&u, a.moved), updated: Some(u) }
+    Visit { row: row_of(&u, a.moved as u32), updated: Some(u) }
 }
 
 fn check_refusal(yard: &[u8], a: &CheckArgs, report: &[u8]) -> Result<Vec<std::ops::Range<usize>>, Refusal> {
-    arguments(a.occ.len(), a.blocking, a.moved, a.limit)?;
+    arguments(a.occ.len(), a.blocking, a.moved as u32, a.limit)?;
     let parts = read_yard(yard).ok_or(refusal(14))?;
     let s = parts.len();
     if a.moved as usize > s || a.begin == 0 || a.begin as usize > s + 1 {
@@ -592,7 +606,7 @@ pub fn check_visits(yard: &mut [u8], a: &CheckArgs, report: &mut [u8]) -> (Check
     (answer_of(&rows, begin), visits)
 }
 
-fn answer_of(rows: &[Row], begin: usize) -> Checked {
+pub fn answer_of(rows: &[Row], begin: usize) -> Checked {
     let bad = rows.iter().filter(|r| r.code >= FAULTY).count();
     if bad > 0 {
         return Checked::Erred(bad as u32);

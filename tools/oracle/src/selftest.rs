@@ -5,6 +5,7 @@ use crate::model;
 use crate::shims::{utils, IntSet};
 use crate::text::plain::free_path::{concat_train_idx_views, LinkOptType};
 use crate::text::structs::*;
+use crate::wide;
 use std::num::NonZeroU16;
 
 fn class(list: &[u32], path: &[u32]) -> String {
@@ -132,6 +133,37 @@ fn yard_ceiling(limit: u16) -> String {
     ceiling(model::yard_ceiling(&yard_of(&[siding_train()]), limit))
 }
 
+fn widened(image: &[u8]) -> Vec<u8> {
+    let mut out = vec![0; size_of_image(5, 4, true)];
+    wide::widen(image, &mut out).unwrap();
+    out
+}
+
+/// The siding's train as a wide image, this train at its inner diverge node.
+fn wide_train(train: u32) -> Vec<u8> {
+    let mut t = read_image(&siding_train(), 4).unwrap();
+    t.wide = true;
+    t.div.insert(1, Diverge { train, node: 1 });
+    image_of(&t)
+}
+
+fn told(r: Result<(), Refusal>) -> String {
+    r.map_or_else(|r| format!("refused {} at {}", r.number, r.place), |()| "done".into())
+}
+
+fn narrowed(train: u32) -> String {
+    told(wide::narrow(&wide_train(train), &mut vec![0; image_size(5, 4)]))
+}
+
+/// Who holds the siding's train where two others stand on both ways; the image wide or narrow.
+fn wide_held(image: &mut [u8], first: u32, second: u32) -> String {
+    let u = wide::update(image, &[0, first, second, 0], &[1, 2], 2, false, 5);
+    match u.outcome {
+        model::Outcome::Refused(r) => format!("refused {} at {}", r.number, r.place),
+        _ => u.holder.to_string(),
+    }
+}
+
 /// Each example with its value and what document 01 or a change request says.
 fn examples() -> Vec<(&'static str, String, &'static str)> {
     let near = |a: f64, b: f64| if utils::near(a, b) { "yes" } else { "no" }.to_string();
@@ -167,6 +199,13 @@ fn examples() -> Vec<(&'static str, String, &'static str)> {
         ("Q-3", held([0, 7, 9, 0]), "9"),
         ("Q-3", held([0, 2, 2, 0]), "2"),
         ("Q-3", held([0, 2, 0, 0]), "0"),
+        ("Q-6", narrowed(65_535), "done"),
+        ("Q-6", narrowed(65_536), "refused 23 at 0"),
+        ("Q-6", narrowed(1_000_000), "refused 22 at 1"),
+        ("Q-6", wide_held(&mut siding_train(), 7, 65_535), "65535"),
+        ("Q-6", wide_held(&mut siding_train(), 7, 65_536), "refused 22 at 0"),
+        ("Q-6", wide_held(&mut widened(&siding_train()), 7, 999_999), "999999"),
+        ("Q-6", wide_held(&mut widened(&siding_train()), 7, 1_000_000), "refused 22 at 0"),
         ("Q-14", siding([0, 7, 0, 0]).met.to_string(), "7"),
         ("Q-14", siding([0, 0, 7, 0]).met.to_string(), "0"),
         ("Q-9", siding([0, 2, 0, 0]).steps.to_string(), "3"),

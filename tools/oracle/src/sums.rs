@@ -45,6 +45,19 @@ fn update(c: &Case) -> String {
     format!("{status} rounds {rounds} strays {strays} image {}{}", sum_of(&c.outs[0]), image_fault(c))
 }
 
+/// All eight numbers; the image is not judged by itself.
+fn wide_update(c: &Case) -> String {
+    let [kind, number, place, faults_or_holder, rounds, strays, steps, met] = c.answer;
+    let status = match kind {
+        0 => "success".into(),
+        1 => format!("blocked by {faults_or_holder}"),
+        2 => format!("faulty {faults_or_holder}"),
+        _ => refused(number, place),
+    };
+    let counts = format!("rounds {rounds} strays {strays} steps {steps} met {met}");
+    format!("{status} {counts} image {}", sum_of(&c.outs[0]))
+}
+
 fn check(c: &Case) -> String {
     let [kind, number, place, erred, deadlock, next, ..] = c.answer;
     let answer = match kind {
@@ -67,10 +80,12 @@ fn leaf(c: &Case) -> String {
 pub fn words(c: &Case) -> String {
     let [number, place, ..] = c.answer;
     match c.op {
-        MARK => format!("{} occupancy {}", fault(number, place), sum_of(&c.outs[0])),
+        MARK | WIDE_MARK => format!("{} occupancy {}", fault(number, place), sum_of(&c.outs[0])),
         LAY_OUT => format!("{} image {}", fault(number, place), sum_of(&c.outs[0])),
         UPDATE => update(c),
-        CHECK => check(c),
+        CHECK | WIDE_CHECK => check(c),
+        WIDE_UPDATE => wide_update(c),
+        WIDEN | NARROW => format!("{} image {}", fault(number, place), sum_of(&c.outs[0])),
         SHEET => format!("sheet {}", sum_of(&c.outs[0])),
         PAGE => format!("{} page {}", fault(number, place), sum_of(&c.outs[0])),
         PROFILE => fault(number, place),

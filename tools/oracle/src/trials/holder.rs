@@ -35,18 +35,18 @@ impl Holders {
         self.failed.unless("a holder is a train", u.holder != 0, told);
         self.failed.unless(
             "the last node's view is the last given",
-            u.holder == hook::state().last_blocked,
+            u.holder == hook::state().last_blocked as u32,
             told,
         );
-        self.others += (u.holder != c.moved) as u64;
+        self.others += (u.holder != c.moved as u32) as u64;
         self.failed.unless("a holder is about", known(c, u.holder), told);
     }
 }
 
 /// Does this train hold a link, or stand among the diverge nodes of the image?
-fn known(c: &UpdateCase, train: u16) -> bool {
+fn known(c: &UpdateCase, train: u32) -> bool {
     let stored = |t: Train| t.div.iter().any(|d| d.train == train);
-    c.occ.contains(&train) || read_image(&c.image, c.occ.len()).is_ok_and(stored)
+    c.occ.iter().any(|&t| t as u32 == train) || read_image(&c.image, c.occ.len()).is_ok_and(stored)
 }
 
 pub fn run(seed: u64, count: u64) -> bool {

@@ -50,8 +50,9 @@ fn meeting(t: &Train, c: &UpdateCase) -> Option<usize> {
     }
     // the first diverge node of the moved train; the last one, at N, is made one
     let last = t.div.len() - 1;
-    let straighten =
-        (1..=last).find(|&i| i == last || t.div[i].train == c.moved).map(|i| t.div[i].node as usize)?;
+    let straighten = (1..=last)
+        .find(|&i| i == last || t.div[i].train == c.moved as u32)
+        .map(|i| t.div[i].node as usize)?;
     let from = 1.max((t.free as usize).min(straighten));
     (from..straighten).find(|&i| {
         let link = if t.path[i].kind == ARRIVE { t.path[i].link } else { 0 };
@@ -80,9 +81,9 @@ impl Met {
         let at = meeting(&t, c);
         let link = |i: usize| if t.path[i].kind == ARRIVE { t.path[i].link as usize } else { 0 };
         let train = at.map_or(0, |i| c.occ[link(i)]);
-        self.failed.unless("the walk meets the same train", train == u.met, told);
+        self.failed.unless("the walk meets the same train", train as u32 == u.met, told);
         self.met += (u.met != 0) as u64;
-        self.others += (u.met != 0 && u.met != c.moved) as u64;
+        self.others += (u.met != 0 && u.met != c.moved as u32) as u64;
         self.empty += at.is_some_and(|i| c.occ[link(i)] == 0) as u64;
         self.at_no_arrive += at.is_some_and(|i| t.path[i].kind != ARRIVE) as u64;
     }
