@@ -19,6 +19,7 @@ pub mod shims;
 pub mod sums;
 pub mod text;
 pub mod trials;
+pub mod undo;
 pub mod wide;
 pub mod wide_calls;
 pub mod yards;
