@@ -13,6 +13,7 @@ pub mod layout;
 pub mod leaves;
 pub mod model;
 pub mod record;
+pub mod replay;
 pub mod rng;
 pub mod selftest;
 pub mod shims;

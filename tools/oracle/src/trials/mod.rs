@@ -2,6 +2,7 @@
 
 mod holder;
 mod met;
+mod replay;
 mod steps;
 mod undo;
 mod wide;
@@ -14,8 +15,14 @@ use crate::rng::Rng;
 use crate::yards::*;
 
 /// The requests with their trials, each of which takes a seed and a number of calls and is true where every claim held.
-const TRIALS: [(&str, fn(u64, u64) -> bool); 5] =
-    [("Q-3", holder::run), ("Q-5", undo::run), ("Q-6", wide::run), ("Q-9", steps::run), ("Q-14", met::run)];
+const TRIALS: &[(&str, fn(u64, u64) -> bool)] = &[
+    ("Q-2", replay::run),
+    ("Q-3", holder::run),
+    ("Q-5", undo::run),
+    ("Q-6", wide::run),
+    ("Q-9", steps::run),
+    ("Q-14", met::run),
+];
 
 /// None where there is no trial of this name.
 pub fn run(request: &str, seed: u64, count: u64) -> Option<bool> {
