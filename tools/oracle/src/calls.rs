@@ -285,6 +285,7 @@ pub fn by_name(name: &str, rng: &mut Rng) -> Option<Case> {
         "mark-wide" => wide_calls::mark(rng),
         "update-wide" => wide_calls::update(rng),
         "check-wide" => wide_calls::check(rng),
+        "game" => wide_calls::game(rng),
         "widen" => wide_calls::widen(rng),
         "narrow" => wide_calls::narrow(rng),
         "any" => any(rng),

@@ -1,6 +1,7 @@
 //! Cases as bytes: arguments, input buffers and the answer of one call.
 //! README.md describes the format.
 
+use crate::game::{closer_can_force, Game};
 use crate::layout::*;
 use crate::leaves;
 use crate::model::{self, CheckArgs, Checked, Outcome};
@@ -29,6 +30,7 @@ pub const WIDE_UPDATE: u32 = 18;
 pub const WIDE_CHECK: u32 = 19;
 pub const WIDEN: u32 = 20;
 pub const NARROW: u32 = 21;
+pub const GAME: u32 = 22;
 
 const HEAD: usize = 104;
 /// The length of an output buffer that is as its input was.
@@ -143,6 +145,12 @@ impl Case {
         Case { op: NARROW, ..Case::widen(image, out) }
     }
 
+    pub fn game(image: &[u8], g: &Game) -> Case {
+        let ins = [image.to_vec(), u32_bytes(g.occ), u32_bytes(g.links), vec![]];
+        let args = [g.moved, g.local as u32, g.limit as u32, g.turns, 0, 0, 0, 0];
+        Case { op: GAME, args, ins, ..Case::default() }
+    }
+
     pub fn tagged(mut self, tag: u32) -> Case {
         self.tag = tag;
         self
@@ -165,6 +173,7 @@ impl Case {
             WIDE_MARK => self.answer_wide_mark(),
             WIDE_UPDATE => self.answer_wide_update(),
             WIDE_CHECK => self.answer_wide_check(),
+            GAME => self.answer_game(),
             WIDEN => self.answer_conversion(wide::widen),
             NARROW => self.answer_conversion(wide::narrow),
             YARD_CEILING => self.put_number(model::yard_ceiling(&self.ins[0], self.args[0] as u16)),
@@ -257,6 +266,15 @@ impl Case {
         let checked = wide::check(&mut yard, &self.wide_args(&occ, &blocking), &mut report);
         self.put_checked(checked);
         self.outs = [yard, report];
+    }
+
+    fn answer_game(&mut self) {
+        let [moved, local, limit, turns, ..] = self.args;
+        let (occ, links) = (u32s(&self.ins[1]), u32s(&self.ins[2]));
+        let (local, limit) = (local != 0, limit as u16);
+        let r =
+            closer_can_force(&self.ins[0], &Game { occ: &occ, moved, local, limit, links: &links, turns });
+        self.put_number(r.map(u64::from));
     }
 
     fn answer_conversion(&mut self, convert: fn(&[u8], &mut [u8]) -> Result<(), Refusal>) {

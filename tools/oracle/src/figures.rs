@@ -83,6 +83,8 @@ fn names(c: &Case) -> Vec<String> {
         CEILING => vec![done("ceiling", a[0])],
         YARD_CEILING => vec![done("yard ceiling", a[0])],
         WIDE_MARK => vec![done("wide mark", a[0])],
+        GAME if a[0] == 0 => vec![["game   no", "game   yes"][a[2] as usize].into()],
+        GAME => vec![refused("game", a[0])],
         WIDEN => vec![done("widen", a[0])],
         NARROW => vec![done("narrow", a[0])],
         WIDE_UPDATE if a[0] < 3 => {

@@ -7,6 +7,7 @@ pub mod calls;
 pub mod cases;
 pub mod demand3;
 pub mod figures;
+pub mod game;
 pub mod gen;
 pub mod hook;
 pub mod layout;

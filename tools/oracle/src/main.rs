@@ -16,7 +16,7 @@ const USAGE: &str = "usage:
   oracle summary < CASES                  counts of answers, sites and branches
   oracle generate KIND SEED COUNT > CASES KIND: mark, layout, update, large, check, tidy, sheet, list, leaf, page, profile,
                                           ceiling, yard-ceiling, mark-wide, update-wide, check-wide,
-                                          widen, narrow, any
+                                          widen, narrow, game, any
   oracle record SEED > CASES              the recorded list
   oracle fuzz SEED UPDATES                plain text against hooked text, and counts
   oracle demand3 SEED LISTS [PREMISE]     PREMISE left out: begin, entry0, strays

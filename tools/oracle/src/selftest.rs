@@ -1,5 +1,6 @@
 //! Document 01's examples, run on the original text, and those of the change requests.
 
+use crate::game::{closer_can_force, Game};
 use crate::layout::*;
 use crate::model;
 use crate::shims::{utils, IntSet};
@@ -164,6 +165,15 @@ fn wide_held(image: &mut [u8], first: u32, second: u32) -> String {
     }
 }
 
+/// The siding's train, its links all open, against a closer of links 1 to 3.
+fn game(links: &[u32], turns: u32) -> String {
+    let g = Game { occ: &[0; 4], moved: 2, local: false, limit: 5, links, turns };
+    match closer_can_force(&siding_train(), &g) {
+        Ok(yes) => if yes { "yes" } else { "no" }.into(),
+        Err(r) => format!("refused {}", r.number),
+    }
+}
+
 /// Each example with its value and what document 01 or a change request says.
 fn examples() -> Vec<(&'static str, String, &'static str)> {
     let near = |a: f64, b: f64| if utils::near(a, b) { "yes" } else { "no" }.to_string();
@@ -206,6 +216,11 @@ fn examples() -> Vec<(&'static str, String, &'static str)> {
         ("Q-6", wide_held(&mut siding_train(), 7, 65_536), "refused 22 at 0"),
         ("Q-6", wide_held(&mut widened(&siding_train()), 7, 999_999), "999999"),
         ("Q-6", wide_held(&mut widened(&siding_train()), 7, 1_000_000), "refused 22 at 0"),
+        ("Q-12", game(&[1, 2, 3], 1), "no"),
+        ("Q-12", game(&[1, 2, 3], 2), "yes"),
+        ("Q-12", game(&[], 0), "no"),
+        ("Q-12", game(&[1, 1], 1), "refused 28"),
+        ("Q-12", game(&[1, 2, 3], 7), "refused 28"),
         ("Q-14", siding([0, 7, 0, 0]).met.to_string(), "7"),
         ("Q-14", siding([0, 0, 7, 0]).met.to_string(), "0"),
         ("Q-9", siding([0, 2, 0, 0]).steps.to_string(), "3"),

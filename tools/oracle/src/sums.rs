@@ -89,6 +89,8 @@ pub fn words(c: &Case) -> String {
         SHEET => format!("sheet {}", sum_of(&c.outs[0])),
         PAGE => format!("{} page {}", fault(number, place), sum_of(&c.outs[0])),
         PROFILE => fault(number, place),
+        GAME if number != 0 => refused(number, place),
+        GAME => ["closer can force it no", "closer can force it yes"][c.answer[2] as usize].into(),
         CEILING | YARD_CEILING if number != 0 => refused(number, place),
         CEILING | YARD_CEILING => format!("ceiling {}", c.answer[2] as u64 | (c.answer[3] as u64) << 32),
         LIST => c.calls().iter().fold("list".into(), |s, call| format!("{s}\n{}", words(call))),

@@ -2,6 +2,7 @@
 
 use crate::calls::{self, wrong_arguments};
 use crate::cases::Case;
+use crate::game::Game;
 use crate::gen::*;
 use crate::layout::*;
 use crate::rng::Rng;
@@ -239,4 +240,68 @@ pub fn widen(rng: &mut Rng) -> Case {
 pub fn narrow(rng: &mut Rng) -> Case {
     let (image, out) = conversion(rng, true);
     Case::narrow(&image, &out)
+}
+
+/// The arguments of one game.
+#[derive(Clone, Debug)]
+pub struct GameCase {
+    pub image: Vec<u8>,
+    pub occ: Vec<u32>,
+    pub moved: u32,
+    pub local: bool,
+    pub limit: u16,
+    pub links: Vec<u32>,
+    pub turns: u32,
+}
+
+impl GameCase {
+    pub fn game(&self) -> Game<'_> {
+        let GameCase { occ, links, .. } = self;
+        Game { occ, moved: self.moved, local: self.local, limit: self.limit, links, turns: self.turns }
+    }
+}
+
+/// A game over a train of any generator, of either width, some with arguments that are refused.
+pub fn game_case(rng: &mut Rng) -> GameCase {
+    let c = calls::some_train(rng);
+    let (wide, l) = (rng.chance(40), c.occ.len());
+    let turn = Turn::new(rng, 0, if wide { MOST_TRAIN } else { NARROW_TRAIN });
+    let (mut image, mut occ) = (turn.image(&c.image, wide), turn.all(&c.occ));
+    let links = some_links(rng, &c.image, l);
+    let turns = rng.pick(&[0, 1, 1, 2, 2, 3, 6, 7]);
+    let moved = if rng.chance(1) { 0 } else { turn.train(c.moved as u32) };
+    if rng.chance(3) {
+        image = damaged_wide(rng, &image);
+    }
+    if rng.chance(1) {
+        occ[rng.below(l)] = beside_top(rng);
+    }
+    GameCase { image, occ, moved, local: c.local, limit: c.limit, links, turns }
+}
+
+pub fn game(rng: &mut Rng) -> Case {
+    let c = game_case(rng);
+    Case::game(&c.image, &c.game())
+}
+
+/// Links that the train may arrive at, and some others; now and then a list that 28 refuses.
+fn some_links(rng: &mut Rng, image: &[u8], l: usize) -> Vec<u32> {
+    let mut about: Vec<u32> = match laid_out(image) {
+        Ok(t) => t.est.iter().filter(|x| x.kind == ARRIVE && (x.link as usize) < l).map(|x| x.link).collect(),
+        Err(_) => vec![],
+    };
+    about.extend((1..l as u32).take(3));
+    about.sort_unstable();
+    about.dedup();
+    rng.shuffle(&mut about);
+    let n = rng.pick(&[0, 1, 2, 2, 3, 3, 3, 4, 5, 8]);
+    about.truncate(n);
+    match rng.below(60) {
+        0 => about.push(0),
+        1 => about.push(l as u32),
+        2 => about.extend(about.first().copied()),
+        3 => about = (1..=9).collect(),
+        _ => {}
+    }
+    about
 }
