@@ -10,6 +10,7 @@ pub mod figures;
 pub mod game;
 pub mod gen;
 pub mod hook;
+pub mod index;
 pub mod layout;
 pub mod leaves;
 pub mod model;

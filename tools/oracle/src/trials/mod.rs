@@ -2,6 +2,7 @@
 
 mod game;
 mod holder;
+mod index;
 mod met;
 mod replay;
 mod steps;
@@ -22,6 +23,7 @@ const TRIALS: &[(&str, fn(u64, u64) -> bool)] = &[
     ("Q-5", undo::run),
     ("Q-6", wide::run),
     ("Q-9", steps::run),
+    ("Q-10", index::run),
     ("Q-12", game::run),
     ("Q-14", met::run),
 ];
