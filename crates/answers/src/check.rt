@@ -97,7 +97,7 @@ fn print_answer(
     let local = 0 < case::argument(head, 2);
     let limit = (case::argument(head, 3) % 65536) as u16;
     match check::check_deadlock(yard, occ, blocking, moved, begin, local, limit, report) {
-        Answer::Refused(r) => print::refused(r.number, r.place),
+        Answer::Refused(r) => print::refused(r),
         Answer::Erred(n) => print::number(b"erred ", n as u64),
         Answer::Done { deadlock, next } => print_done(deadlock, next),
     }

@@ -5,6 +5,7 @@ use disp_structs::Metres;
 use disp_structs::floats;
 use link_rules::link_idx::NarrowTrainIdx;
 use link_rules::refusal::Answer;
+use link_rules::refusal::Refusal;
 use train_disp::Order;
 
 pub(crate) fn answer(head: &[u8], body: &[u8], sums: bool) -> bool {
@@ -26,13 +27,20 @@ fn answer_in(head: &[u8], body: &[u8], image: &mut [u8], sums: bool) -> bool {
         links: case::argument(head, 2),
     };
     match train_disp::lay_out(case::first_input(head, body), order, image) {
-        Answer::Done => print_laid(0, 0, image, sums),
-        Answer::Refused(r) => print_laid(r.number, r.place, image, sums),
+        Answer::Done => print_laid(
+            Refusal {
+                number: 0,
+                place: 0,
+            },
+            image,
+            sums,
+        ),
+        Answer::Refused(r) => print_laid(r, image, sums),
     }
 }
 
-fn print_laid(number: u16, place: u16, image: &[u8], sums: bool) -> bool {
-    if !print::fault(number, place) {
+fn print_laid(f: Refusal, image: &[u8], sums: bool) -> bool {
+    if !print::fault(f) {
         return false;
     }
     if sums {

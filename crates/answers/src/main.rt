@@ -201,7 +201,7 @@ fn answer(head: &[u8], body: &[u8], sums: bool) -> bool {
 // The training track profile, of which nothing is left but its answer.
 fn answer_profile(head: &[u8], body: &[u8]) -> bool {
     let f = track_profile::profile_fault(case::first_input(head, body));
-    if print::fault(f.number, f.place) {
+    if print::fault(f) {
         return print::end();
     }
     false

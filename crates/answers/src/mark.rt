@@ -5,6 +5,7 @@ use link_rules::advance_rewind;
 use link_rules::link_idx::LinkIdx;
 use link_rules::link_idx::NarrowTrainIdx;
 use link_rules::refusal::Answer;
+use link_rules::refusal::Refusal;
 
 pub(crate) fn answer(head: &[u8], body: &[u8], sums: bool) -> bool {
     let mut room = case::no_trains();
@@ -26,7 +27,7 @@ pub(crate) fn answer_from(head: &[u8], table: &[u8], occupancy: &mut [u16], sums
     let train = NarrowTrainIdx((case::argument(head, 1) % 65536) as u16);
     match advance_rewind::update_links_blocked(table, occupancy, link, train) {
         Answer::Done => print_done(occupancy, sums),
-        Answer::Refused(r) => print_refused(r.number, r.place, occupancy, sums),
+        Answer::Refused(r) => print_refused(r, occupancy, sums),
     }
 }
 
@@ -49,8 +50,8 @@ fn print_done(occupancy: &[u16], sums: bool) -> bool {
     false
 }
 
-fn print_refused(number: u16, place: u16, occupancy: &[u16], sums: bool) -> bool {
-    if !print::refused(number, place) {
+fn print_refused(f: Refusal, occupancy: &[u16], sums: bool) -> bool {
+    if !print::refused(f) {
         return false;
     }
     if sums {

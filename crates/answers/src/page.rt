@@ -2,6 +2,7 @@
 use crate::case;
 use crate::print;
 use image::codec;
+use link_rules::refusal::Refusal;
 use path_page;
 
 pub(crate) fn answer(head: &[u8], body: &[u8], sums: bool) -> bool {
@@ -18,19 +19,19 @@ fn answer_in(head: &[u8], body: &[u8], page: &mut [u8], sums: bool) -> bool {
     let image = case::first_input(head, body);
     let f = path_page::page(image, page);
     if sums {
-        return print_sum(f.number, f.place, page);
+        return print_sum(f, page);
     }
     if f.number == 0 {
         return print_lines(image, page);
     }
-    if print::refused(f.number, f.place) {
+    if print::refused(f) {
         return print::end();
     }
     false
 }
 
-fn print_sum(number: u16, place: u16, page: &[u8]) -> bool {
-    if print::fault(number, place) {
+fn print_sum(f: Refusal, page: &[u8]) -> bool {
+    if print::fault(f) {
         return print::sum_line(b" page ", page);
     }
     false

@@ -1,6 +1,7 @@
 // Answers on standard output. Each function says whether all of it was written.
 ghost use Prim.Native.Nat.{_<_};
 use libc::STDOUT_FILENO;
+use link_rules::refusal::Refusal;
 
 pub(crate) fn bytes(bytes: &[u8]) -> bool {
     io::write_all(STDOUT_FILENO, bytes)
@@ -37,19 +38,19 @@ pub(crate) fn number_line(words: &[u8], n: u64) -> bool {
     false
 }
 
-pub(crate) fn refused(n: u16, place: u16) -> bool {
-    if number(b"refused ", n as u64) {
-        return number(b" at ", place as u64);
+pub(crate) fn refused(f: Refusal) -> bool {
+    if number(b"refused ", f.number as u64) {
+        return number(b" at ", f.place as u64);
     }
     false
 }
 
 // Done where the number is 0.
-pub(crate) fn fault(n: u16, place: u16) -> bool {
-    if n == 0 {
+pub(crate) fn fault(f: Refusal) -> bool {
+    if f.number == 0 {
         return bytes(b"done");
     }
-    refused(n, place)
+    refused(f)
 }
 
 // ---- checksums: from 1 on, each byte is added to the sum by 16,777,619, modulo the prime 4,294,967,291

@@ -64,7 +64,7 @@ fn print_status(x: Updated) -> bool {
         Status::Success => print::bytes(b"success"),
         Status::Blocked => print::bytes(b"blocked"),
         Status::Faulty(n) => print::number(b"faulty ", n),
-        Status::Refused(r) => print::refused(r.number, r.place),
+        Status::Refused(r) => print::refused(r),
     }
 }
 
@@ -93,7 +93,7 @@ fn print_image_fault(head: &[u8], body: &[u8]) -> bool {
     }
     let f = image_fault::image_fault(case::first_input(head, body), links as u32);
     if print::bytes(b" by itself ") {
-        return print::fault(f.number, f.place);
+        return print::fault(f);
     }
     false
 }

@@ -8,6 +8,7 @@ use lib.ListN.{length, take, drop, replicate, length-drop, drop-of-length-le}
 use lib.Seq.{take-all}
 use borrow.Rule.Slice.PartMut.{midOf, postOf, putMid}
 use Rattle.link_rules.specs.Octets.{leAt}
+use Rattle.link_rules.specs.Refusals.{refused}
 use Rattle.yard_check.specs.Check.{rowSize, Answer, Checked, Refused}
 use Rattle.yard_check.specs.Checks.{checkedOf}
 use Rattle.yard_check.specs.declared.check.Answer as Code
@@ -59,7 +60,7 @@ pub fitting : (b report : List ℕ) → bundleFits b ≡ true → bundleChecked 
 unfolding bundleChecked
 fitting b report h = rw (h, bundleChecked)
 
-pub misfit : (b report : List ℕ) → bundleFits b ≡ false → bundleChecked b report ≡ record { answer = Refused 17 0; bundle = b; report = report }
+pub misfit : (b report : List ℕ) → bundleFits b ≡ false → bundleChecked b report ≡ record { answer = Refused (refused 17 0); bundle = b; report = report }
 unfolding bundleChecked
 misfit b report h = rw (h, bundleChecked)
 

@@ -6,6 +6,7 @@ use mathlib.Core.List.{List, _++_}
 use lib.Dec.{eqb}
 use lib.ListN.{length, take, drop}
 use Rattle.link_rules.specs.Octets.{leAt}
+use Rattle.link_rules.specs.Refusals.{refused}
 use Rattle.yard_check.specs.Check.{rowSize, Answer, Refused, Checked, checked}
 use Rattle.yard_check.specs.Checks.{answeredOf}
 use Rattle.yard_check.specs.declared.check.Answer as Code
@@ -40,7 +41,7 @@ checkedInBundle b report = leaves (take (yardOffset b) b) (checkedFrom (yardOffs
 unfoldable pub bundleChecked : List ℕ → List ℕ → BundleChecked
 bundleChecked b report =
     let done = checkedInBundle b report in
-    elim (bundleFits b) [ true ↦ done | false ↦ record { answer = Refused 17 0; bundle = b; report = report } ]
+    elim (bundleFits b) [ true ↦ done | false ↦ record { answer = Refused (refused 17 0); bundle = b; report = report } ]
 
 -- room for the occupancy and the blocking links, and a yard that begins within the bundle
 pub record Lends (b occ blocking : List ℕ) : Type 0 where

@@ -14,14 +14,14 @@ use Rattle.update_definition.specs.Update.{Status, Success, Blocked, Faulty, Re
 use Rattle.update_definition.specs.UpdateImage.{UpdatedImage}
 use Rattle.yard_check.specs.Check as Check
 
--- 0 where the call is done, else document 01's number, with the place in the upper 16 bits
-abbrev pub answerWord : Answer → ℕ
-answerWord Done = 0
-answerWord (Refused r) = r .number + 65536 * r .place
-
--- 0 where there is no fault
+-- 0 where there is no fault, else document 01's number, with the place in the upper 16 bits
 abbrev pub faultWord : Refusal → ℕ
 faultWord f = f .number + 65536 * f .place
+
+-- 0 where the call is done
+abbrev pub answerWord : Answer → ℕ
+answerWord Done = 0
+answerWord (Refused r) = faultWord r
 
 -- what a layout is told, from plain numbers
 abbrev pub orderOf : ℕ → Float → Float → ℕ → ℕ → Order
@@ -45,20 +45,20 @@ abbrev pub statusWord : Status → ℕ
 statusWord Success = 0
 statusWord Blocked = 0
 statusWord (Faulty n) = 0
-statusWord (RefusedBy n place) = n + 65536 * place
+statusWord (RefusedBy r) = faultWord r
 
 -- document 01's code of a slot that is updated so
 abbrev pub codeOf : Status → ℕ
 codeOf Success = 3
 codeOf Blocked = 4
 codeOf (Faulty n) = 5
-codeOf (RefusedBy n place) = 16 + n
+codeOf (RefusedBy r) = 16 + r .number
 
 abbrev pub errorsOf : Status → ℕ
 errorsOf Success = 0
 errorsOf Blocked = 0
 errorsOf (Faulty n) = n
-errorsOf (RefusedBy n place) = 0
+errorsOf (RefusedBy r) = 0
 
 -- code, errors, rounds and strays in the first four words; a word past the end stays out
 abbrev pub updateWords : UpdatedImage → List ℕ → List ℕ
@@ -74,7 +74,7 @@ pub record Told (u : UpdatedImage) (r : ℕ) (image ws₀ ws : List ℕ) : Type 
 
 -- 0 where the check is not refused
 abbrev pub checkWord : Check.Answer → ℕ
-checkWord (Check.Refused n place) = n + 65536 * place
+checkWord (Check.Refused r) = faultWord r
 checkWord (Check.Erred n) = 0
 checkWord (Check.Done deadlock next) = 0
 
@@ -88,7 +88,7 @@ threeWords a b c ws = set (set (set ws 0 a) 1 b) 2 c
 
 -- slots that erred, deadlock and next begin; a refused check leaves the words as they were
 abbrev pub checkWords : Check.Answer → List ℕ → List ℕ
-checkWords (Check.Refused n place) ws = ws
+checkWords (Check.Refused r) ws = ws
 checkWords (Check.Erred n) ws = threeWords n 0 0 ws
 checkWords (Check.Done deadlock next) ws = threeWords 0 (bitOf deadlock) next ws
 

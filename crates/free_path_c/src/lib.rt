@@ -49,7 +49,7 @@ fn answer_word(answer: Answer) -> u32
 {
     match answer {
         Answer::Done => 0,
-        Answer::Refused(r) => (r.number as u32) + 65536 * (r.place as u32),
+        Answer::Refused(r) => fault_word(r),
     }
 }
 
@@ -72,8 +72,7 @@ fn fault_word(f: Refusal) -> u32
 pub extern "C" fn lavtoeu_profile(image: &[u8]) -> u32
     ensures { λ r. ⌜ r ≡ faultWord (profileFault (now (image .entry))) ⌝ }
 {
-    let f = track_profile::profile_fault(image);
-    (f.number as u32) + 65536 * (f.place as u32)
+    fault_word(track_profile::profile_fault(image))
 }
 
 // Lays a new train out in an image buffer: est records, the train, dist_disp_path_search, dist_fixed_max, Q and L. Answers as lavtoeu_mark does.
@@ -151,7 +150,7 @@ fn status_word(s: Status) -> u32
         Status::Success => 0,
         Status::Blocked => 0,
         Status::Faulty(n) => 0,
-        Status::Refused(r) => (r.number as u32) + 65536 * (r.place as u32),
+        Status::Refused(r) => fault_word(r),
     }
 }
 
@@ -212,7 +211,7 @@ fn check_word(x: check::Answer) -> u32
     ensures { λ r. ⌜ r ≡ checkWord (answeredOf x) ⌝ }
 {
     match x {
-        check::Answer::Refused(r) => (r.number as u32) + 65536 * (r.place as u32),
+        check::Answer::Refused(r) => fault_word(r),
         check::Answer::Erred(n) => 0,
         check::Answer::Done { deadlock, next } => 0,
     }

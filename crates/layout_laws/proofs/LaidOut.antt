@@ -9,6 +9,7 @@ use lib.ListN.{length}
 use borrow.Author.Tests.{eqb-true}
 use Rattle.link_rules.specs.declared.refusal.Answer.{Answer}
 use Rattle.link_rules.specs.declared.refusal.Answer.the-variants.{Done, Refused}
+use Rattle.link_rules.specs.Refusals.{refused}
 use Rattle.link_rules.specs.declared.refusal.Refusal.{Refusal}
 use Rattle.image_fault.specs.ImageFault.{imageFault}
 use Rattle.train_disp.specs.TrainDisp.{newPath, laidImage, sizesFit, allWithin, refusedBy, laidOut}
@@ -40,7 +41,7 @@ module _ (est : List ℕ) (o : Order) (img : List ℕ) where
     where
       go : (t : Bool) → eqb (o .«train_idx» .0) 0 ≡ t → (s : Bool) → sizesFit (length est) o (length img) ≡ s → (c : Bool) → eqb (fault .number) 0 ≡ c
           → (w : Bool) → allWithin (newPath true est) ≡ w
-          → cond t (refusedBy 5 0 img) (cond s (cond c (cond w (record { answer = Done; image = laidImage true est o (length img) }) (refusedBy 11 0 img)) (refusedBy (fault .number) (fault .place) img)) (refusedBy 6 0 img)) .answer ≡ Done
+          → cond t (refusedBy (refused 5 0) img) (cond s (cond c (cond w (record { answer = Done; image = laidImage true est o (length img) }) (refusedBy (refused 11 0) img)) (refusedBy fault img)) (refusedBy (refused 6 0) img)) .answer ≡ Done
           → Passed
       go true a s b c d w e k = absurd (no-done _ k)
       go false a false b c d w e k = absurd (no-done _ k)
@@ -66,8 +67,8 @@ module _ (est : List ℕ) (o : Order) (img : List ℕ) where
   laid-refused r h = go (eqb (o .«train_idx» .0) 0) (sizesFit (length est) o (length img)) (eqb (fault .number) 0) (allWithin (newPath true est)) h
     where
       go : (t s c w : Bool)
-          → cond t (refusedBy 5 0 img) (cond s (cond c (cond w (record { answer = Done; image = laidImage true est o (length img) }) (refusedBy 11 0 img)) (refusedBy (fault .number) (fault .place) img)) (refusedBy 6 0 img)) .answer ≡ Refused r
-          → cond t (refusedBy 5 0 img) (cond s (cond c (cond w (record { answer = Done; image = laidImage true est o (length img) }) (refusedBy 11 0 img)) (refusedBy (fault .number) (fault .place) img)) (refusedBy 6 0 img)) .image ≡ img
+          → cond t (refusedBy (refused 5 0) img) (cond s (cond c (cond w (record { answer = Done; image = laidImage true est o (length img) }) (refusedBy (refused 11 0) img)) (refusedBy fault img)) (refusedBy (refused 6 0) img)) .answer ≡ Refused r
+          → cond t (refusedBy (refused 5 0) img) (cond s (cond c (cond w (record { answer = Done; image = laidImage true est o (length img) }) (refusedBy (refused 11 0) img)) (refusedBy fault img)) (refusedBy (refused 6 0) img)) .image ≡ img
       go true s c w k = refl
       go false false c w k = refl
       go false true false w k = refl

@@ -15,6 +15,7 @@ use Rattle.disp_structs.specs.Renumbered.{rNode}
 use Rattle.disp_structs.specs.declared.DispNode.{DispNode}
 use Rattle.image.specs.ImageMatch.{ImagesMatch}
 use Rattle.image_fault.specs.ImageFault.{imageFault}
+use Rattle.link_rules.specs.Refusals.{refused}
 use Rattle.link_rules.specs.declared.refusal.Refusal.{Refusal}
 use Rattle.image_fault.proofs.MatchLaws.{image-fault-match}
 use Rattle.train_disp.specs.TrainDisp.{newPath, laidImage, sizesFit, allWithin, refusedBy, judged, laidOut}
@@ -32,14 +33,14 @@ within-match p (x ∷ xs) = ap (λ (t : Bool). cond (within (x .offset)) t false
 
 -- the answer does not depend on the images
 answer-same : (t s w : Bool) (f : Refusal) (was new was′ new′ : List ℕ)
-    → cond t (refusedBy 5 0 was′) (cond s (judged f w was′ new′) (refusedBy 6 0 was′)) .answer ≡ cond t (refusedBy 5 0 was) (cond s (judged f w was new) (refusedBy 6 0 was)) .answer
+    → cond t (refusedBy (refused 5 0) was′) (cond s (judged f w was′ new′) (refusedBy (refused 6 0) was′)) .answer ≡ cond t (refusedBy (refused 5 0) was) (cond s (judged f w was new) (refusedBy (refused 6 0) was)) .answer
 answer-same true s w f was new was′ new′ = refl
 answer-same false false w f was new was′ new′ = refl
 answer-same false true w f was new was′ new′ = go (eqb (f .number) 0) w
   where
     go : (c d : Bool)
-        → cond c (cond d (record { answer = Done; image = new′ }) (refusedBy 11 0 was′)) (refusedBy (f .number) (f .place) was′) .answer
-        ≡ cond c (cond d (record { answer = Done; image = new }) (refusedBy 11 0 was)) (refusedBy (f .number) (f .place) was) .answer
+        → cond c (cond d (record { answer = Done; image = new′ }) (refusedBy (refused 11 0) was′)) (refusedBy f was′) .answer
+        ≡ cond c (cond d (record { answer = Done; image = new }) (refusedBy (refused 11 0) was)) (refusedBy f was) .answer
     go true true = refl
     go true false = refl
     go false d = refl
@@ -66,8 +67,8 @@ module _ (p q : ℕ → ℕ) (top : ℕ) (o : Order) (rp : Renumbering (o .links
   laid-answer = rw (eqb-renumbered-0 top q rq (o .«train_idx» .0), sizes-same, l) (go (sizesFit (length est) o (length img)) refl)
     where
       go : (s : Bool) → sizesFit (length est) o (length img) ≡ s
-          → cond (eqb (o .«train_idx» .0) 0) (refusedBy 5 0 img′) (cond s (judged (imageFault (laidImage false est′ (rOrder q o) (length img)) (o .links)) (allWithin (newPath true est′)) img′ (laidImage true est′ (rOrder q o) (length img))) (refusedBy 6 0 img′)) .answer
-          ≡ cond (eqb (o .«train_idx» .0) 0) (refusedBy 5 0 img) (cond s (judged (imageFault (laidImage false est o (length img)) (o .links)) (allWithin (newPath true est)) img (laidImage true est o (length img))) (refusedBy 6 0 img)) .answer
+          → cond (eqb (o .«train_idx» .0) 0) (refusedBy (refused 5 0) img′) (cond s (judged (imageFault (laidImage false est′ (rOrder q o) (length img)) (o .links)) (allWithin (newPath true est′)) img′ (laidImage true est′ (rOrder q o) (length img))) (refusedBy (refused 6 0) img′)) .answer
+          ≡ cond (eqb (o .«train_idx» .0) 0) (refusedBy (refused 5 0) img) (cond s (judged (imageFault (laidImage false est o (length img)) (o .links)) (allWithin (newPath true est)) img (laidImage true est o (length img))) (refusedBy (refused 6 0) img)) .answer
       go true e =
           let z = sizes-fit (length est) o (length img) e in
           rw (fault-same z, reach-same z)

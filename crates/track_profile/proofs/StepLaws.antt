@@ -16,6 +16,7 @@ use Rattle.free_path.specs.Validate.{stepsNext, stepsAlt, badStep, badSteps, ba
 use Rattle.update_definition.specs.State.{Ended, atEnd, blockedAt, again}
 use Rattle.tally.specs.Tally.{counted}
 use Rattle.tally.specs.declared.Tally.{Tally}
+use Rattle.link_rules.specs.Refusals.{refused}
 use Rattle.update_definition.specs.Update.{Given, Status, Success, Blocked, Faulty, Refused, Updated, Between, faultsOf, finish, afterRound, due, roundsFrom, roundOf, straysOf, startOf, givenOf, updateFrom, updateFreePath}
 use Rattle.update_laws.proofs.Answers.{no-ok, ok-same, bind-ok, need-ok}
 use Rattle.link_rules.specs.declared.link_idx.LinkIdx.{LinkIdx}
@@ -107,7 +108,7 @@ abbrev isSuccess : Status → Bool
 isSuccess Success = true
 isSuccess Blocked = false
 isSuccess (Faulty n) = false
-isSuccess (Refused n place) = false
+isSuccess (Refused r) = false
 
 other-no : {X : Type 0} (s : Status) → isSuccess s ≡ false → s ≡ Success → X
 other-no s e h = absurd (true≢false (sym (ap isSuccess h) ∙ e))
@@ -120,11 +121,11 @@ module _ (g : Given) (was : Train) where
   unfolding finish
   finish-right (ok zero) tally t e h = e
   finish-right (ok (suc n)) tally t e h = other-no (Faulty (suc n)) refl h
-  finish-right (no n) tally t e h = other-no (Refused n 0) refl h
+  finish-right (no n) tally t e h = other-no (Refused (refused n 0)) refl h
 
   after-right : (x : Res Ended) (next : Between → Updated) (w : Between) → ((y : Between) → Right (next y)) → Right (afterRound x next g was w)
   unfolding afterRound
-  after-right (no n) next w f h = other-no (Refused n 0) refl h
+  after-right (no n) next w f h = other-no (Refused (refused n 0)) refl h
   after-right (ok atEnd) next w f h = finish-right (faultsOf g (w .train)) (counted (w .tally) (straysOf g (w .train))) (w .train) refl h
   after-right (ok (blockedAt t)) next w f h = other-no Blocked refl h
   after-right (ok (again t split k)) next w f h = f _ h
@@ -135,7 +136,7 @@ module _ (g : Given) (was : Train) where
 
   rounds-right : (k : ℕ) (w : Between) → Right (roundsFrom k g was w)
   unfolding roundsFrom
-  rounds-right zero w = cond-right (due w) _ _ (λ h. other-no (Refused 12 0) refl h) (finish-right (faultsOf g (w .train)) (w .tally) (w .train) refl)
+  rounds-right zero w = cond-right (due w) _ _ (λ h. other-no (Refused (refused 12 0)) refl h) (finish-right (faultsOf g (w .train)) (w .tally) (w .train) refl)
   rounds-right (suc k) w =
       cond-right (due w) _ _ (after-right (roundOf g (w .train) (w .«idx_split») (w .«div_idx_split»)) (λ x. roundsFrom k g was x) w (λ y. rounds-right k y))
       (finish-right (faultsOf g (w .train)) (w .tally) (w .train) refl)
@@ -148,7 +149,7 @@ update-right occ blocking moved local limit t h = go (at (t .«disp_path») (t .
   where
     go : (r : Res DispNode) → updateFrom r occ blocking moved local limit t .answer .status ≡ Success
         → badPath (updateFrom r occ blocking moved local limit t .train .«est_times») (updateFrom r occ blocking moved local limit t .train .«disp_path») ≡ ok 0
-    go (no k) h = other-no (Refused 10 0) refl h
+    go (no k) h = other-no (Refused (refused 10 0)) refl h
     go (ok n) h =
         let g = givenOf occ blocking moved local t n in
         let u = roundsFrom limit g t (startOf g t) in
@@ -195,10 +196,10 @@ module _ (img occ blocking : List ℕ) (moved : ℕ) (local : Bool) (limit : ℕ
   unfolding updatedImage
   success-told h = go (updateFault img occ blocking moved limit .number) refl h
     where
-      go : (k : ℕ) → updateFault img occ blocking moved limit .number ≡ k → answerBy k (updateFault img occ blocking moved limit .place) train-left img .answer .status ≡ Success
+      go : (k : ℕ) → updateFault img occ blocking moved limit .number ≡ k → answerBy k (updateFault img occ blocking moved limit) train-left img .answer .status ≡ Success
           → (updateFault img occ blocking moved limit .number ≡ 0) × (train-left .answer .status ≡ Success)
       go zero e h = (e, h)
-      go (suc k) e h = other-no (Refused (suc k) (updateFault img occ blocking moved limit .place)) refl h
+      go (suc k) e h = other-no (Refused (updateFault img occ blocking moved limit)) refl h
 
   same-listed : {A : Type 0} (n k : ℕ) (f g : ℕ → A) → listed n f ≡ listed k g → (i : ℕ) → i < n → (i < k) × (g i ≡ f i)
   same-listed n k f g e i l = listed-read k g i (subst (λ (xs : List _). at xs i ≡ ok (f i)) e (read-listed n f i l))

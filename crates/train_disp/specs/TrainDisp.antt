@@ -15,6 +15,7 @@ use Rattle.image.specs.Image.{nodePlace, divergePlace, imageSize, estFrom, putN
 use Rattle.image.specs.Fields.{sizeField, estCountField, pathCountField, divergeCountField, divergeRoomField, estOffsetField, pathOffsetField, divergeOffsetField, trainField, searchField, fixedMaxField, divergeNodeField, putField, putIn}
 use Rattle.image.specs.Codec.{putEach}
 use Rattle.image_fault.specs.ImageFault.{imageFault}
+use Rattle.link_rules.specs.Refusals.{refused}
 use Rattle.link_rules.specs.declared.refusal.Refusal.{Refusal}
 use Rattle.train_disp.specs.declared.Order.{Order}
 use Rattle.link_rules.specs.declared.refusal.Answer.{Answer}
@@ -120,16 +121,16 @@ pub record Laid : Type 0 where
 abbrev pub laid : Answer → List ℕ → Laid
 laid r bs = record { answer = r; image = bs }
 
-abbrev pub refusedBy : ℕ → ℕ → List ℕ → Laid
-refusedBy n place bs = laid (Refused (record { number = n; place = place })) bs
+abbrev pub refusedBy : Refusal → List ℕ → Laid
+refusedBy f bs = laid (Refused f) bs
 
 -- lay out (document 01): 5; 6; then 6 to 9 as the image with all offsets 0 has them, in the same order; then 11
 abbrev pub judged : Refusal → Bool → List ℕ → List ℕ → Laid
-judged f fits was new = cond (eqb (f .number) 0) (cond fits (laid Done new) (refusedBy 11 0 was)) (refusedBy (f .number) (f .place) was)
+judged f fits was new = cond (eqb (f .number) 0) (cond fits (laid Done new) (refusedBy (refused 11 0) was)) (refusedBy f was)
 
 unfoldable pub laidOut : List ℕ → Order → List ℕ → Laid
 laidOut est o img =
     let f = imageFault (laidImage false est o (length img)) (o .links) in
     let r = judged f (allWithin (newPath true est)) img (laidImage true est o (length img)) in
-    cond (eqb (o .«train_idx» .0) 0) (refusedBy 5 0 img)
-    (cond (sizesFit (length est) o (length img)) r (refusedBy 6 0 img))
+    cond (eqb (o .«train_idx» .0) 0) (refusedBy (refused 5 0) img)
+    (cond (sizesFit (length est) o (length img)) r (refusedBy (refused 6 0) img))

@@ -35,28 +35,29 @@ pub fn lay_out(est: &[u8], order: Order, image: &mut [u8]) -> Answer
     ensures { λ r. ⌜ laid r (now (image .exit)) ≡ laidOut (now (est .entry)) order (now (image .entry)) ⌝ }
 {
     if order.train_idx.0 == 0 {
-        return refused(5, 0);
+        return refused(5);
     }
     if !sizes_fit(est.len(), order, image.len()) {
-        return refused(6, 0);
+        return refused(6);
     }
     let f = judge(est, order, image.len());
     if f.number != 0 {
-        return refused(f.number, f.place);
+        return Answer::Refused(f);
     }
     if !offsets_fit(est) {
-        return refused(11, 0);
+        return refused(11);
     }
     build(image, est, order, true);
     Answer::Done
 }
 
-fn refused(number: u16, place: u16) -> Answer
-    ensures { λ r. ⌜ r ≡ Answer.Refused (record { number = number; place = place }) ⌝ }
+// With place 0.
+fn refused(number: u16) -> Answer
+    ensures { λ r. ⌜ r ≡ Answer.Refused (record { number = number; place = 0 }) ⌝ }
 {
     Answer::Refused(Refusal {
         number: number,
-        place: place,
+        place: 0,
     })
 }
 

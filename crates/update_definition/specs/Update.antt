@@ -7,6 +7,8 @@ use lib.ListN.{length, replicate}
 use Rattle.link_rules.specs.LinkIdx.{noTrain}
 use Rattle.link_rules.specs.declared.link_idx.LinkIdx.{LinkIdx}
 use Rattle.link_rules.specs.declared.link_idx.TrainIdx.{TrainIdx}
+use Rattle.link_rules.specs.Refusals as Refusals
+use Rattle.link_rules.specs.declared.refusal.Refusal.{Refusal}
 use Rattle.disp_structs.specs.Values.{minus, view}
 use Rattle.disp_structs.specs.Train.{Train}
 use Rattle.disp_structs.specs.declared.Metres.{Metres}
@@ -176,12 +178,11 @@ roundOf g t split divSplit = beginOf g t split divSplit >>= endFrom g t
 
 -- ---- the answer
 
--- a refusal has its number and its place
 pub data Status : Type 0 where
   Success : Status
   Blocked : Status
   Faulty : ℕ → Status
-  Refused : ℕ → ℕ → Status
+  Refused : Refusal → Status
 
 -- what every update answers: its status, and what it counted
 pub record Answer : Type 0 where
@@ -212,7 +213,7 @@ answered status tally t = record { answer = answerOf status tally; train = t }
 
 -- a refusal within an update has place 0, and leaves the train as it was
 abbrev pub refused : ℕ → Tally → Train → Updated
-refused n tally was = answered (Refused n 0) tally was
+refused n tally was = answered (Refused (Refusals.refused n 0)) tally was
 
 -- by the number of errors
 abbrev pub statusOf : ℕ → Status
@@ -224,7 +225,7 @@ abbrev pub faultsIn : Status → ℕ
 faultsIn Success = 0
 faultsIn Blocked = 0
 faultsIn (Faulty n) = n
-faultsIn (Refused n place) = 0
+faultsIn (Refused r) = 0
 
 -- ---- the loop over rounds (278-637)
 

@@ -46,18 +46,19 @@ abbrev pub leftImage : Status → Train → List ℕ → List ℕ
 leftImage Success t img = storedInto t img
 leftImage Blocked t img = storedInto t img
 leftImage (Faulty n) t img = storedInto t img
-leftImage (Refused n place) t img = img
+leftImage (Refused r) t img = img
 
 abbrev pub storedAnswer : Updated → List ℕ → UpdatedImage
 storedAnswer u img = record { answer = u .answer; image = leftImage (u .answer .status) (u .train) img }
 
 -- refused before anything is counted
-abbrev pub refusedAnswer : ℕ → ℕ → List ℕ → UpdatedImage
-refusedAnswer n place img = record { answer = answerOf (Refused n place) (started 0); image = img }
+abbrev pub refusedAnswer : Refusal → List ℕ → UpdatedImage
+refusedAnswer f img = record { answer = answerOf (Refused f) (started 0); image = img }
 
-abbrev pub answerBy : ℕ → ℕ → Updated → List ℕ → UpdatedImage
-answerBy zero place u img = storedAnswer u img
-answerBy (suc n) place u img = refusedAnswer (suc n) place img
+-- by the number of the refusal f
+abbrev pub answerBy : ℕ → Refusal → Updated → List ℕ → UpdatedImage
+answerBy zero f u img = storedAnswer u img
+answerBy (suc n) f u img = refusedAnswer f img
 
 abbrev pub linkIdxs : List ℕ → List LinkIdx
 linkIdxs blocking = map (λ (n : ℕ). record { 0 = n }) blocking
@@ -71,4 +72,4 @@ unfoldable pub updatedImage : List ℕ → List ℕ → List ℕ → ℕ → Boo
 updatedImage img occ blocking moved local limit =
     let f = updateFault img occ blocking moved limit in
     let u = updateFreePath occ (linkIdxs blocking) (record { 0 = moved }) local limit (decoded img) in
-    answerBy (f .number) (f .place) u img
+    answerBy (f .number) f u img

@@ -4,6 +4,7 @@ use mathlib.Core.Bool.{Bool, true, false, false≢true}
 use mathlib.Core.List.{List}
 use Prim.Native.Nat.{ℕ, zero, suc, _+_, _^_, _<_}
 use native.Mathlib.Omega.{arith}
+use Rattle.link_rules.specs.Refusals.{refused}
 use Rattle.disp_structs.specs.Train.{Train}
 use Rattle.image.specs.Codec.{storedInto}
 use Rattle.free_path.specs.Base.{Res, ok, no}
@@ -21,7 +22,7 @@ use Rattle.update_free_path.specs.declared.answer.Status.the-variants.{S
 
 -- ---- by the number of errors
 
-pub judged-no : (c n : ℕ) → (c ≡ 0 → ⊥) → Update.Refused c 0 ≡ judgedBy (answer c n)
+pub judged-no : (c n : ℕ) → (c ≡ 0 → ⊥) → Update.Refused (refused c 0) ≡ judgedBy (answer c n)
 judged-no zero n q = absurd (q refl)
 judged-no (suc c) n q = refl
 
@@ -58,7 +59,7 @@ done-stop s (Stops.Refused c) f e q = absurd (false≢true (sym q ∙ told s ∙
     told-of Update.Success = false
     told-of Update.Blocked = false
     told-of (Update.Faulty n) = false
-    told-of (Update.Refused n place) = true
+    told-of (Update.Refused r) = true
 
     told : (s : Status) → isRefusal s ≡ told-of (statusOf s)
     told Success = refl
@@ -75,11 +76,11 @@ module _ (tally : Tally) (was t : Train) (img : List ℕ) where
 
   by-stop : (stop : Stop) (f : Res ℕ) → left (statusBy stop f) (faulted tally (Update.faultsIn (statusBy stop f))) (leftImage (statusBy stop f) t img) ≡ storedAnswer (ranBy stop f tally was t) img
   unfolding Update.finish
-  by-stop (Stops.Refused c) f = ap (λ (y : Tally). left (Update.Refused c 0) y img) (faulted-none tally)
+  by-stop (Stops.Refused c) f = ap (λ (y : Tally). left (Update.Refused (refused c 0)) y img) (faulted-none tally)
   by-stop Stops.Blocked f = ap (λ (y : Tally). left Update.Blocked y (storedInto t img)) (faulted-none tally)
   by-stop Stops.Ended (ok zero) = refl
   by-stop Stops.Ended (ok (suc n)) = refl
-  by-stop Stops.Ended (no n) = ap (λ (y : Tally). left (Update.Refused n 0) y img) (faulted-none tally)
+  by-stop Stops.Ended (no n) = ap (λ (y : Tally). left (Update.Refused (refused n 0)) y img) (faulted-none tally)
 
   -- s is the status, n the errors that it tells, y the tally with them
   pub answered-is : tally .faults ≡ 0 → (stop : Stop) (f : Res ℕ) (s : Update.Status) (n : ℕ) (y : Tally) (out : List ℕ) → s ≡ statusBy stop f → n < 2 ^ 64 → n ≡ Update.faultsIn s → y ≡ countedFaults tally n

@@ -10,6 +10,7 @@ use Rattle.image.specs.Image.{estCount, divergeRoom, nodeAt, pathHeader}
 use Rattle.image.specs.Codec.{decoded}
 use Rattle.image.specs.declared.codec.PathHeader.{PathHeader}
 use Rattle.image_fault.specs.ImageFault.{imageFault}
+use Rattle.link_rules.specs.Refusals.{refused}
 use Rattle.link_rules.specs.declared.refusal.Refusal.{Refusal}
 use Rattle.image_fault.proofs.AcceptLaws.{or-else-clean}
 use Rattle.free_path.specs.Base.{Res, at}
@@ -30,28 +31,28 @@ module _ (img occ blocking : List ℕ) (o : Order) (f : Refusal) (e : f ≡ upda
   abbrev whole : UpdatedImage
   whole = updatedImage img occ blocking (o .moved .0) (o .local) (o .limit)
 
-  by-fault : answerBy (f .number) (f .place) (updateOf img occ blocking o) img ≡ whole
+  by-fault : answerBy (f .number) f (updateOf img occ blocking o) img ≡ whole
   unfolding updatedImage
-  by-fault = ap (λ (x : Refusal). answerBy (x .number) (x .place) (updateOf img occ blocking o) img) e
+  by-fault = ap (λ (x : Refusal). answerBy (x .number) x (updateOf img occ blocking o) img) e
 
   -- refused by 2 to 9
-  pub refused-before : (f .number ≡ 0 → ⊥) → refusedAnswer (f .number) (f .place) img ≡ whole
-  refused-before q = go (f .number) (f .place) q ∙ by-fault
+  pub refused-before : (f .number ≡ 0 → ⊥) → refusedAnswer f img ≡ whole
+  refused-before q = go (f .number) q ∙ by-fault
     where
-      go : (n place : ℕ) → (n ≡ 0 → ⊥) → refusedAnswer n place img ≡ answerBy n place (updateOf img occ blocking o) img
-      go zero place q = absurd (q refl)
-      go (suc n) place q = refl
+      go : (n : ℕ) → (n ≡ 0 → ⊥) → refusedAnswer f img ≡ answerBy n f (updateOf img occ blocking o) img
+      go zero q = absurd (q refl)
+      go (suc n) q = refl
 
   pub judged-refused : (f .number ≡ 0 → ⊥) → Judged f img occ blocking o
   judged-refused q = record { refused = refused-before; begins = λ z. absurd (q z); goes = λ z. absurd (q z) }
 
   module _ (q : f .number ≡ 0) where
     pub not-refused : storedAnswer (updateOf img occ blocking o) img ≡ whole
-    not-refused = ap (λ (n : ℕ). answerBy n (f .place) (updateOf img occ blocking o) img) (sym q) ∙ by-fault
+    not-refused = ap (λ (n : ℕ). answerBy n f (updateOf img occ blocking o) img) (sym q) ∙ by-fault
 
     module _ (h : PathHeader) (r : h ≡ pathHeader img) where
       -- the train has finished its trip
-      pub refused-ten : h .«path_count» ≤ h .free → refusedAnswer 10 0 img ≡ whole
+      pub refused-ten : h .«path_count» ≤ h .free → refusedAnswer (refused 10 0) img ≡ whole
       unfolding Update.updateFreePath decoded pathHeader
       refused-ten l =
           ap (λ (x : Res DispNode). storedAnswer (Update.updateFrom x occ (linkIdxs blocking) (o .moved) (o .local) (o .limit) (decoded img)) img)
@@ -65,7 +66,7 @@ module _ (img occ blocking : List ℕ) (o : Order) (f : Refusal) (e : f ≡ upda
       pub begins : h .free < h .«path_count» → Begins img occ h
       begins l = record { fault = clean .1; few = call-links occ blocking (o .moved .0) (o .limit) (clean .0) .1; header = r; free = l }
 
-      pub judged-ten : h .«path_count» ≤ h .free → Judged (record { number = 10; place = 0 }) img occ blocking o
+      pub judged-ten : h .«path_count» ≤ h .free → Judged (refused 10 0) img occ blocking o
       judged-ten l = record { refused = λ _. refused-ten l; begins = λ z. absurd (omega (arith, z)); goes = λ z. absurd (omega (arith, z)) }
 
       pub judged-fine : h .free < h .«path_count» → Judged f img occ blocking o

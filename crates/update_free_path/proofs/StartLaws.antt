@@ -160,6 +160,6 @@ module _ (img occ : List ℕ) (h : PathHeader) (b : Begins img occ h) (bytes : B
                 kept = v .kept;
                 faultless = v .faultless;
                 is = r ∙ begin-is;
-                named = λ n place y.
-                    omega (arith, refused-number (o .limit - 0) (givenOf begun occ (linkIdxs blocking) first) (decoded img) (betweenOf img dt dn (startAt h s)) n place (ap (λ (u : Update.Updated). u .answer .status) (sym r) ∙ status-ran (x .stop) (errorsOf img′ occ (x .header)) (x .tally) (decoded img) (trainOf img′ dt′ dn′ (x .header)) ∙ y) .0);
+                named = λ f y.
+                    omega (arith, refused-number (o .limit - 0) (givenOf begun occ (linkIdxs blocking) first) (decoded img) (betweenOf img dt dn (startAt h s)) f (ap (λ (u : Update.Updated). u .answer .status) (sym r) ∙ status-ran (x .stop) (errorsOf img′ occ (x .header)) (x .tally) (decoded img) (trainOf img′ dt′ dn′ (x .header)) ∙ y) .0);
               }

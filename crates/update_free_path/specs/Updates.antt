@@ -12,6 +12,7 @@ use Rattle.disp_structs.specs.Values.{minus}
 use Rattle.image.specs.Image.{estCount, divergeRoom, nodeAt, distFixedMax, pathHeader}
 use Rattle.image.specs.Codec.{decoded}
 use Rattle.image_fault.specs.ImageFault.{imageFault}
+use Rattle.link_rules.specs.Refusals.{refused}
 use Rattle.link_rules.specs.declared.refusal.Refusal.{Refusal}
 use Rattle.image.specs.declared.codec.PathHeader.{PathHeader}
 use Rattle.free_path.specs.Base.{Res, ok, no}
@@ -45,7 +46,7 @@ abbrev pub statusOf : Status → Update.Status
 statusOf Success = Update.Success
 statusOf Blocked = Update.Blocked
 statusOf (Faulty n) = Update.Faulty n
-statusOf (Refused r) = Update.Refused (r .number) (r .place)
+statusOf (Refused r) = Update.Refused r
 
 abbrev pub answerOf : Updated → Update.Answer
 answerOf x = Update.answerOf (statusOf (x .status)) (x .tally)
@@ -68,11 +69,11 @@ errorsOf img occ h = validateFreePath occ (estsOf img) (h .free) (pathOf img (h 
 
 abbrev pub judgedBy : Res ℕ → Update.Status
 judgedBy (ok n) = Update.statusOf n
-judgedBy (no n) = Update.Refused n 0
+judgedBy (no n) = Update.Refused (refused n 0)
 
 -- f are the errors of the train that is left
 abbrev pub statusBy : Stop → Res ℕ → Update.Status
-statusBy (Stops.Refused c) f = Update.Refused c 0
+statusBy (Stops.Refused c) f = Update.Refused (refused c 0)
 statusBy Stops.Blocked f = Update.Blocked
 statusBy Stops.Ended f = judgedBy f
 
@@ -89,7 +90,7 @@ isRefused Stops.Ended = false
 
 -- a refusal that it may give has room in its field
 abbrev pub Named : Stop → Res ℕ → Type 0
-Named s f = (n place : ℕ) → statusBy s f ≡ Update.Refused n place → n < 65536
+Named s f = (r : Refusal) → statusBy s f ≡ Update.Refused r → r .number < 65536
 
 -- ---- the loop over rounds
 
@@ -208,7 +209,7 @@ updateOf img occ blocking o = Update.updateFreePath occ (linkIdxs blocking) (o .
 
 -- what is asked before the first round: refused as the update is, else an update that begins
 pub record Judged (f : Refusal) (img occ blocking : List ℕ) (o : Order) : Type 0 where
-  pub refused : (f .number ≡ 0 → ⊥) → refusedAnswer (f .number) (f .place) img ≡ updatedImage img occ blocking (o .moved .0) (o .local) (o .limit)
+  pub refused : (f .number ≡ 0 → ⊥) → refusedAnswer f img ≡ updatedImage img occ blocking (o .moved .0) (o .local) (o .limit)
   pub begins : f .number ≡ 0 → Begins img occ (pathHeader img)
   pub goes : f .number ≡ 0 → storedAnswer (updateOf img occ blocking o) img ≡ updatedImage img occ blocking (o .moved .0) (o .local) (o .limit)
 

@@ -15,6 +15,8 @@ ghost use Prim.Native.Nat.{ℕ, _<_};
 ghost use Rattle.disp_structs.specs.Train.{Train};
 ghost use Rattle.image.specs.Image.{estCount, divergeRoom};
 ghost use Rattle.free_path.specs.Columns as Columns;
+ghost use Rattle.link_rules.specs.Refusals as Refusals;
+ghost use Rattle.link_rules.specs.declared.refusal.Refusal.{Refusal};
 ghost use Rattle.update_definition.specs.Update as Update;
 ghost use Rattle.update_definition.specs.UpdateImage.{leftImage, storedAnswer, refusedAnswer};
 ghost use Rattle.splice.specs.Read.{trainOf};
@@ -32,32 +34,33 @@ pub struct Updated {
     pub tally: Tally,
 }
 
-fn refusal(number: u16, place: u16) -> Status
-    ensures { λ r. ⌜ statusOf r ≡ Update.Refused number place ⌝ }
+// A refusal within an update has place 0.
+fn refusal(number: u16) -> Status
+    ensures { λ r. ⌜ statusOf r ≡ Update.Refused (Refusals.refused number 0) ⌝ }
 {
     Status::Refused(Refusal {
         number: number,
-        place: place,
+        place: 0,
     })
 }
 
 // Refused before anything is counted.
-pub(crate) fn refused(number: u16, place: u16) -> Updated
-    ensures { λ r. ⌜ ((img : List ℕ) → updatedOf r img ≡ refusedAnswer number place img) ⌝ }
+pub(crate) fn refused(f: Refusal) -> Updated
+    ensures { λ r. ⌜ ((img : List ℕ) → updatedOf r img ≡ refusedAnswer f img) ⌝ }
 {
     Updated {
-        status: refusal(number, place),
+        status: Status::Refused(f),
         tally: tally::started(0),
     }
 }
 
 // By the number of errors of the free path.
 fn judged(e: Errors) -> Status
-    requires { ⌜ ((n place : ℕ) → judgedBy (Columns.answer (e .code) (e .count)) ≡ Update.Refused n place → n < 65536) ⌝ }
+    requires { ⌜ ((r : Refusal) → judgedBy (Columns.answer (e .code) (e .count)) ≡ Update.Refused r → r .number < 65536) ⌝ }
     ensures { λ r. ⌜ statusOf r ≡ judgedBy (Columns.answer (e .code) (e .count)) ⌝ }
 {
     if e.code != 0 {
-        return refusal(e.code as u16, 0);
+        return refusal(e.code as u16);
     }
     if e.count == 0 {
         return Status::Success;
@@ -70,7 +73,7 @@ fn status_by(img: &[u8], occ: &[u32], stop: Stop, h: PathHeader) -> Status
     ensures { λ r. ⌜ statusOf r ≡ statusBy stop (errorsOf (now (img .entry)) (now (occ .entry)) h) ⌝ }
 {
     match stop {
-        Stop::Refused(c) => refusal(c as u16, 0),
+        Stop::Refused(c) => refusal(c as u16),
         Stop::Blocked => Status::Blocked,
         Stop::Ended => judged(validate::validate_free_path(img, h.path_count, occ, h.free as u32)),
     }

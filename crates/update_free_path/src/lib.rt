@@ -220,7 +220,7 @@ pub fn update_over(
     };
     let f = start_fault(image, occ.len(), blocking, o);
     if f.number != 0 {
-        return answer::refused(f.number, f.place);
+        return answer::refused(f);
     }
     let h = codec::path_header(image);
     update_begun(image, occ, blocking, o, h)
@@ -244,7 +244,7 @@ pub fn update_free_path(
     };
     let f = start_fault(image, occ.len(), blocking, o);
     if f.number != 0 {
-        return answer::refused(f.number, f.place);
+        return answer::refused(f);
     }
     if 512 < occ.len() {
         return widen_large(image, occ, blocking, o);

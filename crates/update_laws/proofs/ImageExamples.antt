@@ -15,6 +15,7 @@ use Rattle.free_path.specs.LinkOptType.{linksOnPath, contains, classWalk, linkO
 use Rattle.free_path.specs.Validate.{isStray, strays, stepsNext, badStep, badSteps, inConflict, validateFreePath}
 use Rattle.image.specs.Image.{typeOf, pathHeader, estFrom, nodeFrom, divergeFrom, putNode, putDiverge, zeroWords, putPathHeader}
 use Rattle.image.specs.Codec.{decoded, putEach, putRecords, storedInto}
+use Rattle.link_rules.specs.Refusals.{refused}
 use Rattle.image_fault.specs.ImageFault.{firstUnfit, countsFit, partsFit, trainFits, estTypeFits, nodeTypeFits, zeroWord, unusedZero, recordsFit, imageFits, floatFits, timeFits, distFits, eventFits, estLinksFit, estFits, nodeFits, indicesFit, headerFits, valueFault, cycleFault, stepsTo as steps, comesFrom, endsAt, arrivesOn, arrived, firstArrival, onRoute, innerFits, divergeFits, routeFault, imageFault}
 use Rattle.update_definition.specs.Update.{Success, Faulty, answerOf, splitPoint, beginOf, roundOf, finish, afterRound, roundsFrom, adjustSentinel, updateFreePath}
 use Rattle.update_definition.specs.UpdateImage.{linksBelow, callFault, refusedAnswer, updateFault, updatedImage}
@@ -54,36 +55,36 @@ faulty = refl
 
 -- ---- refusals: an occupancy of one entry; a blocking link 3 of 3 links; no moved train; no round
 
-short : updatedImage (slot 0 196608) (0 ∷ []) [] 2 false 1 ≡ refusedAnswer 2 0 (slot 0 196608)
+short : updatedImage (slot 0 196608) (0 ∷ []) [] 2 false 1 ≡ refusedAnswer (refused 2 0) (slot 0 196608)
 unfolding everything
 short = refl
 
-above : updatedImage (slot 0 196608) (0 ∷ 0 ∷ 0 ∷ []) (1 ∷ 3 ∷ []) 2 false 1 ≡ refusedAnswer 4 0 (slot 0 196608)
+above : updatedImage (slot 0 196608) (0 ∷ 0 ∷ 0 ∷ []) (1 ∷ 3 ∷ []) 2 false 1 ≡ refusedAnswer (refused 4 0) (slot 0 196608)
 unfolding everything
 above = refl
 
-unmoved : updatedImage (slot 0 196608) (0 ∷ 0 ∷ 0 ∷ []) [] 0 false 1 ≡ refusedAnswer 5 0 (slot 0 196608)
+unmoved : updatedImage (slot 0 196608) (0 ∷ 0 ∷ 0 ∷ []) [] 0 false 1 ≡ refusedAnswer (refused 5 0) (slot 0 196608)
 unfolding everything
 unmoved = refl
 
-roundless : updatedImage (slot 0 196608) (0 ∷ 0 ∷ 0 ∷ []) [] 2 false 0 ≡ refusedAnswer 5 0 (slot 0 196608)
+roundless : updatedImage (slot 0 196608) (0 ∷ 0 ∷ 0 ∷ []) [] 2 false 0 ≡ refusedAnswer (refused 5 0) (slot 0 196608)
 unfolding everything
 roundless = refl
 
 -- no image; free above N; the last diverge node not at N; free at N
 
-empty : updatedImage [] (0 ∷ 0 ∷ 0 ∷ []) [] 2 false 1 ≡ refusedAnswer 6 0 []
+empty : updatedImage [] (0 ∷ 0 ∷ 0 ∷ []) [] 2 false 1 ≡ refusedAnswer (refused 6 0) []
 unfolding everything
 empty = refl
 
-past : updatedImage (slot 4 196608) (0 ∷ 0 ∷ 0 ∷ []) [] 2 false 1 ≡ refusedAnswer 7 0 (slot 4 196608)
+past : updatedImage (slot 4 196608) (0 ∷ 0 ∷ 0 ∷ []) [] 2 false 1 ≡ refusedAnswer (refused 7 0) (slot 4 196608)
 unfolding everything
 past = refl
 
-unended : updatedImage (slot 0 131072) (0 ∷ 0 ∷ 0 ∷ []) [] 2 false 1 ≡ refusedAnswer 9 1 (slot 0 131072)
+unended : updatedImage (slot 0 131072) (0 ∷ 0 ∷ 0 ∷ []) [] 2 false 1 ≡ refusedAnswer (refused 9 1) (slot 0 131072)
 unfolding everything
 unended = refl
 
-finished : updatedImage (slot 3 196608) (0 ∷ 0 ∷ 0 ∷ []) [] 2 false 1 ≡ refusedAnswer 10 0 (slot 3 196608)
+finished : updatedImage (slot 3 196608) (0 ∷ 0 ∷ 0 ∷ []) [] 2 false 1 ≡ refusedAnswer (refused 10 0) (slot 3 196608)
 unfolding everything
 finished = refl

@@ -114,14 +114,14 @@ call-below occ blocking moved limit h =
 -- ---- the answers
 
 module _ (p q : ℕ → ℕ) (img img′ : List ℕ) (m : ImagesMatch p q img img′) where
-  answers-match : (k place : ℕ) (u u′ : Updated) → (k ≡ 0 → answerBy k place u img .answer .tally .strays ≡ 0 → UpdatesMatch p q (storedAnswer u img) (storedAnswer u′ img′)) → answerBy k place u img .answer .tally .strays ≡ 0
-      → UpdatesMatch p q (answerBy k place u img) (answerBy k place u′ img′)
-  answers-match zero place u u′ h s = h refl s
-  answers-match (suc k) place u u′ h s = record { answer = refl; images = m }
+  answers-match : (k : ℕ) (x : Refusal) (u u′ : Updated) → (k ≡ 0 → answerBy k x u img .answer .tally .strays ≡ 0 → UpdatesMatch p q (storedAnswer u img) (storedAnswer u′ img′)) → answerBy k x u img .answer .tally .strays ≡ 0
+      → UpdatesMatch p q (answerBy k x u img) (answerBy k x u′ img′)
+  answers-match zero x u u′ h s = h refl s
+  answers-match (suc k) x u u′ h s = record { answer = refl; images = m }
 
-  refusals-match : (k place : ℕ) (u u′ : Updated) → (k ≡ 0 → ⊥) → UpdatesMatch p q (answerBy k place u img) (answerBy k place u′ img′)
-  refusals-match zero place u u′ h = absurd (h refl)
-  refusals-match (suc k) place u u′ h = record { answer = refl; images = m }
+  refusals-match : (k : ℕ) (x : Refusal) (u u′ : Updated) → (k ≡ 0 → ⊥) → UpdatesMatch p q (answerBy k x u img) (answerBy k x u′ img′)
+  refusals-match zero x u u′ h = absurd (h refl)
+  refusals-match (suc k) x u u′ h = record { answer = refl; images = m }
 
 module _ (p q : ℕ → ℕ) (occ occ′ blocking blocking′ : List ℕ) (c : CallsMatch p q occ occ′ blocking blocking′) (moved : ℕ) (local : Bool) (limit : ℕ)
     (img img′ : List ℕ) (m : ImagesMatch p q img img′) where
@@ -147,8 +147,8 @@ module _ (p q : ℕ → ℕ) (occ occ′ blocking blocking′ : List ℕ) (c : C
   pub refused-match : (f .number ≡ 0 → ⊥) → UpdatesMatch p q (updatedImage img occ blocking moved local limit) (updatedImage img′ occ′ blocking′ (q moved) local limit)
   unfolding updatedImage
   refused-match h =
-      subst (λ (x : Refusal). UpdatesMatch p q (answerBy (f .number) (f .place) u img) (answerBy (x .number) (x .place) u′ img′)) (sym same-fault)
-      (refusals-match p q img img′ m (f .number) (f .place) u u′ h)
+      subst (λ (x : Refusal). UpdatesMatch p q (answerBy (f .number) f u img) (answerBy (x .number) x u′ img′)) (sym same-fault)
+      (refusals-match p q img img′ m (f .number) f u u′ h)
 
   module _ (b : Bytes img) (b′ : Bytes img′) (w : Trains16 occ) (few : moved < 65536) (z : occupied occ noLink ≡ false) where
     module _ (clean : f .number ≡ 0) where
@@ -181,7 +181,7 @@ module _ (p q : ℕ → ℕ) (occ occ′ blocking blocking′ : List ℕ) (c : C
       images-left Success t k = stored t k
       images-left Blocked t k = stored t k
       images-left (Faulty n) t k = stored t k
-      images-left (Refused n i) t k = m
+      images-left (Refused r) t k = m
 
       stored-answers : u .answer .tally .strays ≡ 0 → UpdatesMatch p q (storedAnswer u img) (storedAnswer u′ img′)
       stored-answers s =
@@ -193,5 +193,5 @@ module _ (p q : ℕ → ℕ) (occ occ′ blocking blocking′ : List ℕ) (c : C
         → UpdatesMatch p q (updatedImage img occ blocking moved local limit) (updatedImage img′ occ′ blocking′ (q moved) local limit)
     unfolding updatedImage
     update-match s =
-        subst (λ (x : Refusal). UpdatesMatch p q (answerBy (f .number) (f .place) u img) (answerBy (x .number) (x .place) u′ img′)) (sym same-fault)
-        (answers-match p q img img′ m (f .number) (f .place) u u′ (λ e r. stored-answers e (subst (λ (k : ℕ). answerBy k (f .place) u img .answer .tally .strays ≡ 0) e r)) s)
+        subst (λ (x : Refusal). UpdatesMatch p q (answerBy (f .number) f u img) (answerBy (x .number) x u′ img′)) (sym same-fault)
+        (answers-match p q img img′ m (f .number) f u u′ (λ e r. stored-answers e (subst (λ (k : ℕ). answerBy k f u img .answer .tally .strays ≡ 0) e r)) s)

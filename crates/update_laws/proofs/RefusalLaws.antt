@@ -1,5 +1,5 @@
 -- The refusals within an update: 11 or 13 in a round and in the errors of the path, 12 by the round limit; their place is 0. Assumes nothing.
-use mathlib.Core.Path.{_≡_}
+use mathlib.Core.Path.{_≡_, sym, ap}
 use mathlib.Core.Bool.{Bool, true, false, cond, not}
 use mathlib.Core.List.{List, [], _∷_}
 use Prim.Native.Nat.{ℕ, zero, suc, _≤_}
@@ -25,6 +25,8 @@ use Rattle.update_definition.specs.Look.{Here, current, lookFrom, blockBy, Stor
 use Rattle.update_definition.specs.Moves.{shiftSave, rewindDivs, oneBack, rewind, alternate, changeDiverge, pushSaved, advance}
 use Rattle.update_definition.specs.Join.{without, removeLinks, insertLinks, shiftOffsets, moveEnds, newEnds, updateFreePathHelpers, shiftDivs, updateDivNodes, freeIsCorrect, spliceAt, join}
 use Rattle.tally.specs.declared.Tally.{Tally}
+use Rattle.link_rules.specs.Refusals as Refusals
+use Rattle.link_rules.specs.declared.refusal.Refusal.{Refusal}
 use Rattle.update_definition.specs.Update.{Given, Between, Updated, Refused, doMove, searchStep, searchFrom, meeting, splitPoint, Entry, pathEnds, searches, beginAt, beginOf, endFrom, roundOf, finish, afterRound, due, faultsOf, refused, roundsFrom}
 use Rattle.update_definition.specs.declared.Move.{Move}
 use Rattle.update_definition.specs.declared.Move.the-variants.{Rewind, Alternate, ChangeDiverge, PushSaved, BlockEmpty, Advance, Join}
@@ -335,18 +337,18 @@ few-errors occ est free path = search (few, few-bad-path) depth 10
 
 -- a refusal has a number up to 13, and place 0
 record Low (u : Updated) : Type 0 where
-  number : (n place : ℕ) → u .answer .status ≡ Refused n place → (n ≤ 13) × (place ≡ 0)
+  number : (r : Refusal) → u .answer .status ≡ Refused r → (r .number ≤ 13) × (r .place ≡ 0)
 
 low-refused : (m : ℕ) (tally : Tally) (was : Train) → m ≤ 13 → Low (refused m tally was)
-low-refused m tally was l = record { number = λ n place h. let p : m ≡ n = cc in let q : place ≡ 0 = cc in (omega arith, q) }
+low-refused m tally was l = record { number = λ r h. let e : Refusals.refused m 0 ≡ r = cc in (omega (arith, ap (λ (x : Refusal). x .number) e), sym (ap (λ (x : Refusal). x .place) e)) }
 
-low-other : (u : Updated) → ((n place : ℕ) → u .answer .status ≡ Refused n place → ⊥) → Low u
-low-other u f = record { number = λ n place h. absurd (f n place h) }
+low-other : (u : Updated) → ((r : Refusal) → u .answer .status ≡ Refused r → ⊥) → Low u
+low-other u f = record { number = λ r h. absurd (f r h) }
 
 low-finish : {x : Res ℕ} → Few x → (tally : Tally) (was t : Train) → Low (finish x tally was t)
 unfolding finish
-low-finish (goes zero) tally was t = low-other _ (λ n place h. let z : _≡_ {A = ℕ} 0 1 = cc in omega arith)
-low-finish (goes (suc k)) tally was t = low-other _ (λ n place h. let z : _≡_ {A = ℕ} 0 1 = cc in omega arith)
+low-finish (goes zero) tally was t = low-other _ (λ r h. let z : _≡_ {A = ℕ} 0 1 = cc in omega arith)
+low-finish (goes (suc k)) tally was t = low-other _ (λ r h. let z : _≡_ {A = ℕ} 0 1 = cc in omega arith)
 low-finish full tally was t = low-refused 11 tally was (omega arith)
 low-finish fails tally was t = low-refused 13 tally was (omega arith)
 
@@ -358,7 +360,7 @@ unfolding afterRound
 low-after full next g was w h = low-refused 11 _ was (omega arith)
 low-after fails next g was w h = low-refused 13 _ was (omega arith)
 low-after (goes atEnd) next g was w h = low-faults g _ was (w .train)
-low-after (goes (blockedAt t)) next g was w h = low-other _ (λ n place q. let z : _≡_ {A = ℕ} 0 1 = cc in omega arith)
+low-after (goes (blockedAt t)) next g was w h = low-other _ (λ r q. let z : _≡_ {A = ℕ} 0 1 = cc in omega arith)
 low-after (goes (again t i k)) next g was w h = h _
 
 low-cond : (t : Bool) {x y : Updated} → Low x → Low y → Low (cond t x y)
@@ -374,5 +376,5 @@ low-rounds (suc k) g was w =
     (low-faults g (w .tally) was (w .train))
 
 -- a refusal of the loop over rounds is 11, 12 or 13
-pub refused-number : (k : ℕ) (g : Given) (was : Train) (w : Between) (n place : ℕ) → roundsFrom k g was w .answer .status ≡ Refused n place → (n ≤ 13) × (place ≡ 0)
+pub refused-number : (k : ℕ) (g : Given) (was : Train) (w : Between) (r : Refusal) → roundsFrom k g was w .answer .status ≡ Refused r → (r .number ≤ 13) × (r .place ≡ 0)
 refused-number k g was w = low-rounds k g was w .number

@@ -76,7 +76,7 @@ abbrev pub StatusFew : Status → Type 0
 StatusFew Success = Unit {0}
 StatusFew Blocked = Unit {0}
 StatusFew (Faulty k) = k ≤ 1024
-StatusFew (Refused n place) = Unit {0}
+StatusFew (Refused r) = Unit {0}
 
 -- with n rounds left, from this tally on
 pub record Few (n : ℕ) (from : Tally) (a : Answer) : Type 0 where

@@ -32,19 +32,19 @@ module _ (img occ blocking : List ℕ) (moved : ℕ) (local : Bool) (limit : ℕ
   abbrev after : UpdatedImage
   after = updatedImage img occ blocking moved local limit
 
-  by : (f : Refusal) → updateFault img occ blocking moved limit ≡ f → after ≡ answerBy (f .number) (f .place) u img
+  by : (f : Refusal) → updateFault img occ blocking moved limit ≡ f → after ≡ answerBy (f .number) f u img
   unfolding updatedImage
-  by f q = ap (λ (x : Refusal). answerBy (x .number) (x .place) u img) q
+  by f q = ap (λ (x : Refusal). answerBy (x .number) x u img) q
 
-  pub call-refused : (n : ℕ) → call .number ≡ suc n → after ≡ refusedAnswer (suc n) (call .place) img
+  pub call-refused : (n : ℕ) → call .number ≡ suc n → after ≡ refusedAnswer call img
   unfolding updateFault
-  call-refused n h = by call (or-else-first call image n h) ∙ ap (λ (k : ℕ). answerBy k (call .place) u img) h
+  call-refused n h = by call (or-else-first call image n h) ∙ ap (λ (k : ℕ). answerBy k call u img) h
 
-  pub image-refused : (n : ℕ) → call .number ≡ 0 → image .number ≡ suc n → after ≡ refusedAnswer (suc n) (image .place) img
+  pub image-refused : (n : ℕ) → call .number ≡ 0 → image .number ≡ suc n → after ≡ refusedAnswer image img
   unfolding updateFault
-  image-refused n c h = by image (or-else-second call image c) ∙ ap (λ (k : ℕ). answerBy k (image .place) u img) h
+  image-refused n c h = by image (or-else-second call image c) ∙ ap (λ (k : ℕ). answerBy k image u img) h
 
   -- else the answer is that of the update of the train that the image holds
   pub not-refused : call .number ≡ 0 → image .number ≡ 0 → after ≡ storedAnswer u img
   unfolding updateFault
-  not-refused c h = by image (or-else-second call image c) ∙ ap (λ (k : ℕ). answerBy k (image .place) u img) h
+  not-refused c h = by image (or-else-second call image c) ∙ ap (λ (k : ℕ). answerBy k image u img) h

@@ -8,20 +8,21 @@ use lib.ListN.{length}
 use Rattle.link_rules.proofs.OctetLaws.{Bytes}
 use Rattle.image.specs.Codec.{decoded}
 use Rattle.image_fault.specs.ImageFault.{imageFault}
+use Rattle.link_rules.specs.declared.refusal.Refusal.{Refusal}
 use Rattle.image_fault.proofs.AcceptLaws.{or-else-clean}
 use Rattle.update_definition.specs.Update.{Updated, updateFreePath}
 use Rattle.update_laws.proofs.Tally.{Counts, update-counts}
 use Rattle.update_definition.specs.UpdateImage.{callFault, answerBy, linkIdxs, updateFault, updatedImage}
 use Rattle.update_laws.proofs.BytesAccepted.{bytes-accepted}
 
-answer-counts : (limit k place : ℕ) (u : Updated) (img : List ℕ) → (k ≡ 0 → Counts limit (u .answer)) → Counts limit (answerBy k place u img .answer)
-answer-counts limit zero place u img h = h refl
-answer-counts limit (suc k) place u img h = record { rounds = omega arith; strays = omega arith; errors = tt }
+answer-counts : (limit k : ℕ) (f : Refusal) (u : Updated) (img : List ℕ) → (k ≡ 0 → Counts limit (u .answer)) → Counts limit (answerBy k f u img .answer)
+answer-counts limit zero f u img h = h refl
+answer-counts limit (suc k) f u img h = record { rounds = omega arith; strays = omega arith; errors = tt }
 
 pub image-counts : (img occ blocking : List ℕ) (moved : ℕ) (local : Bool) (limit : ℕ) → Bytes img → Counts limit (updatedImage img occ blocking moved local limit .answer)
 unfolding updatedImage updateFault
 image-counts img occ blocking moved local limit b =
     let f = updateFault img occ blocking moved limit in
-    answer-counts limit (f .number) (f .place) (updateFreePath occ (linkIdxs blocking) (record { 0 = moved }) local limit (decoded img)) img (λ e.
+    answer-counts limit (f .number) f (updateFreePath occ (linkIdxs blocking) (record { 0 = moved }) local limit (decoded img)) img (λ e.
     update-counts (length occ) occ (linkIdxs blocking) (record { 0 = moved }) local limit (decoded img)
     (bytes-accepted img (length occ) b (or-else-clean (callFault occ blocking moved limit) (imageFault img (length occ)) e .1) .0))

@@ -79,7 +79,7 @@ abbrev pub statusNumbers : Status → List ℕ → List ℕ
 statusNumbers Success rest = 0 ∷ 0 ∷ 0 ∷ rest
 statusNumbers Blocked rest = 1 ∷ 0 ∷ 0 ∷ rest
 statusNumbers (Faulty n) rest = 2 ∷ n ∷ 0 ∷ rest
-statusNumbers (Refused n place) rest = 3 ∷ n ∷ place ∷ rest
+statusNumbers (Refused r) rest = 3 ∷ r .number ∷ r .place ∷ rest
 
 -- status, rounds, strays, fixed, free, front, back, path records, diverge records
 unfoldable pub digest : Updated → List ℕ

@@ -52,4 +52,4 @@ abbrev pub Leaves : (Train → Type 0) → Train → Status → Train → Type 0
 Leaves L t Success u = L u
 Leaves L t Blocked u = L u
 Leaves L t (Faulty n) u = L u
-Leaves L t (Refused n place) u = u ≡ t
+Leaves L t (Refused r) u = u ≡ t

@@ -56,11 +56,11 @@ taken yard occ a long h =
     }
 
 -- the answer of a check that is not refused
-never : (rows : ℕ → Row) (slots begin n place : ℕ) → answerOf rows slots begin ≡ Refused n place → ⊥
+never : (rows : ℕ → Row) (slots begin : ℕ) (r : Refusal) → answerOf rows slots begin ≡ Refused r → ⊥
 unfolding answerOf
-never rows slots begin n place = go (howMany (λ t. isErredRow (rows t)) slots) _ _
+never rows slots begin r = go (howMany (λ t. isErredRow (rows t)) slots) _ _
   where
-    go : (k : ℕ) (d : Bool) (m : ℕ) → answerBy k d m ≡ Refused n place → ⊥
+    go : (k : ℕ) (d : Bool) (m : ℕ) → answerBy k d m ≡ Refused r → ⊥
     go zero d m e = let z : _≡_ {A = ℕ} 0 1 = cc in omega arith
     go (suc k) d m e = let z : _≡_ {A = ℕ} 0 1 = cc in omega arith
 
@@ -74,25 +74,25 @@ module _ (yard occ : List ℕ) (a : CheckArgs) (report : List ℕ) where
   abbrev done : Checked
   done = checkDone yard occ a report
 
-  by : (P : Checked → Type 0) → ((n : ℕ) → f .number ≡ suc n → P (check (Refused (suc n) (f .place)) yard report)) → (f .number ≡ 0 → P done) → P after
+  by : (P : Checked → Type 0) → ((n : ℕ) → f .number ≡ suc n → P (check (Refused f) yard report)) → (f .number ≡ 0 → P done) → P after
   unfolding checkedWith
   by P halt ok = go (f .number) refl
     where
-      go : (n : ℕ) → f .number ≡ n → P (checkedBy n (f .place) done yard report)
+      go : (n : ℕ) → f .number ≡ n → P (checkedBy n f done yard report)
       go zero e = ok e
       go (suc n) e = halt n e
 
   -- a check that is not refused
   pub taken-done : f .number ≡ 0 → after ≡ done
   unfolding checkedWith
-  taken-done e = ap (λ (n : ℕ). checkedBy n (f .place) done yard report) e
+  taken-done e = ap (λ (n : ℕ). checkedBy n f done yard report) e
 
   -- a refused check leaves the yard and the report
-  pub refused-leaves : (n place : ℕ) → after .answer ≡ Refused n place → (after .yard ≡ yard) × (after .report ≡ report)
-  refused-leaves n place =
-      by (λ (c : Checked). c .answer ≡ Refused n place → (c .yard ≡ yard) × (c .report ≡ report))
+  pub refused-leaves : (r : Refusal) → after .answer ≡ Refused r → (after .yard ≡ yard) × (after .report ≡ report)
+  refused-leaves r =
+      by (λ (c : Checked). c .answer ≡ Refused r → (c .yard ≡ yard) × (c .report ≡ report))
       (λ k e h. (refl, refl))
-      (λ e h. absurd (never (slotRow yard occ a) (slotCount yard) (a .begin) n place h))
+      (λ e h. absurd (never (slotRow yard occ a) (slotCount yard) (a .begin) r h))
 
   -- the lengths are kept
   pub yard-length : length (after .yard) ≡ length yard
@@ -132,9 +132,9 @@ module _ (occ : List ℕ) (a : CheckArgs) (t : ℕ) (img : List ℕ) where
   abbrev u : UpdatedImage
   u = updatedImage img occ (a .blocking) (a .moved) (a .local) (a .limit)
 
-  pub visit-refused : (n : ℕ) → fault .number ≡ suc n → visited occ a t img ≡ visit (refusedRow (suc n) (fault .place) 0 0) img
+  pub visit-refused : (n : ℕ) → fault .number ≡ suc n → visited occ a t img ≡ visit (refusedRow fault 0 0) img
   unfolding visited
-  visit-refused n e = ap (λ (k : ℕ). visitBy k (fault .place) (isFinished img) (eqb t (a .moved)) (a .moved) u img) e
+  visit-refused n e = ap (λ (k : ℕ). visitBy k fault (isFinished img) (eqb t (a .moved)) (a .moved) u img) e
 
   pub visit-finished : fault .number ≡ 0 → isFinished img ≡ true → visited occ a t img ≡ visit finishedRow img
   unfolding visited

@@ -36,18 +36,18 @@ holder-row : (s : Status) (moved rounds strays : ℕ) → statusRow s moved roun
 holder-row Success moved rounds strays = omega arith
 holder-row Blocked moved rounds strays = omega arith
 holder-row (Faulty n) moved rounds strays = omega arith
-holder-row (Refused n i) moved rounds strays = omega arith
+holder-row (Refused r) moved rounds strays = omega arith
 
-holder-by : (n place : ℕ) (isDone isMoved : Bool) (moved : ℕ) (u : UpdatedImage) (img : List ℕ) → visitBy n place isDone isMoved moved u img .row .holder ≤ moved
-holder-by (suc n) place isDone isMoved moved u img = omega arith
-holder-by zero place true isMoved moved u img = omega arith
-holder-by zero place false true moved u img = omega arith
-holder-by zero place false false moved u img = holder-row (u .answer .status) moved (u .answer .tally .rounds) (u .answer .tally .strays)
+holder-by : (n : ℕ) (f : Refusal) (isDone isMoved : Bool) (moved : ℕ) (u : UpdatedImage) (img : List ℕ) → visitBy n f isDone isMoved moved u img .row .holder ≤ moved
+holder-by (suc n) f isDone isMoved moved u img = omega arith
+holder-by zero f true isMoved moved u img = omega arith
+holder-by zero f false true moved u img = omega arith
+holder-by zero f false false moved u img = holder-row (u .answer .status) moved (u .answer .tally .rounds) (u .answer .tally .strays)
 
 holder-few : (occ : List ℕ) (a : CheckArgs) (t : ℕ) (img : List ℕ) → visited occ a t img .row .holder ≤ a .moved
 unfolding visited
 holder-few occ a t img =
-    holder-by (imageFault img (length occ) .number) (imageFault img (length occ) .place) (isFinished img) (eqb t (a .moved)) (a .moved)
+    holder-by (imageFault img (length occ) .number) (imageFault img (length occ)) (isFinished img) (eqb t (a .moved)) (a .moved)
     (updatedImage img occ (a .blocking) (a .moved) (a .local) (a .limit)) img
 
 -- ---- the strays of a row fit the report
@@ -56,18 +56,18 @@ strays-row : (s : Status) (moved rounds strays : ℕ) → statusRow s moved roun
 strays-row Success moved rounds strays = omega arith
 strays-row Blocked moved rounds strays = omega arith
 strays-row (Faulty n) moved rounds strays = omega arith
-strays-row (Refused n i) moved rounds strays = omega arith
+strays-row (Refused r) moved rounds strays = omega arith
 
-strays-by : (n place : ℕ) (isDone isMoved : Bool) (moved : ℕ) (u : UpdatedImage) (img : List ℕ) → visitBy n place isDone isMoved moved u img .row .strays ≤ u .answer .tally .strays
-strays-by (suc n) place isDone isMoved moved u img = omega arith
-strays-by zero place true isMoved moved u img = omega arith
-strays-by zero place false true moved u img = omega arith
-strays-by zero place false false moved u img = strays-row (u .answer .status) moved (u .answer .tally .rounds) (u .answer .tally .strays)
+strays-by : (n : ℕ) (f : Refusal) (isDone isMoved : Bool) (moved : ℕ) (u : UpdatedImage) (img : List ℕ) → visitBy n f isDone isMoved moved u img .row .strays ≤ u .answer .tally .strays
+strays-by (suc n) f isDone isMoved moved u img = omega arith
+strays-by zero f true isMoved moved u img = omega arith
+strays-by zero f false true moved u img = omega arith
+strays-by zero f false false moved u img = strays-row (u .answer .status) moved (u .answer .tally .rounds) (u .answer .tally .strays)
 
 strays-few : (occ : List ℕ) (a : CheckArgs) (t : ℕ) (img : List ℕ) → Bytes img → a .limit < 65536 → visited occ a t img .row .strays < 4294967296
 unfolding visited
 strays-few occ a t img b h =
-    omega (arith, image-counts img occ (a .blocking) (a .moved) (a .local) (a .limit) b .strays, strays-by (imageFault img (length occ) .number) (imageFault img (length occ) .place) (isFinished img) (eqb t (a .moved)) (a .moved) (updatedImage img occ (a .blocking) (a .moved) (a .local) (a .limit)) img)
+    omega (arith, image-counts img occ (a .blocking) (a .moved) (a .local) (a .limit) b .strays, strays-by (imageFault img (length occ) .number) (imageFault img (length occ)) (isFinished img) (eqb t (a .moved)) (a .moved) (updatedImage img occ (a .blocking) (a .moved) (a .local) (a .limit)) img)
 
 -- what the report keeps of a renumbered row
 kept-renumbered : (q : ℕ → ℕ) (r : Row) → r .holder < 65536 → q (r .holder) < 65536 → keptRow (rRow q r) ≡ rRow q (keptRow r)
@@ -223,13 +223,13 @@ module _ (top : ℕ) (few-trains : top < 65536) (p q : ℕ → ℕ) (yard yard�
     abbrev done′ : Checked
     done′ = checkDone yard′ occ′ a′ report′
 
-    by : (n place : ℕ) → (n ≡ 0 → ChecksMatch p q S done done′) → ChecksMatch p q S (checkedBy n place done yard report) (checkedBy n place done′ yard′ report′)
-    by zero place h = h refl
-    by (suc n) place h = record { answer = (refl, refl); report = tt; yards = m }
+    by : (n : ℕ) (x : Refusal) → (n ≡ 0 → ChecksMatch p q S done done′) → ChecksMatch p q S (checkedBy n x done yard report) (checkedBy n x done′ yard′ report′)
+    by zero x h = h refl
+    by (suc n) x h = record { answer = refl; report = tt; yards = m }
 
     -- the theorem, refused checks included
     pub check-match : ChecksMatch p q S (checkedWith yard occ a report) (checkedWith yard′ occ′ a′ report′)
     unfolding checkedWith
     check-match =
-        subst (λ (x : Refusal). ChecksMatch p q S (checkedBy (f .number) (f .place) done yard report) (checkedBy (x .number) (x .place) done′ yard′ report′)) (sym fault-same)
-        (by (f .number) (f .place) (λ e. let k = plain e in done-match e (k .begin) (k .zero-empty) (none-counted few e (k .begin) (k .strays))))
+        subst (λ (x : Refusal). ChecksMatch p q S (checkedBy (f .number) f done yard report) (checkedBy (x .number) x done′ yard′ report′)) (sym fault-same)
+        (by (f .number) f (λ e. let k = plain e in done-match e (k .begin) (k .zero-empty) (none-counted few e (k .begin) (k .strays))))

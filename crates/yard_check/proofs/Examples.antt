@@ -4,6 +4,7 @@ use mathlib.Core.Bool.{true, false}
 use mathlib.Core.List.{List, [], _∷_}
 use Prim.Native.Nat.{ℕ}
 use lib.ListN.{take, set, replicate}
+use Rattle.link_rules.specs.Refusals.{refused}
 use Rattle.yard_check.specs.Check.{Refused, Erred, Done, check, checked}
 use Rattle.yard_check.proofs.Siding.{words, siding, diverted, plain, twoSlots, everything}
 
@@ -47,30 +48,30 @@ damages = refl
 
 -- ---- refused calls: an occupancy of one entry; blocking link 4 of 4 links; no moved train; a byte too few; moved 3 of 2 slots; begin 0; a report too short
 
-short : checked yard (0 ∷ []) (1 ∷ []) 2 1 false 5 blank ≡ check (Refused 2 0) yard blank
+short : checked yard (0 ∷ []) (1 ∷ []) 2 1 false 5 blank ≡ check (Refused (refused 2 0)) yard blank
 unfolding everything
 short = refl
 
-above : checked yard (0 ∷ 2 ∷ 0 ∷ 0 ∷ []) (4 ∷ []) 2 1 false 5 blank ≡ check (Refused 4 0) yard blank
+above : checked yard (0 ∷ 2 ∷ 0 ∷ 0 ∷ []) (4 ∷ []) 2 1 false 5 blank ≡ check (Refused (refused 4 0)) yard blank
 unfolding everything
 above = refl
 
-unmoved : checked yard (0 ∷ 2 ∷ 0 ∷ 0 ∷ []) (1 ∷ []) 0 1 false 5 blank ≡ check (Refused 5 0) yard blank
+unmoved : checked yard (0 ∷ 2 ∷ 0 ∷ 0 ∷ []) (1 ∷ []) 0 1 false 5 blank ≡ check (Refused (refused 5 0)) yard blank
 unfolding everything
 unmoved = refl
 
-cut : checked (take 615 yard) (0 ∷ 2 ∷ 0 ∷ 0 ∷ []) (1 ∷ []) 3 1 false 5 blank ≡ check (Refused 14 0) (take 615 yard) blank
+cut : checked (take 615 yard) (0 ∷ 2 ∷ 0 ∷ 0 ∷ []) (1 ∷ []) 3 1 false 5 blank ≡ check (Refused (refused 14 0)) (take 615 yard) blank
 unfolding everything
 cut = refl
 
-slotless : checked yard (0 ∷ 2 ∷ 0 ∷ 0 ∷ []) (1 ∷ []) 3 1 false 5 [] ≡ check (Refused 15 0) yard []
+slotless : checked yard (0 ∷ 2 ∷ 0 ∷ 0 ∷ []) (1 ∷ []) 3 1 false 5 [] ≡ check (Refused (refused 15 0)) yard []
 unfolding everything
 slotless = refl
 
-unbegun : checked yard (0 ∷ 2 ∷ 0 ∷ 0 ∷ []) (1 ∷ []) 2 0 false 5 blank ≡ check (Refused 15 0) yard blank
+unbegun : checked yard (0 ∷ 2 ∷ 0 ∷ 0 ∷ []) (1 ∷ []) 2 0 false 5 blank ≡ check (Refused (refused 15 0)) yard blank
 unfolding everything
 unbegun = refl
 
-unreported : checked yard (0 ∷ 2 ∷ 0 ∷ 0 ∷ []) (1 ∷ []) 2 1 false 5 [] ≡ check (Refused 16 0) yard []
+unreported : checked yard (0 ∷ 2 ∷ 0 ∷ 0 ∷ []) (1 ∷ []) 2 1 false 5 [] ≡ check (Refused (refused 16 0)) yard []
 unfolding everything
 unreported = refl

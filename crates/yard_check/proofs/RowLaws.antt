@@ -85,14 +85,14 @@ image-number bs l =
     (cond-low (imageFits bs) noRefusal (refused 6 0) (omega arith) (omega arith))
     (or-low (valueFault bs l) rest (value-low bs l) (or-low (cycleFault bs) (routeFault bs) (cycle-fault-low bs) (route-low bs))))
 
-update-number : (occ : List ℕ) (blocking : List LinkIdx) (moved : TrainIdx) (local : Bool) (limit : ℕ) (t : Train) (n place : ℕ)
-    → updateFreePath occ blocking moved local limit t .answer .status ≡ Refused n place → n ≤ 13
+update-number : (occ : List ℕ) (blocking : List LinkIdx) (moved : TrainIdx) (local : Bool) (limit : ℕ) (t : Train) (r : Refusal)
+    → updateFreePath occ blocking moved local limit t .answer .status ≡ Refused r → r .number ≤ 13
 unfolding updateFreePath
-update-number occ blocking moved local limit t n place = go (at (t .«disp_path») (t .«disp_node_idx_free»))
+update-number occ blocking moved local limit t r = go (at (t .«disp_path») (t .«disp_node_idx_free»))
   where
-    go : (x : Res DispNode) → updateFrom x occ blocking moved local limit t .answer .status ≡ Refused n place → n ≤ 13
-    go (no k) h = let e : 10 ≡ n = cc in omega arith
-    go (ok m) h = let g = givenOf occ blocking moved local t m in refused-number limit g t (startOf g t) n place h .0
+    go : (x : Res DispNode) → updateFrom x occ blocking moved local limit t .answer .status ≡ Refused r → r .number ≤ 13
+    go (no k) h = let e : refused 10 0 ≡ r = cc in omega (arith, ap (λ (x : Refusal). x .number) e)
+    go (ok m) h = let g = givenOf occ blocking moved local t m in refused-number limit g t (startOf g t) r h .0
 
 module _ (img occ blocking : List ℕ) (moved : ℕ) (local : Bool) (limit : ℕ) (call : callFault occ blocking moved limit .number ≡ 0) where
   abbrev f : Refusal
@@ -109,37 +109,37 @@ module _ (img occ blocking : List ℕ) (moved : ℕ) (local : Bool) (limit : ℕ
   abbrev work : Updated
   work = updateFreePath occ (linkIdxs blocking) (record { 0 = moved }) local limit (decoded img)
 
-  update-is : u ≡ answerBy (f .number) (f .place) work img
+  update-is : u ≡ answerBy (f .number) f work img
   unfolding updatedImage
   update-is = rw fault-is
 
   -- of an update, up to 13
-  update-low : (n place : ℕ) → u .answer .status ≡ Refused n place → n ≤ 13
-  update-low n place h = go (f .number) (image-number img (length occ)) (ap (λ (x : UpdatedImage). x .answer .status) (sym update-is) ∙ h)
+  update-low : (r : Refusal) → u .answer .status ≡ Refused r → r .number ≤ 13
+  update-low r h = go (f .number) (ap (λ (x : UpdatedImage). x .answer .status) (sym update-is) ∙ h)
     where
-      go : (k : ℕ) → k ≤ 9 → answerBy k (f .place) work img .answer .status ≡ Refused n place → n ≤ 13
-      go zero l e = update-number occ (linkIdxs blocking) (record { 0 = moved }) local limit (decoded img) n place e
-      go (suc k) l e = let i : suc k ≡ n = cc in omega arith
+      go : (k : ℕ) → answerBy k f work img .answer .status ≡ Refused r → r .number ≤ 13
+      go zero e = update-number occ (linkIdxs blocking) (record { 0 = moved }) local limit (decoded img) r e
+      go (suc k) e = let i : f ≡ r = cc in omega (arith, image-number img (length occ), ap (λ (x : Refusal). x .number) i)
 
-  fits-by : (s : Status) → StatusFew s → ((n place : ℕ) → s ≡ Refused n place → n ≤ 13) → StatusFits s
+  fits-by : (s : Status) → StatusFew s → ((r : Refusal) → s ≡ Refused r → r .number ≤ 13) → StatusFits s
   fits-by Success a b = tt
   fits-by Blocked a b = tt
   fits-by (Faulty n) a b = omega arith
-  fits-by (Refused n place) a b = b n place refl
+  fits-by (Refused r) a b = b r refl
 
   -- what an update counts and its refusal have room in the report
   pub columns-fit : Bytes img → limit < 65536 → ColumnsFit (u .answer .status) (u .answer .tally .strays)
   columns-fit b l = let c = image-counts img occ blocking moved local limit b in (fits-by (u .answer .status) (c .errors) update-low, omega (arith, c .strays))
 
   -- refused by 6 to 9 before the first round: the row of such an update is that of such a slot
-  refused-update : (n : ℕ) → f .number ≡ suc n → u ≡ refusedAnswer (suc n) (f .place) img
-  refused-update n e = update-is ∙ ap (λ (k : ℕ). answerBy k (f .place) work img) e
+  refused-update : (n : ℕ) → f .number ≡ suc n → u ≡ refusedAnswer f img
+  refused-update n e = update-is ∙ ap (λ (k : ℕ). answerBy k f work img) e
 
 -- ---- the visit
 
-pub stays-refused : (n place code : ℕ) → (n ≡ 0 → ⊥) → refusedRow n place 0 0 ≡ staysRow n place code
-stays-refused zero place code h = absurd (h refl)
-stays-refused (suc n) place code h = refl
+pub stays-refused : (n : ℕ) (f : Refusal) (code : ℕ) → (n ≡ 0 → ⊥) → refusedRow f 0 0 ≡ staysRow n f code
+stays-refused zero f code h = absurd (h refl)
+stays-refused (suc n) f code h = refl
 
 module _ (occ : List ℕ) (a : CheckArgs) (t : ℕ) (img : List ℕ) where
   abbrev v : Refusal
@@ -149,17 +149,17 @@ module _ (occ : List ℕ) (a : CheckArgs) (t : ℕ) (img : List ℕ) where
   w = updatedImage img occ (a .blocking) (a .moved) (a .local) (a .limit)
 
   -- a slot that is not updated
-  pub finished-stays : isFinished img ≡ true → visited occ a t img ≡ visit (staysRow (v .number) (v .place) 1) img
+  pub finished-stays : isFinished img ≡ true → visited occ a t img ≡ visit (staysRow (v .number) v 1) img
   finished-stays d = go (v .number) refl
     where
-      go : (k : ℕ) → v .number ≡ k → visited occ a t img ≡ visit (staysRow k (v .place) 1) img
+      go : (k : ℕ) → v .number ≡ k → visited occ a t img ≡ visit (staysRow k v 1) img
       go zero e = visit-finished occ a t img e d
       go (suc n) e = visit-refused occ a t img n e
 
-  pub moved-stays : isFinished img ≡ false → t ≡ a .moved → visited occ a t img ≡ visit (staysRow (v .number) (v .place) 2) img
+  pub moved-stays : isFinished img ≡ false → t ≡ a .moved → visited occ a t img ≡ visit (staysRow (v .number) v 2) img
   moved-stays d m = go (v .number) refl
     where
-      go : (k : ℕ) → v .number ≡ k → visited occ a t img ≡ visit (staysRow k (v .place) 2) img
+      go : (k : ℕ) → v .number ≡ k → visited occ a t img ≡ visit (staysRow k v 2) img
       go zero e = visit-moved occ a t img e d m
       go (suc n) e = visit-refused occ a t img n e
 

@@ -112,7 +112,7 @@ module _ (yard occ : List ℕ) (a : CheckArgs) (report : List ℕ) where
   unfolding checkedWith
   slots-few c is = subst⁻¹ Few is (go (f .number) refl)
     where
-      go : (n : ℕ) → f .number ≡ n → Few (checkedBy n (f .place) (checkDone yard occ a report) yard report)
+      go : (n : ℕ) → f .number ≡ n → Few (checkedBy n f (checkDone yard occ a report) yard report)
       go zero e = answered (slotCount (checkDone yard occ a report .yard) ≤ 63) (slotRow yard occ a) (slotCount yard) (a .begin) (few e)
       go (suc n) e = tt
 

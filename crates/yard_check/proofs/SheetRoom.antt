@@ -188,9 +188,9 @@ module _ (yard occ : List ℕ) (a : CheckArgs) (report : List ℕ) (links : ℕ)
   unfolding checkedWith checkLines
   check-long = go (f .number) refl
     where
-      go : (n : ℕ) → f .number ≡ n → length (checkLines (checkedBy n (f .place) done yard report) links) ≤ 4096
+      go : (n : ℕ) → f .number ≡ n → length (checkLines (checkedBy n f done yard report) links) ≤ 4096
       go zero e = done-long e
-      go (suc n) e = refused-long (suc n) (omega (arith, fault-few yard occ a (length report)))
+      go (suc n) e = refused-long (f .number) (fault-few yard occ a (length report))
 
 -- the room that the program lends
 pub sheet-room : (b : List ℕ) → length (sheetText b) ≤ 4096

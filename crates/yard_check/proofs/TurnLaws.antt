@@ -183,11 +183,11 @@ module _ (yard occ : List ℕ) (a : CheckArgs) (report : List ℕ) (clean : chec
       rw (v .tally, v .yard-left, v .report-left) (sym (taken-done yard occ a report clean))
 
 pub check-refused : (yard occ : List ℕ) (a : CheckArgs) (report : List ℕ) (f : Refusal) → f ≡ checkFault yard occ a (length report) → (f .number ≡ 0 → ⊥)
-    → check (Refused (f .number) (f .place)) yard report ≡ checkedWith yard occ a report
+    → check (Refused f) yard report ≡ checkedWith yard occ a report
 unfolding checkedWith
 check-refused yard occ a report f e h = rw (← e) (go (f .number) h)
   where
-    go : (n : ℕ) → (n ≡ 0 → ⊥) → check (Refused n (f .place)) yard report ≡ checkedBy n (f .place) (checkDone yard occ a report) yard report
+    go : (n : ℕ) → (n ≡ 0 → ⊥) → check (Refused f) yard report ≡ checkedBy n f (checkDone yard occ a report) yard report
     go zero k = absurd (k refl)
     go (suc n) k = refl
 

@@ -16,6 +16,7 @@ use Rattle.image.proofs.Writers.{zero-writes, each-writes, le-outside}
 use Rattle.image.proofs.RecordLaws.{node-writes, diverge-writes}
 use Rattle.image.proofs.Parts.{putPath, clearPath, putDiverges, putCounts, counts-writes, indices-writes}
 use Rattle.image_fault.specs.ImageFault.{imageFault}
+use Rattle.link_rules.specs.declared.refusal.Refusal.{Refusal}
 use Rattle.update_definition.specs.Update.{Status, Success, Blocked, Faulty, Refused, Updated}
 use Rattle.update_definition.specs.UpdateImage.{UpdatedImage, leftImage, answerBy, updateFault, updatedImage}
 use Rattle.update_laws.proofs.UpdateLeaves.{length-kept, bytes-kept, refused-leaves}
@@ -46,33 +47,33 @@ left-train : (s : Status) (t : Train) (img : List ℕ) → leAt 2 (leftImage s t
 left-train Success t img = stored-train t img
 left-train Blocked t img = stored-train t img
 left-train (Faulty n) t img = stored-train t img
-left-train (Refused n i) t img = refl
+left-train (Refused r) t img = refl
 
-answer-train : (k place : ℕ) (u : Updated) (img : List ℕ) → leAt 2 (answerBy k place u img .image) 32 ≡ leAt 2 img 32
-answer-train zero place u img = left-train (u .answer .status) (u .train) img
-answer-train (suc k) place u img = refl
+answer-train : (k : ℕ) (f : Refusal) (u : Updated) (img : List ℕ) → leAt 2 (answerBy k f u img .image) 32 ≡ leAt 2 img 32
+answer-train zero f u img = left-train (u .answer .status) (u .train) img
+answer-train (suc k) f u img = refl
 
 module _ (occ blocking : List ℕ) (moved : ℕ) (local : Bool) (limit : ℕ) (img : List ℕ) where
   train-kept : leAt 2 (updatedImage img occ blocking moved local limit .image) 32 ≡ leAt 2 img 32
   unfolding updatedImage
-  train-kept = answer-train (updateFault img occ blocking moved limit .number) (updateFault img occ blocking moved limit .place) _ img
+  train-kept = answer-train (updateFault img occ blocking moved limit .number) (updateFault img occ blocking moved limit) _ img
 
 -- ---- by what the visit does
 
 module _ (P : Row → List ℕ → Type 0) (img : List ℕ) (u : UpdatedImage) (moved : ℕ) (same : (r : Row) → P r img)
     (after : P (updatedRow (u .answer) moved) (u .image)) where
-  visit-by : (n place : ℕ) (isDone isMoved : Bool) → let v = visitBy n place isDone isMoved moved u img in P (v .row) (v .image)
-  visit-by (suc n) place isDone isMoved = same (refusedRow (suc n) place 0 0)
-  visit-by zero place true isMoved = same finishedRow
-  visit-by zero place false true = same movedRow
-  visit-by zero place false false = after
+  visit-by : (n : ℕ) (f : Refusal) (isDone isMoved : Bool) → let v = visitBy n f isDone isMoved moved u img in P (v .row) (v .image)
+  visit-by (suc n) f isDone isMoved = same (refusedRow f 0 0)
+  visit-by zero f true isMoved = same finishedRow
+  visit-by zero f false true = same movedRow
+  visit-by zero f false false = after
 
 -- an update whose row says refused is refused
-refused-row : (X : Type 0) (s : Status) (moved rounds strays : ℕ) → ((n place : ℕ) → s ≡ Refused n place → X) → 16 ≤ statusRow s moved rounds strays .code → X
+refused-row : (X : Type 0) (s : Status) (moved rounds strays : ℕ) → ((r : Refusal) → s ≡ Refused r → X) → 16 ≤ statusRow s moved rounds strays .code → X
 refused-row X Success moved rounds strays f h = absurd (omega arith)
 refused-row X Blocked moved rounds strays f h = absurd (omega arith)
 refused-row X (Faulty n) moved rounds strays f h = absurd (omega arith)
-refused-row X (Refused n place) moved rounds strays f h = f n place refl
+refused-row X (Refused r) moved rounds strays f h = f r refl
 
 module _ (occ : List ℕ) (a : CheckArgs) (t : ℕ) (img : List ℕ) where
   abbrev u : UpdatedImage
@@ -82,7 +83,7 @@ module _ (occ : List ℕ) (a : CheckArgs) (t : ℕ) (img : List ℕ) where
   by : (P : Row → List ℕ → Type 0) → ((r : Row) → P r img) → P (updatedRow (u .answer) (a .moved)) (u .image)
       → P (visited occ a t img .row) (visited occ a t img .image)
   unfolding visited
-  by P same after = visit-by P img u (a .moved) same after (imageFault img (length occ) .number) (imageFault img (length occ) .place) (isFinished img) (eqb t (a .moved))
+  by P same after = visit-by P img u (a .moved) same after (imageFault img (length occ) .number) (imageFault img (length occ)) (isFinished img) (eqb t (a .moved))
 
   visit-keeps : (P : List ℕ → Type 0) → P img → P (u .image) → P (visited occ a t img .image)
   visit-keeps P same after = by (λ r x. P x) (λ r. same) after

@@ -40,21 +40,21 @@ row-match : (q : ℕ → ℕ) → q 0 ≡ 0 → (s : Status) (moved rounds stray
 row-match q e Success moved rounds strays = no-holder q e 3 0 rounds strays 0
 row-match q e Blocked moved rounds strays = refl
 row-match q e (Faulty n) moved rounds strays = no-holder q e 5 0 rounds strays n
-row-match q e (Refused n i) moved rounds strays = no-holder q e _ i rounds strays 0
+row-match q e (Refused r) moved rounds strays = no-holder q e _ (r .place) rounds strays 0
 
 row-strays : (s : Status) (moved rounds strays : ℕ) → statusRow s moved rounds strays .strays ≡ strays
 row-strays Success moved rounds strays = refl
 row-strays Blocked moved rounds strays = refl
 row-strays (Faulty n) moved rounds strays = refl
-row-strays (Refused n i) moved rounds strays = refl
+row-strays (Refused r) moved rounds strays = refl
 
 module _ (p q : ℕ → ℕ) (zero-stays : q 0 ≡ 0) (img img′ : List ℕ) (m : ImagesMatch p q img img′) (moved : ℕ) (u u′ : UpdatedImage) where
-  visit-by : (n place : ℕ) (isDone isMoved : Bool) → (u .answer .tally .strays ≡ 0 → UpdatesMatch p q u u′) → visitBy n place isDone isMoved moved u img .row .strays ≡ 0
-      → VisitsMatch p q (visitBy n place isDone isMoved moved u img) (visitBy n place isDone isMoved (q moved) u′ img′)
-  visit-by (suc n) place isDone isMoved h s = record { row = no-holder q zero-stays _ place 0 0 0; image = m }
-  visit-by zero place true isMoved h s = record { row = no-holder q zero-stays 1 0 0 0 0; image = m }
-  visit-by zero place false true h s = record { row = no-holder q zero-stays 2 0 0 0 0; image = m }
-  visit-by zero place false false h s =
+  visit-by : (n : ℕ) (f : Refusal) (isDone isMoved : Bool) → (u .answer .tally .strays ≡ 0 → UpdatesMatch p q u u′) → visitBy n f isDone isMoved moved u img .row .strays ≡ 0
+      → VisitsMatch p q (visitBy n f isDone isMoved moved u img) (visitBy n f isDone isMoved (q moved) u′ img′)
+  visit-by (suc n) f isDone isMoved h s = record { row = no-holder q zero-stays _ (f .place) 0 0 0; image = m }
+  visit-by zero f true isMoved h s = record { row = no-holder q zero-stays 1 0 0 0 0; image = m }
+  visit-by zero f false true h s = record { row = no-holder q zero-stays 2 0 0 0 0; image = m }
+  visit-by zero f false false h s =
       let k = h (sym (row-strays (u .answer .status) moved (u .answer .tally .rounds) (u .answer .tally .strays)) ∙ s) in
       record { row = rw (k .answer) (row-match q zero-stays (u .answer .status) moved (u .answer .tally .rounds) (u .answer .tally .strays)); image = k .images }
 
@@ -77,7 +77,7 @@ module _ (p q : ℕ → ℕ) (occ occ′ : List ℕ) (a a′ : CheckArgs) (g : A
     fault-same : imageFault img′ (length occ′) ≡ f
     fault-same = rw (c .occupancies .long) (image-fault-match p q (length occ) (c .lastTrain) (c .links) (c .trains) img img′ m)
 
-    second : visited occ′ a′ (q t) img′ ≡ visitBy (f .number) (f .place) (isFinished img) (eqb t (a .moved)) (q (a .moved)) u′ img′
+    second : visited occ′ a′ (q t) img′ ≡ visitBy (f .number) f (isFinished img) (eqb t (a .moved)) (q (a .moved)) u′ img′
     unfolding visited
     second = rw (g .moved, g .local, g .limit, fault-same, finished-match p q img img′ m, eqb-renumbered (c .lastTrain) q (c .trains) t (a .moved))
 
@@ -85,7 +85,7 @@ module _ (p q : ℕ → ℕ) (occ occ′ : List ℕ) (a a′ : CheckArgs) (g : A
     unfolding visited
     visit-match s =
         subst (λ (v : Visit). VisitsMatch p q (visited occ a t img) v) (sym second)
-        (visit-by p q (c .trains .zero-stays) img img′ m (a .moved) u u′ (f .number) (f .place) (isFinished img) (eqb t (a .moved))
+        (visit-by p q (c .trains .zero-stays) img img′ m (a .moved) u u′ (f .number) f (isFinished img) (eqb t (a .moved))
         (update-match p q occ occ′ (a .blocking) (a′ .blocking) c (a .moved) (a .local) (a .limit) img img′ m b b′ w few empty) s)
 
 -- from slot 1 on every slot is visited

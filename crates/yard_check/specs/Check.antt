@@ -92,15 +92,15 @@ finishedRow = plainRow 1
 abbrev pub movedRow : Row
 movedRow = plainRow 2
 
-abbrev pub refusedRow : ℕ → ℕ → ℕ → ℕ → Row
-refusedRow n place rounds strays = record { code = 16 + n; place = place; rounds = rounds; holder = 0; strays = strays; faults = 0 }
+abbrev pub refusedRow : Refusal → ℕ → ℕ → Row
+refusedRow f rounds strays = record { code = 16 + f .number; place = f .place; rounds = rounds; holder = 0; strays = strays; faults = 0 }
 
 -- holder (document 01): of a blocked slot the moved train, else 0
 abbrev pub statusRow : Status → ℕ → ℕ → ℕ → Row
 statusRow Success moved rounds strays = record { code = 3; place = 0; rounds = rounds; holder = 0; strays = strays; faults = 0 }
 statusRow Blocked moved rounds strays = record { code = 4; place = 0; rounds = rounds; holder = moved; strays = strays; faults = 0 }
 statusRow (Faulty n) moved rounds strays = record { code = 5; place = 0; rounds = rounds; holder = 0; strays = strays; faults = n }
-statusRow (UpdateRefused n place) moved rounds strays = refusedRow n place rounds strays
+statusRow (UpdateRefused f) moved rounds strays = refusedRow f rounds strays
 
 -- of a slot that was updated, from the update's answer
 abbrev pub updatedRow : UpdateAnswer → ℕ → Row
@@ -155,19 +155,19 @@ pub record Visit : Type 0 where
 abbrev pub visit : Row → List ℕ → Visit
 visit r img = record { row = r; image = img }
 
--- refused by 6 to 9 (the number and its place), else finished, else moved, else updated
-abbrev pub visitBy : ℕ → ℕ → Bool → Bool → ℕ → UpdatedImage → List ℕ → Visit
-visitBy (suc n) place isDone isMoved moved u img = visit (refusedRow (suc n) place 0 0) img
-visitBy zero place true isMoved moved u img = visit finishedRow img
-visitBy zero place false true moved u img = visit movedRow img
-visitBy zero place false false moved u img = visit (updatedRow (u .answer) moved) (u .image)
+-- by the number of the refusal f: refused by 6 to 9, else finished, else moved, else updated
+abbrev pub visitBy : ℕ → Refusal → Bool → Bool → ℕ → UpdatedImage → List ℕ → Visit
+visitBy (suc n) f isDone isMoved moved u img = visit (refusedRow f 0 0) img
+visitBy zero f true isMoved moved u img = visit finishedRow img
+visitBy zero f false true moved u img = visit movedRow img
+visitBy zero f false false moved u img = visit (updatedRow (u .answer) moved) (u .image)
 
 -- of slot t with this image
 unfoldable pub visited : List ℕ → CheckArgs → ℕ → List ℕ → Visit
 visited occ a t img =
     let f = imageFault img (length occ) in
     let u = updatedImage img occ (a .blocking) (a .moved) (a .local) (a .limit) in
-    visitBy (f .number) (f .place) (isFinished img) (eqb t (a .moved)) (a .moved) u img
+    visitBy (f .number) f (isFinished img) (eqb t (a .moved)) (a .moved) u img
 
 -- slots below begin are not visited
 unfoldable pub slotVisit : List ℕ → List ℕ → CheckArgs → ℕ → Visit
@@ -206,9 +206,9 @@ firstNot test (suc k) t = elim (test t) [ true ↦ firstNot test k (t + 1) | fal
 
 -- ---- the answer
 
--- refused with its number and place; Erred with the number of faulty or refused slots; else the deadlock flag and the next begin
+-- refused; Erred with the number of faulty or refused slots; else the deadlock flag and the next begin
 pub data Answer : Type 0 where
-  Refused : ℕ → ℕ → Answer
+  Refused : Refusal → Answer
   Erred : ℕ → Answer
   Done : Bool → ℕ → Answer
 
@@ -241,16 +241,16 @@ checkOver yard images rows begin report =
 abbrev pub checkDone : List ℕ → List ℕ → CheckArgs → List ℕ → Checked
 checkDone yard occ a report = checkOver yard (slotImage yard occ a) (slotRow yard occ a) (a .begin) report
 
--- a refusal leaves the yard and the report
-abbrev pub checkedBy : ℕ → ℕ → Checked → List ℕ → List ℕ → Checked
-checkedBy zero place done yard report = done
-checkedBy (suc n) place done yard report = check (Refused (suc n) place) yard report
+-- by the number of the refusal f, which leaves the yard and the report
+abbrev pub checkedBy : ℕ → Refusal → Checked → List ℕ → List ℕ → Checked
+checkedBy zero f done yard report = done
+checkedBy (suc n) f done yard report = check (Refused f) yard report
 
 unfoldable pub checkedWith : List ℕ → List ℕ → CheckArgs → List ℕ → Checked
 checkedWith yard occ a report =
     let f = checkFault yard occ a (length report) in
     let done = checkDone yard occ a report in
-    checkedBy (f .number) (f .place) done yard report
+    checkedBy (f .number) f done yard report
 
 -- the yard, the occupancy, the blocking list, the moved train, begin, local, the round limit, the report
 abbrev pub checked : List ℕ → List ℕ → List ℕ → ℕ → ℕ → Bool → ℕ → List ℕ → Checked

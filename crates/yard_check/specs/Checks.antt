@@ -4,6 +4,7 @@ use mathlib.Core.Path.{_≡_}
 use mathlib.Core.Bool.{cond, true, _&&_}
 use mathlib.Core.List.{List}
 use lib.Dec.{eqb}
+use Rattle.link_rules.specs.declared.refusal.Refusal.{Refusal}
 use Rattle.update_definition.specs.Update as Update
 use Rattle.update_definition.specs.UpdateImage.{callFault}
 use Rattle.yard_check.specs.Yard.{slotCount, withPart, yardFits}
@@ -23,7 +24,7 @@ abbrev pub rowOf : Columns.Row → Row
 rowOf r = record { code = r .code; place = r .place; rounds = r .rounds; holder = r .holder .0; strays = r .strays; faults = r .faults }
 
 abbrev pub answeredOf : Code.Answer → Answer
-answeredOf (Answers.Refused r) = Refused (r .number) (r .place)
+answeredOf (Answers.Refused r) = Refused r
 answeredOf (Answers.Erred n) = Erred n
 answeredOf (Answers.Done deadlock next) = Done deadlock next
 
@@ -33,17 +34,17 @@ checkedOf x yard report = check (answeredOf x) yard report
 
 -- ---- the row of a slot
 
--- that is not updated: refused by 6 to 9 (the number and its place), else this code
-abbrev pub staysRow : ℕ → ℕ → ℕ → Row
-staysRow zero place code = plainRow code
-staysRow (suc n) place code = refusedRow (suc n) place 0 0
+-- that is not updated, by the number of the refusal f: refused by 6 to 9, else this code
+abbrev pub staysRow : ℕ → Refusal → ℕ → Row
+staysRow zero f code = plainRow code
+staysRow (suc n) f code = refusedRow f 0 0
 
 -- what an update counts and its refusal have room in their columns
 abbrev pub StatusFits : Update.Status → Type 0
 StatusFits Update.Success = Unit {0}
 StatusFits Update.Blocked = Unit {0}
 StatusFits (Update.Faulty n) = n < 4294967296
-StatusFits (Update.Refused n place) = n ≤ 13
+StatusFits (Update.Refused r) = r .number ≤ 13
 
 abbrev pub ColumnsFit : Update.Status → ℕ → Type 0
 ColumnsFit s strays = StatusFits s × (strays < 4294967296)

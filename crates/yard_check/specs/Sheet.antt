@@ -95,13 +95,13 @@ slotLines yard report links zero = []
 slotLines yard report links (suc n) = slotLines yard report links n ++ slotLine (suc n) (rowAt report (suc n)) (freeColumn (partOf yard (suc n)) links)
 
 abbrev pub firstLine : Answer → ℕ → List ℕ
-firstLine (Refused n place) slots = refusedLine n
+firstLine (Refused r) slots = refusedLine (r .number)
 firstLine (Erred k) slots = ascii "yard" ++ (column slots ++ (ascii " erred" ++ (column k ++ lineEnd)))
 firstLine (Done deadlock next) slots = ascii "yard" ++ (column slots ++ (ascii " deadlock " ++ (yesOrNo deadlock ++ (ascii " next" ++ (column next ++ lineEnd)))))
 
 -- a refused check has one line
 abbrev pub checkText : Answer → List ℕ → List ℕ → List ℕ
-checkText (Refused n place) first slots = first
+checkText (Refused r) first slots = first
 checkText (Erred k) first slots = first ++ slots
 checkText (Done deadlock next) first slots = first ++ slots
 

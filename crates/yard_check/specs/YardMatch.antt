@@ -22,21 +22,21 @@ pub record ReportsMatch (q : ℕ → ℕ) (slots : ℕ) (report report′ : List
   pub long : length report′ ≡ length report
   pub rows : (t : ℕ) → 1 ≤ t → t ≤ slots → rowAt report′ (q t) ≡ rRow q (rowAt report t)
 
--- refused in both with the same number and place; Erred in both with the same number; or neither, with the same deadlock flag. The next begin is not compared
+-- the same refusal in both; Erred in both with the same number; or neither, with the same deadlock flag. The next begin is not compared
 abbrev pub AnswersMatch : Answer → Answer → Type 0
-AnswersMatch (Refused n i) (Refused n′ i′) = (n′ ≡ n) × (i′ ≡ i)
-AnswersMatch (Refused n i) (Erred n′) = ⊥
-AnswersMatch (Refused n i) (Done d b) = ⊥
-AnswersMatch (Erred n) (Refused n′ i) = ⊥
+AnswersMatch (Refused r) (Refused r′) = r′ ≡ r
+AnswersMatch (Refused r) (Erred n′) = ⊥
+AnswersMatch (Refused r) (Done d b) = ⊥
+AnswersMatch (Erred n) (Refused r) = ⊥
 AnswersMatch (Erred n) (Erred n′) = n′ ≡ n
 AnswersMatch (Erred n) (Done d b) = ⊥
-AnswersMatch (Done d b) (Refused n i) = ⊥
+AnswersMatch (Done d b) (Refused r) = ⊥
 AnswersMatch (Done d b) (Erred n) = ⊥
 AnswersMatch (Done d b) (Done d′ b′) = d′ ≡ d
 
 -- R holds of a check that was not refused
 abbrev pub NotRefused : Type 0 → Answer → Type 0
-NotRefused R (Refused n i) = Unit {0}
+NotRefused R (Refused r) = Unit {0}
 NotRefused R (Erred n) = R
 NotRefused R (Done d b) = R
 

@@ -116,13 +116,13 @@ fn plain_row(code: u16) -> Row
     }
 }
 
-fn refused_row(number: u16, place: u16, rounds: u16, strays: u32) -> Row
-    requires { ⌜ number ≤ 13 ⌝ }
-    ensures { λ r. ⌜ rowOf r ≡ Check.refusedRow number place rounds strays ⌝ }
+fn refused_row(f: Refusal, rounds: u16, strays: u32) -> Row
+    requires { ⌜ f .number ≤ 13 ⌝ }
+    ensures { λ r. ⌜ rowOf r ≡ Check.refusedRow f rounds strays ⌝ }
 {
     Row {
-        code: 16 + number,
-        place: place,
+        code: 16 + f.number,
+        place: f.place,
         rounds: rounds,
         holder: TrainIdx(0),
         strays: strays,
@@ -154,7 +154,7 @@ fn updated_row(u: Updated, moved: TrainIdx) -> Row
         Status::Success => worked_row(3, u, TrainIdx(0), 0),
         Status::Blocked => worked_row(4, u, moved, 0),
         Status::Faulty(n) => worked_row(5, u, TrainIdx(0), n as u32),
-        Status::Refused(f) => refused_row(f.number, f.place, u.tally.rounds, u.tally.strays as u32),
+        Status::Refused(f) => refused_row(f, u.tally.rounds, u.tally.strays as u32),
     }
 }
 
@@ -183,11 +183,11 @@ fn is_finished(img: &[u8]) -> bool
 // The row of a slot that is not updated: refused by 6 to 9, else this code.
 fn stays_row(img: &[u8], occ: &[u32], code: u16) -> Row
     requires { ⌜ length (now occ) ≤ 4000 ⌝ }
-    ensures { λ r. ⌜ rowOf r ≡ staysRow (imageFault (now (img .entry)) (length (now (occ .entry))) .number) (imageFault (now (img .entry)) (length (now (occ .entry))) .place) code ⌝ }
+    ensures { λ r. ⌜ rowOf r ≡ staysRow (imageFault (now (img .entry)) (length (now (occ .entry))) .number) (imageFault (now (img .entry)) (length (now (occ .entry)))) code ⌝ }
 {
     let f = image_fault::image_fault(img, occ.len() as u32);
     if f.number != 0 {
-        return refused_row(f.number, f.place, 0, 0);
+        return refused_row(f, 0, 0);
     }
     plain_row(code)
 }
@@ -343,10 +343,7 @@ pub fn check_deadlock(
     };
     let f = check_fault(yard, occ.len(), blocking, a, report.len());
     if f.number != 0 {
-        return Answer::Refused(Refusal {
-            number: f.number,
-            place: f.place,
-        });
+        return Answer::Refused(f);
     }
     if 512 < occ.len() {
         return answered(visits_large(yard, occ, blocking, a, report));

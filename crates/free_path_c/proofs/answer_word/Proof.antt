@@ -1,4 +1,4 @@
-use mathlib.Core.Path.{sym, ap}
+use mathlib.Core.Path.{sym, ap, _∙_}
 use Rattle.free_path_c.specs.Words.{answerWord}
 use borrow.Author.Needs.{needs}
 use Rattle.free_path_c.proofs.answer_word.Statement.{statement}
@@ -10,23 +10,14 @@ enum-told c = search needs
 enum-known-answer : tie.Need-enum-known-answer
 enum-known-answer c = search needs
 
-cast-result : tie.Need-cast-result
-cast-result c = search needs
-
-cast-result-2 : tie.Need-cast-result-2
-cast-result-2 c = search needs
-
-mul-result : tie.Need-mul-result
-mul-result c = search needs
-
-add-result : tie.Need-add-result
-add-result c = search needs
+fault-word-requires : tie.Need-fault-word-requires
+fault-word-requires c κs = search needs
 
 returns : tie.Need-returns
 returns c = search needs
 
 returns-2 : tie.Need-returns-2
-returns-2 c = sym (ap answerWord (c .before .before .before .answer .given .1))
+returns-2 c = c .fault-word .ensures ∙ sym (ap answerWord (c .before .before .answer .given .1))
 
 pub answer-word-spec : {M : Type 1} → statement M
 answer-word-spec =
@@ -34,9 +25,6 @@ answer-word-spec =
     (tie.spec
     enum-told
     enum-known-answer
-    cast-result
-    cast-result-2
-    mul-result
-    add-result
+    fault-word-requires
     returns
     returns-2)

@@ -1,4 +1,4 @@
-use mathlib.Core.Path.{ap}
+use mathlib.Core.Path.{ap, _∙_}
 use Rattle.free_path_c.specs.Words.{faultWord}
 use borrow.Author.Needs.{needs}
 use Rattle.free_path_c.proofs.lavtoeu_profile.Statement.{statement}
@@ -7,22 +7,13 @@ use Rattle.free_path_c.proofs.lavtoeu_profile.Tie as tie
 profile-fault-requires : tie.Need-profile-fault-requires
 profile-fault-requires c κs = search needs
 
-cast-result : tie.Need-cast-result
-cast-result c = search needs
-
-cast-result-2 : tie.Need-cast-result-2
-cast-result-2 c = search needs
-
-mul-result : tie.Need-mul-result
-mul-result c = search needs
-
-add-result : tie.Need-add-result
-add-result c = search needs
+fault-word-requires : tie.Need-fault-word-requires
+fault-word-requires c κs = search needs
 
 returns : tie.Need-returns
-returns c = ap faultWord (c .before .before .profile-fault .ensures)
+returns c = c .fault-word .ensures ∙ ap faultWord (c .before .profile-fault .ensures)
 
 pub lavtoeu-profile-spec : {M : Type 1} → statement M
 lavtoeu-profile-spec =
     tie.close
-    (tie.spec profile-fault-requires cast-result cast-result-2 mul-result add-result returns)
+    (tie.spec profile-fault-requires fault-word-requires returns)

@@ -1,4 +1,4 @@
-use mathlib.Core.Path.{sym, ap}
+use mathlib.Core.Path.{sym, ap, _∙_}
 use Rattle.update_free_path.specs.Updates.{statusOf}
 use Rattle.update_free_path.specs.declared.answer.Status.{Status}
 use Rattle.free_path_c.specs.Words.{statusWord}
@@ -18,17 +18,8 @@ enum-known-s c = search needs
 enum-known-s-2 : tie.Need-enum-known-s-2
 enum-known-s-2 c = search needs
 
-cast-result : tie.Need-cast-result
-cast-result c = search needs
-
-cast-result-2 : tie.Need-cast-result-2
-cast-result-2 c = search needs
-
-mul-result : tie.Need-mul-result
-mul-result c = search needs
-
-add-result : tie.Need-add-result
-add-result c = search needs
+fault-word-requires : tie.Need-fault-word-requires
+fault-word-requires c κs = search needs
 
 returns : tie.Need-returns
 returns c = search needs
@@ -40,7 +31,7 @@ returns-3 : tie.Need-returns-3
 returns-3 c = search needs
 
 returns-4 : tie.Need-returns-4
-returns-4 c = sym (ap (λ (s : Status). statusWord (statusOf s)) (c .before .before .before .s2 .given .1))
+returns-4 c = c .fault-word .ensures ∙ sym (ap (λ (s : Status). statusWord (statusOf s)) (c .before .before .s2 .given .1))
 
 pub status-word-spec : {M : Type 1} → statement M
 status-word-spec =
@@ -50,10 +41,7 @@ status-word-spec =
     enum-told-2
     enum-known-s
     enum-known-s-2
-    cast-result
-    cast-result-2
-    mul-result
-    add-result
+    fault-word-requires
     returns
     returns-2
     returns-3

@@ -34,15 +34,11 @@ returns-2 c =
 judge-requires : tie.Need-judge-requires
 judge-requires c κs = let a = c .before .before .before .before .before .before .args in sizes-give (length (now (a .est))) (a .order) (length (now (a .image))) (sym (c .before .sizes-fit .ensures) ∙ not-false _ (c .if2 .left))
 
-refused-requires-3 : tie.Need-refused-requires-3
-refused-requires-3 c κs = search needs
-
 returns-3 : tie.Need-returns-3
 unfolding laidOut
 returns-3 c =
-    let a = c .before .before .before .before .before .before .before .before .before .before .args in
-    rw (ne-eqb (a .order .«train_idx» .0) 0 (c .before .before .before .before .before .before .if1 .left), sym (c .before .before .before .before .before .sizes-fit .ensures) ∙ not-false _ (c .before .before .before .before .if2 .left), ← c .before .before .before .judge .ensures, ne-eqb (c .before .before .before .judge .result .number) 0 (c .before .if3 .taken))
-    (ap (λ (r : Answer). laid r (now (a .image))) (c .refused3 .ensures))
+    let a = c .before .before .before .before .before .before .before .before .before .args in
+    rw (ne-eqb (a .order .«train_idx» .0) 0 (c .before .before .before .before .before .if1 .left), sym (c .before .before .before .before .sizes-fit .ensures) ∙ not-false _ (c .before .before .before .if2 .left), ← c .before .before .judge .ensures, ne-eqb (c .before .before .judge .result .number) 0 (c .if3 .taken))
 
 offsets-fit-requires : tie.Need-offsets-fit-requires
 offsets-fit-requires c κs =
@@ -50,15 +46,15 @@ offsets-fit-requires c κs =
     let s = sizes-give (length (now (a .est))) (a .order) (length (now (a .image))) (sym (c .before .before .before .before .sizes-fit .ensures) ∙ not-false _ (c .before .before .before .if2 .left)) in
     s .few-est
 
-refused-requires-4 : tie.Need-refused-requires-4
-refused-requires-4 c κs = search needs
+refused-requires-3 : tie.Need-refused-requires-3
+refused-requires-3 c κs = search needs
 
 returns-4 : tie.Need-returns-4
 unfolding laidOut
 returns-4 c =
     let a = c .before .before .before .before .before .before .before .before .before .before .before .before .args in
     rw (ne-eqb (a .order .«train_idx» .0) 0 (c .before .before .before .before .before .before .before .before .if1 .left), sym (c .before .before .before .before .before .before .before .sizes-fit .ensures) ∙ not-false _ (c .before .before .before .before .before .before .if2 .left), ← c .before .before .before .before .before .judge .ensures, eq-eqb (c .before .before .before .before .before .judge .result .number) 0 (c .before .before .before .if3 .left), sym (c .before .before .offsets-fit .ensures) ∙ not-true _ (c .before .if4 .taken))
-    (ap (λ (r : Answer). laid r (now (a .image))) (c .refused4 .ensures))
+    (ap (λ (r : Answer). laid r (now (a .image))) (c .refused3 .ensures))
 
 build-requires : tie.Need-build-requires
 build-requires c κs = let a = c .before .before .before .before .before .before .before .before .before .before .before .before .args in sizes-give (length (now (a .est))) (a .order) (length (now (a .image))) (sym (c .before .before .before .before .before .before .before .sizes-fit .ensures) ∙ not-false _ (c .before .before .before .before .before .before .if2 .left))
@@ -83,10 +79,9 @@ lay-out-spec =
     refused-requires-2
     returns-2
     judge-requires
-    refused-requires-3
     returns-3
     offsets-fit-requires
-    refused-requires-4
+    refused-requires-3
     returns-4
     build-requires
     same-length

@@ -1,12 +1,13 @@
 use native.Mathlib.Omega.{arith}
 use mathlib.Core.Path.{sym, _∙_}
+use Rattle.link_rules.specs.Refusals.{refused}
 use Rattle.update_free_path.proofs.AnswerLaws.{judged-no, judged-some}
 use borrow.Author.Needs.{needs}
 use Rattle.update_free_path.proofs.answer.judged.Statement.{statement}
 use Rattle.update_free_path.proofs.answer.judged.Tie as tie
 
 cast-refusal : tie.Need-cast-refusal
-cast-refusal c = let e = c .before .before .before .args .e in omega (arith, c .before .before .before .pre (e .code) 0 (sym (judged-no (e .code) (e .count) (c .before .if1 .taken))))
+cast-refusal c = let e = c .before .before .before .args .e in omega (arith, c .before .before .before .pre (refused (e .code) 0) (sym (judged-no (e .code) (e .count) (c .before .if1 .taken))))
 
 refusal-requires : tie.Need-refusal-requires
 refusal-requires c κs = search needs

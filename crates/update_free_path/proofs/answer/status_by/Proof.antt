@@ -10,7 +10,7 @@ enum-known-stop : tie.Need-enum-known-stop
 enum-known-stop c = search needs
 
 cast-refusal : tie.Need-cast-refusal
-cast-refusal c = let a = c .before .before .before .before .before .args in omega (arith, c .before .before .before .before .before .pre _ 0 (ap (λ k. statusBy k (errorsOf (now (a .img)) (now (a .occ)) (a .h))) (c .before .stop .given .1)))
+cast-refusal c = let a = c .before .before .before .before .before .args in omega (arith, c .before .before .before .before .before .pre _ (ap (λ k. statusBy k (errorsOf (now (a .img)) (now (a .occ)) (a .h))) (c .before .stop .given .1)))
 
 refusal-requires : tie.Need-refusal-requires
 refusal-requires c κs = search needs
@@ -28,7 +28,7 @@ validate-free-path-requires : tie.Need-validate-free-path-requires
 validate-free-path-requires c κs = search needs
 
 judged-requires : tie.Need-judged-requires
-judged-requires c κs = let a = c .before .before .before .before .before .before .args in λ n place q. c .before .before .before .before .before .before .pre n place (ap (λ k. statusBy k (errorsOf (now (a .img)) (now (a .occ)) (a .h))) (c .before .before .enum-told2 .given .1) ∙ ap judgedBy (sym (c .validate-free-path .ensures)) ∙ q)
+judged-requires c κs = let a = c .before .before .before .before .before .before .args in λ r q. c .before .before .before .before .before .before .pre r (ap (λ k. statusBy k (errorsOf (now (a .img)) (now (a .occ)) (a .h))) (c .before .before .enum-told2 .given .1) ∙ ap judgedBy (sym (c .validate-free-path .ensures)) ∙ q)
 
 returns : tie.Need-returns
 returns c = let a = c .before .before .before .before .before .before .args in c .refusal .ensures ∙ sym (ap (λ k. statusBy k (errorsOf (now (a .img)) (now (a .occ)) (a .h))) (c .before .before .stop .given .1))

@@ -25,7 +25,7 @@ returns : tie.Need-returns
 returns c =
     let f = c .before .before .before .image-fault in
     let code = c .before .before .before .before .before .before .args .code in
-    c .refused-row .ensures ∙ (stays-refused (f .result .number) (f .result .place) code (c .before .if1 .taken) ∙ ap (λ (x : Refusal). staysRow (x .number) (x .place) code) (f .ensures))
+    c .refused-row .ensures ∙ (stays-refused (f .result .number) (f .result) code (c .before .if1 .taken) ∙ ap (λ (x : Refusal). staysRow (x .number) x code) (f .ensures))
 
 plain-row-requires : tie.Need-plain-row-requires
 plain-row-requires c κs = search needs
@@ -34,7 +34,7 @@ returns-2 : tie.Need-returns-2
 returns-2 c =
     let f = c .before .before .before .image-fault in
     let code = c .before .before .before .before .before .before .args .code in
-    c .plain-row .ensures ∙ (ap (λ (n : ℕ). staysRow n (f .result .place) code) (sym (c .before .if1 .left)) ∙ ap (λ (x : Refusal). staysRow (x .number) (x .place) code) (f .ensures))
+    c .plain-row .ensures ∙ (ap (λ (n : ℕ). staysRow n (f .result) code) (sym (c .before .if1 .left)) ∙ ap (λ (x : Refusal). staysRow (x .number) x code) (f .ensures))
 
 pub stays-row-spec : {M : Type 1} → statement M
 stays-row-spec =
