@@ -12,6 +12,7 @@ use Rattle.disp_structs.specs.Listed.{listed}
 use Rattle.disp_structs.specs.Train.{Train}
 use Rattle.disp_structs.proofs.FloatLaws.{bits-real, bits-lt, real-bits, real-fits, real-number}
 use Rattle.disp_structs.proofs.ListedLaws.{listed-length, listed-same, listed-at}
+use Rattle.image.specs.Fields.{trainField, fieldBound}
 use Rattle.image.specs.Image.{sizeOf, estCount, pathCount, divergeCount, divergeRoom, estPlace, nodePlace, divergePlace, imageSize, estFrom, nodeFrom, divergeFrom, estAt, nodeAt, divergeAt, putEst, putNode, putDiverge, putPathHeader}
 use Rattle.image.specs.Codec.{decoded, putEach, pathHeaderOf, putRecords, storedInto, putSize, putOffsets, putDists, constantInto, encodedInto, encoded}
 use Rattle.image.specs.declared.codec.PathHeader.{PathHeader}
@@ -167,7 +168,7 @@ pub record Held (t : Train) : Type 0 where
   pub free : t .«disp_node_idx_free» < 2 ^ 16
   pub front : t .«disp_node_idx_front» < 2 ^ 16
   pub back : t .«disp_node_idx_back» < 2 ^ 16
-  pub train : t .«train_idx» .0 < 2 ^ 16
+  pub train : t .«train_idx» .0 < fieldBound trainField
   pub search : Real (t .«dist_disp_path_search» .0)
   pub fixed-max : Real (t .«dist_fixed_max» .0)
 

@@ -16,6 +16,7 @@ use Rattle.disp_structs.specs.Renumbered.{rEst, rNode, rDiv, rTrainDisp}
 use Rattle.disp_structs.specs.declared.EstTime.{EstTime}
 use Rattle.disp_structs.specs.declared.DispNode.{DispNode}
 use Rattle.disp_structs.specs.declared.DivergeNode.{DivergeNode}
+use Rattle.image.specs.Fields.{trainField, divergeTrainField, fieldBound}
 use Rattle.image.specs.Image.{estPlace, nodePlace, divergePlace, zeroWords, typeNumber, estFrom, nodeFrom, divergeFrom, putEst, putNode, putDiverge}
 use Rattle.image.specs.Codec.{pathHeaderOf, putEach, putSize, putOffsets, putDists, putRecords, encoded}
 use Rattle.image.specs.declared.codec.PathHeader.{PathHeader}
@@ -448,8 +449,10 @@ width top b p r h a l =
     (λ (s : top + 1 ≤ a). omega (arith, r .above-stays a (omega arith)))
     (side a (top + 1))
 
-pub renumbered-held : (top top′ : ℕ) (p q : ℕ → ℕ) → Renumbering top p → Renumbering top′ q → top < 2 ^ 32 → top′ < 2 ^ 16 → (t : Train) → Held t → Held (rTrainDisp p q t)
-renumbered-held top top′ p q rp rq hp hq t k =
+-- where the largest train fits a diverge record, and the renumbered train of the header its field
+pub renumbered-held : (top top′ : ℕ) (p q : ℕ → ℕ) → Renumbering top p → Renumbering top′ q → top < 2 ^ 32 → top′ < fieldBound divergeTrainField
+    → (t : Train) → q (t .«train_idx» .0) < fieldBound trainField → Held t → Held (rTrainDisp p q t)
+renumbered-held top top′ p q rp rq hp hq t own k =
     let ne = length-map (t .«est_times») (rEst p) in
     let nn = length-map (t .«disp_path») (rNode p) in
     let nm = length-map (t .«div_nodes») (rDiv q) in
@@ -462,12 +465,12 @@ renumbered-held top top′ p q rp rq hp hq t k =
       node = λ i l. let h = k .node i (omega (arith, nn)) in rw (getD-map-in (rNode p) (t .«disp_path») i (nodeFrom [] 0) (omega (arith, nn)))
           (record { offset = h .offset; time = h .time; link = width top (2 ^ 32) p rp hp _ (h .link); est = h .est; auth = h .auth });
       diverge = λ i l. let h = k .diverge i (omega (arith, nm)) in rw (getD-map-in (rDiv q) (t .«div_nodes») i (divergeFrom [] 0) (omega (arith, nm)))
-          (record { train = width top′ (2 ^ 16) q rq hq _ (h .train); node = h .node });
+          (record { train = width top′ (fieldBound divergeTrainField) q rq hq _ (h .train); node = h .node });
       fixed = k .fixed;
       free = k .free;
       front = k .front;
       back = k .back;
-      train = width top′ (2 ^ 16) q rq hq _ (k .train);
+      train = own;
       search = k .search;
       fixed-max = k .fixed-max;
     }

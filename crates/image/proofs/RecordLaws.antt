@@ -17,6 +17,7 @@ use Rattle.disp_structs.specs.declared.EstTime.{EstTime}
 use Rattle.disp_structs.specs.declared.DispNode.{DispNode}
 use Rattle.disp_structs.specs.declared.DivergeNode.{DivergeNode}
 use Rattle.disp_structs.proofs.FloatLaws.{bits-real, bits-lt, real-bits}
+use Rattle.image.specs.Fields.{divergeTrainField, fieldBound}
 use Rattle.image.specs.Image.{estCount, estPlace, nodePlace, typeOf, typeNumber, estFrom, nodeFrom, divergeFrom, estAt, nodeAt, zeroEst, zeroNode, wholeEst, wholeNode, putEst, putNode, putDiverge}
 use borrow.Author.Tests.{le-ltb, lt-ltb}
 use Rattle.image.proofs.Writers.{Writes, put-to, then}
@@ -248,7 +249,7 @@ diverge-cong bs cs at h =
     )
 
 pub record DivergeHeld (x : DivergeNode) : Type 0 where
-  pub train : x .«train_idx» .0 < 2 ^ 16
+  pub train : x .«train_idx» .0 < fieldBound divergeTrainField
   pub node : x .«disp_node_idx» < 2 ^ 16
 
 pub diverge-read : (x : DivergeNode) (at : ℕ) (bs : List ℕ) → DivergeHeld x → at + 4 ≤ length bs → divergeFrom (putDiverge x at bs) at ≡ x

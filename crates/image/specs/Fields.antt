@@ -1,6 +1,6 @@
 -- The fields of an image (document 01, Layouts), each with its place and width in bytes: readers, writers, refusals and matching cite this table.
 -- Assumes nothing.
-use Prim.Native.Nat.{ℕ, _+_}
+use Prim.Native.Nat.{ℕ, _+_, _^_}
 use mathlib.Core.List.{List}
 use Rattle.link_rules.specs.Octets.{leAt, putLe}
 
@@ -10,6 +10,10 @@ pub record Field : Type 0 where
 
 abbrev pub field : ℕ → ℕ → Field
 field place width = record { place = place; width = width }
+
+-- a field holds the numbers below it
+abbrev pub fieldBound : Field → ℕ
+fieldBound f = 256 ^ (f .width)
 
 -- ---- header
 

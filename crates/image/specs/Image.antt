@@ -13,7 +13,7 @@ use Rattle.disp_structs.specs.declared.EstType.the-variants.{Arrive, Clear, Fak
 use Rattle.disp_structs.specs.declared.EstTime.{EstTime}
 use Rattle.disp_structs.specs.declared.DispNode.{DispNode}
 use Rattle.disp_structs.specs.declared.DivergeNode.{DivergeNode}
-use Rattle.image.specs.Fields.{sizeField, estCountField, pathCountField, divergeCountField, divergeRoomField, trainField, fixedField, freeField, frontField, backField, searchField, fixedMaxField, estDistField, estNextField, estNextAltField, estPrevField, estPrevAltField, estLinkField, estTypeField, estKindField, nodeOffsetField, nodeTimeField, nodeLinkField, nodeEstField, nodeAuthField, nodeTypeField, nodeKindField, nodeSpareField, divergeTrainField, divergeNodeField, readField, putField, readIn, putIn, readFirst, putFirst}
+use Rattle.image.specs.Fields.{sizeField, estCountField, pathCountField, divergeCountField, divergeRoomField, trainField, fixedField, freeField, frontField, backField, searchField, fixedMaxField, estDistField, estNextField, estNextAltField, estPrevField, estPrevAltField, estLinkField, estTypeField, estKindField, nodeOffsetField, nodeTimeField, nodeLinkField, nodeEstField, nodeAuthField, nodeTypeField, nodeKindField, nodeSpareField, divergeTrainField, divergeNodeField, fieldBound, readField, putField, readIn, putIn, readFirst, putFirst}
 use Rattle.image.specs.declared.codec.PathHeader.{PathHeader}
 
 -- ---- header; the places and widths of all fields stand in Fields
@@ -72,6 +72,10 @@ divergePlace e i = 64 + 64 * e + 4 * i
 -- the size of an image of e est records with room for q diverge nodes
 abbrev pub imageSize : ℕ → ℕ → ℕ
 imageSize e q = 64 + 64 * e + 4 * q
+
+-- the largest train of an image, which its diverge records hold; laws that store a train ask for no more than it
+abbrev pub largestTrain : List ℕ → ℕ
+largestTrain bs = fieldBound divergeTrainField - 1
 
 -- ---- records
 

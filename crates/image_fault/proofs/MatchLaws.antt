@@ -11,7 +11,8 @@ use Rattle.link_rules.specs.Octets.{leAt}
 use Rattle.link_rules.specs.Network.{allBelow}
 use Rattle.link_rules.specs.Renumbering.{Renumbering, rLink, rTrain}
 use Rattle.link_rules.specs.declared.link_idx.LinkIdx.{LinkIdx}
-use Rattle.link_rules.proofs.OctetLaws.{Bytes, le-add}
+use Rattle.link_rules.specs.declared.link_idx.TrainIdx.{TrainIdx}
+use Rattle.link_rules.proofs.OctetLaws.{Bytes, le-add, le-lt}
 use Rattle.link_rules.proofs.RenumberingLaws.{eqb-renumbered-0, ltb-renumbered, sameLink-r}
 use Rattle.disp_structs.specs.Train.{Train}
 use Rattle.disp_structs.specs.Renumbered.{rEvent, rEst, rNode, rDiv, rTrainDisp}
@@ -19,7 +20,7 @@ use Rattle.disp_structs.specs.declared.LinkEvent.{LinkEvent}
 use Rattle.disp_structs.specs.declared.EstTime.{EstTime}
 use Rattle.disp_structs.specs.declared.DivergeNode.{DivergeNode}
 use Rattle.disp_structs.proofs.ListedLaws.{listed-same}
-use Rattle.image.specs.Image.{estCount, pathCount, divergeCount, divergeRoom, estPlace, nodePlace, divergePlace, estAt, nodeAt, divergeAt}
+use Rattle.image.specs.Image.{estCount, pathCount, divergeCount, divergeRoom, estPlace, nodePlace, divergePlace, largestTrain, estAt, nodeAt, divergeAt}
 use Rattle.image.specs.Codec.{decoded, storedInto}
 use Rattle.image.proofs.CodecLaws.{Keeps, Held}
 use Rattle.image.proofs.MatchEncoded.{encoded-match, renumbered-held}
@@ -306,7 +307,7 @@ module _ (p q : ℕ → ℕ) (l top : ℕ) (rp : Renumbering (l - 1) p) (rq : Re
 
 -- ---- accepted images that match: their states, and a store into both
 
-module _ (p q : ℕ → ℕ) (l top : ℕ) (rp : Renumbering (l - 1) p) (rq : Renumbering top q) (few : top < 2 ^ 16) (bs bs′ : List ℕ) (m : ImagesMatch p q bs bs′)
+module _ (p q : ℕ → ℕ) (l top : ℕ) (rp : Renumbering (l - 1) p) (rq : Renumbering top q) (bs bs′ : List ℕ) (few : top ≤ largestTrain bs) (m : ImagesMatch p q bs bs′)
     (b : Bytes bs) (b′ : Bytes bs′) (ok : imageFault bs l .number ≡ 0) where
   counts : CountsFit bs
   counts = fits-counts bs (accepted bs l ok .fits)
@@ -328,11 +329,17 @@ module _ (p q : ℕ → ℕ) (l top : ℕ) (rp : Renumbering (l - 1) p) (rq : Re
           fixed-max = k .fixed-max;
         }
 
+    -- the second image holds the renumbered train of the header
+    own-train : q (t .«train_idx» .0) ≡ leAt 2 bs′ 32
+    unfolding decoded
+    own-train = ap (λ (x : TrainIdx). q (x .0)) (k .train) ∙ sym (m .header .number)
+
     -- the renumbered state, stored into the second, matches the state stored into the first
     pub stored-match : ImagesMatch p q (storedInto t bs) (storedInto (rTrainDisp p q t) bs′)
     stored-match =
         let n = accepted bs l ok .links .1 in
-        let h′ = renumbered-held (l - 1) top p q rp rq (omega arith) few t h in
+        let own : q (t .«train_idx» .0) < 65536 = omega (arith, own-train, le-lt 2 bs′ 32 b′) in
+        let h′ = renumbered-held (l - 1) top p q rp rq (omega arith) (omega (arith, few)) t own h in
         rw (
           stored-accepted bs l b ok t k (h .room),
           stored-accepted bs′ l b′ accepted-match (rTrainDisp p q t) (rw state-match keeps′) (h′ .room),

@@ -1,5 +1,5 @@
 -- The search of a round as it begins, in cleared columns, and the round up to it. Assumes nothing.
-use Prim.Native.Nat.{ℕ, zero, suc, _^_, _≤_, _<_}
+use Prim.Native.Nat.{ℕ, zero, suc, _≤_, _<_}
 use mathlib.Core.Path.{_≡_, refl, sym, ap, ap₂, subst, _∙_}
 use mathlib.Core.Bool.{Bool, true, false}
 use mathlib.Core.List.{List, [], _∷_}
@@ -165,12 +165,13 @@ module _ (occ img on dt dn : List ℕ) (h : PathHeader) (g : Held occ img on dt 
       start-begins = record {
         few = g .links;
         accepted = round-accepted occ img on dt dn h g r m;
-        room = record { train = subst (λ (t : Train). Fits (2 ^ 32) t) (sym (train-is img dt dn h r m)) (g .fits); held = g .trains };
+        top = g .top;
+        room = record { train = subst (λ (t : Train). Fits (g .top) t) (sym (train-is img dt dn h r m)) (g .fits); held = g .trains };
         good = start-good (length occ) round (round-accepted occ img on dt dn h g r m) split d save low (omega (arith, path-long occ img on dt dn h g r m)) divs-low (omega (arith, divs-long occ img on dt dn h g r m)) node-below save-few;
         fits = record {
-          pool = each-one (TrainFits (2 ^ 32)) noTrain (omega arith);
+          pool = each-one (TrainFits (g .top)) noTrain (omega arith);
           nodes = λ i x q. no-ok q;
-          divs = each-one (DivFits (2 ^ 32)) (record { «train_idx» = noTrain; «disp_node_idx» = 0 }) (omega arith);
+          divs = each-one (DivFits (g .top)) (record { «train_idx» = noTrain; «disp_node_idx» = 0 }) (omega arith);
         };
       }
 

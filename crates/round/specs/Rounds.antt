@@ -4,7 +4,6 @@ use mathlib.Core.Path.{_≡_}
 use mathlib.Core.Bool.{Bool, true, false}
 use mathlib.Core.List.{List, []}
 use lib.ListN.{length, replicate}
-use Rattle.link_rules.specs.LinkIdx.{holder}
 use Rattle.link_rules.specs.declared.link_idx.LinkIdx.{LinkIdx}
 use Rattle.disp_structs.specs.Train.{Train}
 use Rattle.image.specs.Image.{estCount, divergeRoom, nodePlace}
@@ -15,10 +14,9 @@ use Rattle.update_definition.specs.State as State
 use Rattle.update_definition.specs.State.{Ended, atEnd, blockedAt, again}
 use Rattle.update_definition.specs.Update as Update
 use Rattle.update_definition.specs.Accepted.{Accepted}
-use Rattle.update_definition.specs.Fits.{Fits}
+use Rattle.update_definition.specs.Fits.{TrainsUpTo, Fits}
 use Rattle.update_definition.specs.declared.Move.{Move}
 use Rattle.update_definition.specs.declared.Move.the-variants.{Rewind, Alternate, ChangeDiverge, PushSaved, BlockEmpty, Advance, Join}
-use Rattle.update_laws.specs.FitsGood.{TrainFits}
 use Rattle.search.specs.Read.{divsOf, pathOf, roundOf, searchIn, Arrays, arrays, Marked}
 use Rattle.search.specs.declared.Round.{Round}
 use Rattle.search.specs.declared.Place.{Place}
@@ -33,12 +31,13 @@ use Rattle.round.specs.declared.RoundEnd.{RoundEnd}
 
 -- ---- the train of a round
 
--- it is accepted over L links, its numbers have room in their fields, and the flags are those of its path
+-- it is accepted over L links, floats and auth have room in their fields, no train is above some largest one, and the flags are those of its path
 pub record Held (occ img on dt dn : List ℕ) (h : PathHeader) : Type 0 where
   pub links : length occ ≤ 4000
   pub accepted : Accepted (length occ) (trainOf img dt dn h)
-  pub fits : Fits (2 ^ 32) (trainOf img dt dn h)
-  pub trains : (l : LinkIdx) → TrainFits (2 ^ 32) (holder occ l)
+  pub top : ℕ
+  pub fits : Fits top (trainOf img dt dn h)
+  pub trains : TrainsUpTo top occ
   pub size : nodePlace (estCount img) (estCount img) ≤ length img
   pub marked : Marked on (pathOf img (h .«path_count»))
 

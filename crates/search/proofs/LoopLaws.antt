@@ -259,29 +259,29 @@ time-number (fin s m e) h = tt
 
 module _ (links : ℕ) (r : State.Round) (s₀ : State.Search) (b : Begins links r s₀) where
   -- as it begins
-  pub going-first : (n : ℕ) → Going links r n s₀ n s₀
+  pub going-first : (n : ℕ) → Going (b .top) links r n s₀ n s₀
   going-first n = record { good = b .good; fits = b .fits; same = refl }
 
-  module _ (n₀ n : ℕ) (s : State.Search) (g : Going links r n₀ s₀ (suc n) s) (x : Res State.Turn) (q : x ≡ searchStep r s) where
+  module _ (n₀ n : ℕ) (s : State.Search) (g : Going (b .top) links r n₀ s₀ (suc n) s) (x : Res State.Turn) (q : x ≡ searchStep r s) where
     pub going-ends : searchFrom n₀ r s₀ ≡ endOf (searchFrom n r) x
     unfolding searchFrom
     going-ends = sym (g .same) ∙ ap (endOf (searchFrom n r)) (sym q)
 
     -- one turn that goes on
-    pub going-on : (u : State.Search) → x ≡ ok (State.goOn u) → Going links r n₀ s₀ n u
+    pub going-on : (u : State.Search) → x ≡ ok (State.goOn u) → Going (b .top) links r n₀ s₀ n u
     going-on u y = record {
       good = step-good links r (b .accepted) s u (g .good) (sym q ∙ y);
-      fits = step-fits (2 ^ 32) r (b .room) links (b .accepted) s u (g .good) (g .fits) (sym q ∙ y);
+      fits = step-fits (b .top) r (b .room) links (b .accepted) s u (g .good) (g .fits) (sym q ∙ y);
       same = sym (going-ends ∙ ap (endOf (searchFrom n r)) y);
     }
 
   -- no turn is left
-  pub going-out : (n₀ : ℕ) (s : State.Search) → Going links r n₀ s₀ 0 s → searchFrom n₀ r s₀ ≡ no 13
+  pub going-out : (n₀ : ℕ) (s : State.Search) → Going (b .top) links r n₀ s₀ 0 s → searchFrom n₀ r s₀ ≡ no 13
   unfolding searchFrom
   going-out n₀ s g = sym (g .same)
 
 -- a node of the new path is one that a path record holds
-node-sound : (links : ℕ) (r : State.Round) (s₀ : State.Search) (b : Begins links r s₀) (n₀ n : ℕ) (s : State.Search) (g : Going links r n₀ s₀ n s) (i : ℕ) (x : DispNode) → at (s .«disp_path_new») i ≡ ok x → Sound x
+node-sound : (links : ℕ) (r : State.Round) (s₀ : State.Search) (b : Begins links r s₀) (n₀ n : ℕ) (s : State.Search) (g : Going (b .top) links r n₀ s₀ n s) (i : ℕ) (x : DispNode) → at (s .«disp_path_new») i ≡ ok x → Sound x
 node-sound links r s₀ b n₀ n s g i x q =
     let y = g .good .nodes-good i x q in
     let z = g .fits .nodes i x q in
@@ -297,7 +297,7 @@ node-sound links r s₀ b n₀ n s g i x q =
 
 module _ (occ img dt dn : List ℕ) (r : Round) (t : Train) (s₀ : State.Search) (b : Begins (length occ) (roundOf t occ img dt dn r) s₀)
     (n₀ left : ℕ) (p : Place) (fresh nt nn : List ℕ) (a : Arrays)
-    (g : Going (length occ) (roundOf t occ img dt dn r) n₀ s₀ left (searchIn (r .«est_count») p (listed (p .«new_count») (nodeAt fresh)) (divsOf (p .«div_count») nt nn) a)) where
+    (g : Going (b .top) (length occ) (roundOf t occ img dt dn r) n₀ s₀ left (searchIn (r .«est_count») p (listed (p .«new_count») (nodeAt fresh)) (divsOf (p .«div_count») nt nn) a)) where
   abbrev round : State.Round
   round = roundOf t occ img dt dn r
 
@@ -325,14 +325,14 @@ module _ (occ img dt dn : List ℕ) (r : Round) (t : Train) (s₀ : State.Search
     abbrev after : State.Search
     after = searchIn (r .«est_count») q new (divsOf (q .«div_count») nt′ nn′) a′
 
-    left-one : Going (length occ) round n₀ s₀ (suc m) (searchIn (r .«est_count») p new (divsOf (p .«div_count») nt nn) a)
-    left-one = subst (λ (j : ℕ). Going (length occ) round n₀ s₀ j (searchIn (r .«est_count») p new (divsOf (p .«div_count») nt nn) a)) n g
+    left-one : Going (b .top) (length occ) round n₀ s₀ (suc m) (searchIn (r .«est_count») p new (divsOf (p .«div_count») nt nn) a)
+    left-one = subst (λ (j : ℕ). Going (b .top) (length occ) round n₀ s₀ j (searchIn (r .«est_count») p new (divsOf (p .«div_count») nt nn) a)) n g
 
     -- it goes on with this new path
     abbrev longer : List DispNode
     longer = take (x .count) (new ++ (x .node ∷ []))
 
-    goes-on : x .goes ≡ true → Going (length occ) round n₀ s₀ m (State.setNew after longer)
+    goes-on : x .goes ≡ true → Going (b .top) (length occ) round n₀ s₀ m (State.setNew after longer)
     goes-on y = going-on (length occ) round s₀ b n₀ m _ left-one (turnOf go e round h after) (w .0) (State.setNew after longer) (f .node y round h after new-long)
 
     pub turn-sound : x .goes ≡ true → x .count ≡ p .«new_count» + 1 → Sound (x .node)
@@ -341,8 +341,8 @@ module _ (occ img dt dn : List ℕ) (r : Round) (t : Train) (s₀ : State.Search
         let v : at (new ++ (x .node ∷ [])) (p .«new_count») ≡ ok (x .node) = at-in (new ++ (x .node ∷ [])) (p .«new_count») (x .node) (omega (arith, length-append new (x .node ∷ []), new-long)) ∙ ap ok (getD-at new (x .node) [] (x .node) (p .«new_count») new-long) in
         node-sound (length occ) round s₀ b n₀ m (State.setNew after longer) (goes-on y) (p .«new_count») (x .node) (ap (λ (ns : List DispNode). at ns (p .«new_count»)) u ∙ v)
 
-    pub turn-on : x .goes ≡ true → (fresh1 : List ℕ) → listed (x .count) (nodeAt fresh1) ≡ longer → Going (length occ) round n₀ s₀ m (searchIn (r .«est_count») (counted q (x .count)) (listed (x .count) (nodeAt fresh1)) (divsOf (q .«div_count») nt′ nn′) a′)
-    turn-on y fresh1 z = subst (λ (ns : List DispNode). Going (length occ) round n₀ s₀ m (searchIn (r .«est_count») (counted q (x .count)) ns (divsOf (q .«div_count») nt′ nn′) a′)) (sym z) (goes-on y)
+    pub turn-on : x .goes ≡ true → (fresh1 : List ℕ) → listed (x .count) (nodeAt fresh1) ≡ longer → Going (b .top) (length occ) round n₀ s₀ m (searchIn (r .«est_count») (counted q (x .count)) (listed (x .count) (nodeAt fresh1)) (divsOf (q .«div_count») nt′ nn′) a′)
+    turn-on y fresh1 z = subst (λ (ns : List DispNode). Going (b .top) (length occ) round n₀ s₀ m (searchIn (r .«est_count») (counted q (x .count)) ns (divsOf (q .«div_count») nt′ nn′) a′)) (sym z) (goes-on y)
 
     pub turn-ends : x .goes ≡ false → n₀ ≡ turnLimit (round .train) → Ran (length occ) round s₀ go e h after
     turn-ends y o = record {
@@ -353,10 +353,10 @@ module _ (occ img dt dn : List ℕ) (r : Round) (t : Train) (s₀ : State.Search
     }
 
 -- no turn was left
-pub turns-out : (links : ℕ) (r : State.Round) (s₀ s u : State.Search) (b : Begins links r s₀) (h : Look.Here) (n₀ left : ℕ) → Going links r n₀ s₀ left s → left ≡ 0 → n₀ ≡ turnLimit (r .train) → Ran links r s₀ Advance (Refused 13) h u
+pub turns-out : (links : ℕ) (r : State.Round) (s₀ s u : State.Search) (b : Begins links r s₀) (h : Look.Here) (n₀ left : ℕ) → Going (b .top) links r n₀ s₀ left s → left ≡ 0 → n₀ ≡ turnLimit (r .train) → Ran links r s₀ Advance (Refused 13) h u
 turns-out links r s₀ s u b h n₀ left g z o = record {
   after = λ v. no 13;
-  is = ap (λ (j : ℕ). searchFrom j r s₀) (sym o) ∙ going-out links r s₀ b n₀ s (subst (λ (j : ℕ). Going links r n₀ s₀ j s) z g);
+  is = ap (λ (j : ℕ). searchFrom j r s₀) (sym o) ∙ going-out links r s₀ b n₀ s (subst (λ (j : ℕ). Going (b .top) links r n₀ s₀ j s) z g);
   ended = λ c. refl;
   left = λ c. clash false c refl;
 }

@@ -1,5 +1,5 @@
 -- What the loop over the turns of a search begins with, keeps and answers. Assumes nothing.
-use Prim.Native.Nat.{ℕ, _+_, _^_, _≤_}
+use Prim.Native.Nat.{ℕ, _+_, _≤_}
 use mathlib.Core.Path.{_≡_}
 use mathlib.Core.Bool.{true, false, cond}
 use lib.Dec.{ltb}
@@ -55,13 +55,14 @@ pub record FollowsTurn (go : Move) (effect : Effect) (k : ℕ) (x : Next) : Type
   pub stops : x .goes ≡ false → leaves go ≡ false → onward effect ≡ false
   pub node : x .goes ≡ true → (r : State.Round) (h : Look.Here) (s : State.Search) → length (s .«disp_path_new») ≡ k → turnOf go effect r h s ≡ ok (State.goOn (State.setNew s (take (x .count) (s .«disp_path_new» ++ (x .node ∷ [])))))
 
--- a search that begins: its train is accepted over so many links, its numbers have room in their fields
+-- a search that begins: its train is accepted over so many links, floats and auth have room in their fields, and no train is above some largest one
 pub record Begins (links : ℕ) (r : State.Round) (s : State.Search) : Type 0 where
   pub few : links ≤ 4000
   pub accepted : Accepted links (r .train)
-  pub room : RoundFits (2 ^ 32) r
+  pub top : ℕ
+  pub room : RoundFits top r
   pub good : Good links r s
-  pub fits : SearchFits (2 ^ 32) s
+  pub fits : SearchFits top s
 
 -- what the loop is lent: the flags of the path, arrays with room, an image that has its records, room for as many new nodes as there are est records; and some train of which it begins
 pub record Ready (img occ on dt dn : List ℕ) (r : Round) (start : Place) (fresh : List ℕ) (a : Arrays) (nt nn : List ℕ) : Type 0 where
@@ -78,10 +79,10 @@ pub record Ready (img occ on dt dn : List ℕ) (r : Round) (start : Place) (fres
   pub train : Train
   pub begins : Begins (length occ) (roundOf train occ img dt dn r) (searchIn (r .«est_count») start [] (divsOf (start .«div_count») nt nn) a)
 
--- the search s as it is at the top of a turn, with n of n₀ turns left, when it began as s₀
-pub record Going (links : ℕ) (r : State.Round) (n₀ : ℕ) (s₀ : State.Search) (n : ℕ) (s : State.Search) : Type 0 where
+-- the search s as it is at the beginning of a turn, top being the largest train, with n of n₀ turns left, when it began as s₀
+pub record Going (top links : ℕ) (r : State.Round) (n₀ : ℕ) (s₀ : State.Search) (n : ℕ) (s : State.Search) : Type 0 where
   pub good : Good links r s
-  pub fits : SearchFits (2 ^ 32) s
+  pub fits : SearchFits top s
   pub same : searchFrom n r s ≡ searchFrom n₀ r s₀
 
 -- a search that had looked and left its move to do

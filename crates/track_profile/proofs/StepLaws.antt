@@ -2,7 +2,7 @@
 use mathlib.Core.Path.{_≡_, refl, sym, ap, _∙_, subst}
 use mathlib.Core.Bool.{Bool, true, false, not, cond, _&&_, _||_, true≢false}
 use mathlib.Core.List.{List, [], _∷_}
-use Prim.Native.Nat.{ℕ, zero, suc, _+_, _<_}
+use Prim.Native.Nat.{ℕ, zero, suc, _+_, _≤_, _<_}
 use native.Mathlib.Omega.{arith}
 use lib.ListN.{length}
 use lib.Dec.{leb}
@@ -14,6 +14,7 @@ use Rattle.disp_structs.specs.declared.DispNode.{DispNode}
 use Rattle.free_path.specs.Base.{Res, ok, no, at}
 use Rattle.free_path.specs.Validate.{stepsNext, stepsAlt, badStep, badSteps, badPath, validateFreePath}
 use Rattle.update_definition.specs.State.{Ended, atEnd, blockedAt, again}
+use Rattle.update_definition.specs.Fits.{TrainsWithin}
 use Rattle.tally.specs.Tally.{counted}
 use Rattle.tally.specs.declared.Tally.{Tally}
 use Rattle.link_rules.specs.Refusals.{refused}
@@ -23,7 +24,7 @@ use Rattle.link_rules.specs.declared.link_idx.LinkIdx.{LinkIdx}
 use Rattle.link_rules.specs.declared.link_idx.TrainIdx.{TrainIdx}
 use Rattle.link_rules.proofs.OctetLaws.{Bytes}
 use Rattle.disp_structs.specs.Listed.{listed}
-use Rattle.image.specs.Image.{estCount, pathCount, estAt, nodeAt}
+use Rattle.image.specs.Image.{estCount, pathCount, largestTrain, estAt, nodeAt}
 use Rattle.image.specs.Codec.{decoded}
 use Rattle.image_fault.specs.ImageFault.{imageFault}
 use Rattle.image_fault.proofs.AcceptLaws as Clean
@@ -31,7 +32,7 @@ use Rattle.update_laws.specs.Ended.{Leaves}
 use Rattle.update_laws.proofs.Updates.{StaysFit}
 use Rattle.update_definition.specs.UpdateImage.{UpdatedImage, callFault, linkIdxs, answerBy, updateFault, updatedImage}
 use Rattle.update_laws.proofs.PathReads.{listed-read, read-listed}
-use Rattle.update_laws.proofs.UpdateLeaves.{Trains16, leaves, left-holds}
+use Rattle.update_laws.proofs.UpdateLeaves.{leaves, left-holds}
 use Rattle.track_profile.specs.Profile.{InProfile, distAt, offsetAt}
 use Rattle.track_profile.specs.ExactSteps.{StepsExact, SuccessIsExact, estOf}
 use Rattle.track_profile.proofs.NearLaws.{near-equal, step-exact}
@@ -205,26 +206,26 @@ module _ (img occ blocking : List ℕ) (moved : ℕ) (local : Bool) (limit : ℕ
   same-listed n k f g e i l = listed-read k g i (subst (λ (xs : List _). at xs i ≡ ok (f i)) e (read-listed n f i l))
 
   -- Success leaves the est records
-  pub success-ests : Bytes img → Trains16 occ → moved < 65536 → after .answer .status ≡ Success → decoded (after .image) .«est_times» ≡ decoded img .«est_times»
+  pub success-ests : Bytes img → (top : ℕ) → top ≤ largestTrain img → TrainsWithin top occ moved → after .answer .status ≡ Success → decoded (after .image) .«est_times» ≡ decoded img .«est_times»
   unfolding updateFault
-  success-ests b w m h =
+  success-ests b top low w h =
       let k = success-told h in
       let c = Clean.or-else-clean (callFault occ blocking moved limit) (imageFault img (length occ)) (k .0) .1 in
-      let f = subst (λ (s : Status). Leaves (StaysFit (length occ) 65536 (decoded img)) (decoded img) s (train-left .train)) (k .1) (leaves img (length occ) b c occ blocking moved local limit w m) in
-      ap (λ (t : Train). t .«est_times») (left-holds img occ blocking moved local limit b w m (k .0)) ∙ f .stays .same .ests
+      let f = subst (λ (s : Status). Leaves (StaysFit (length occ) (largestTrain img) (decoded img)) (decoded img) s (train-left .train)) (k .1) (leaves img (length occ) b c occ blocking moved local limit top low w) in
+      ap (λ (t : Train). t .«est_times») (left-holds img occ blocking moved local limit b top low w (k .0)) ∙ f .stays .same .ests
 
   -- needed of the image before are its est distances alone, of the image after its offsets
-  pub success-exact : Bytes img → Trains16 occ → moved < 65536 → DistsInProfile img → after .answer .status ≡ Success → OffsetsInProfile (after .image) → StepsExact (after .image)
-  success-exact b w m ds h os =
+  pub success-exact : Bytes img → (top : ℕ) → top ≤ largestTrain img → TrainsWithin top occ moved → DistsInProfile img → after .answer .status ≡ Success → OffsetsInProfile (after .image) → StepsExact (after .image)
+  success-exact b top low w ds h os =
       let k = success-told h in
-      let e = left-holds img occ blocking moved local limit b w m (k .0) in
+      let e = left-holds img occ blocking moved local limit b top low w (k .0) in
       let r = update-right occ (linkIdxs blocking) (record { 0 = moved }) local limit (decoded img) (k .1) in
       steps-exact (after .image) (subst (λ (t : Train). badPath (t .«est_times») (t .«disp_path») ≡ ok 0) (sym e) r) kept os
     where
       kept : DistsInProfile (after .image)
       kept i l =
-          let z = same-listed (estCount (after .image)) (estCount img) (estAt (after .image)) (estAt img) (unfold decoded in success-ests b w m h) i l in
+          let z = same-listed (estCount (after .image)) (estCount img) (estAt (after .image)) (estAt img) (unfold decoded in success-ests b top low w h) i l in
           subst (λ (x : EstTime). InProfile (x .«dist_to_next» .0)) (z .1) (ds i (z .0))
 
 pub success-is-exact : SuccessIsExact
-success-is-exact img occ blocking moved local limit b w m p h q = success-exact img occ blocking moved local limit b w m (in-profile img p .0) h (in-profile (after img occ blocking moved local limit .image) q .1)
+success-is-exact top img occ blocking moved local limit b low w p h q = success-exact img occ blocking moved local limit b top low w (in-profile img p .0) h (in-profile (after img occ blocking moved local limit .image) q .1)

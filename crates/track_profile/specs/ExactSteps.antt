@@ -3,13 +3,14 @@
 use mathlib.Core.Path.{_≡_}
 use mathlib.Core.Bool.{Bool, true, false}
 use mathlib.Core.List.{List}
-use Prim.Native.Nat.{ℕ, _+_, _<_}
+use Prim.Native.Nat.{ℕ, _+_, _≤_, _<_}
 use lib.Ieee.{Float, eq}
 use lib.ListN.{getD}
 use Rattle.disp_structs.specs.Floats.{nearFloat}
 use Rattle.disp_structs.specs.Values.{sameEst}
-use Rattle.image.specs.Image.{pathCount, estAt, nodeAt}
+use Rattle.image.specs.Image.{pathCount, largestTrain, estAt, nodeAt}
 use Rattle.link_rules.specs.Refusals.{noRefusal}
+use Rattle.update_definition.specs.Fits.{TrainsWithin}
 use Rattle.update_definition.specs.Update.{Success}
 use Rattle.update_definition.specs.UpdateImage.{updatedImage}
 use Rattle.track_profile.specs.Profile.{unitsOf, distAt, offsetAt, profileFault}
@@ -50,11 +51,11 @@ StepsExact bs = (i : ℕ) → i + 1 < pathCount bs → StepExact bs i
 
 -- ---- an update
 
--- the image is of u8, the occupancy of u16, and so is the moved train
+-- the image is of u8; the trains of the occupancy and the moved one are up to top, of which the image holds every one
 abbrev pub SuccessIsExact : Type 0
 SuccessIsExact =
-    (image occupancy blocking : List ℕ) (moved : ℕ) (local : Bool) (limit : ℕ)
-    → ((i : ℕ) → getD image i 0 < 256) → ((i : ℕ) → getD occupancy i 0 < 65536) → moved < 65536
+    (top : ℕ) (image occupancy blocking : List ℕ) (moved : ℕ) (local : Bool) (limit : ℕ)
+    → ((i : ℕ) → getD image i 0 < 256) → top ≤ largestTrain image → TrainsWithin top occupancy moved
     → profileFault image ≡ noRefusal
     → updatedImage image occupancy blocking moved local limit .answer .status ≡ Success
     → profileFault (updatedImage image occupancy blocking moved local limit .image) ≡ noRefusal

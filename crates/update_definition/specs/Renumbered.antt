@@ -13,13 +13,12 @@ use Rattle.free_path.specs.LinkOptType.{contains}
 use Rattle.free_path.specs.Order.{Perm}
 use Rattle.update_definition.specs.Update.{Updated}
 
--- the occupancy and the blocking list of an update, and those of it over the second numbering
-pub record TwoNumberings (p q : ℕ → ℕ) (occ occ′ : List ℕ) (blocking blocking′ : List LinkIdx) : Type 0 where
+-- the occupancy and the blocking list of an update, and those of it over the second numbering; top is the largest train
+pub record TwoNumberings (top : ℕ) (p q : ℕ → ℕ) (occ occ′ : List ℕ) (blocking blocking′ : List LinkIdx) : Type 0 where
   -- 1 to L - 1 are permuted
   pub links : Renumbering (length occ - 1) p
-  -- 1 to some number are permuted
-  pub lastTrain : ℕ
-  pub trains : Renumbering lastTrain q
+  -- 1 to top are permuted
+  pub trains : Renumbering top q
   pub occupancies : OccupanciesMatch p q occ occ′
   -- the second list has the renumbered links of the first, in any order, repeats kept
   pub order : Perm LinkIdx (map (rLink p) blocking) blocking′

@@ -1,7 +1,7 @@
 -- Matching of two updates on images (document 01): p renumbers links, q trains. Assumes nothing.
 use mathlib.Core.Path.{_≡_}
 use mathlib.Core.List.{List, map}
-use Prim.Native.Nat.{ℕ, _-_, _^_, _<_}
+use Prim.Native.Nat.{ℕ, _-_}
 use lib.ListN.{length}
 use Rattle.link_rules.specs.Renumbering.{Renumbering}
 use Rattle.link_rules.specs.Matching.{OccupanciesMatch}
@@ -10,13 +10,12 @@ use Rattle.image.specs.ImageMatch.{ImagesMatch}
 use Rattle.update_definition.specs.UpdateImage.{UpdatedImage}
 
 -- what two calls are given beside the image: occupancies and blocking lists; the moved train is renumbered, all else is the same
-pub record CallsMatch (p q : ℕ → ℕ) (occ occ′ blocking blocking′ : List ℕ) : Type 0 where
+-- top is the largest train
+pub record CallsMatch (top : ℕ) (p q : ℕ → ℕ) (occ occ′ blocking blocking′ : List ℕ) : Type 0 where
   -- 1 to L - 1 are permuted
   pub links : Renumbering (length occ - 1) p
-  -- 1 to some number of 16 bits are permuted
-  pub lastTrain : ℕ
-  pub fewTrains : lastTrain < 2 ^ 16
-  pub trains : Renumbering lastTrain q
+  -- 1 to top are permuted
+  pub trains : Renumbering top q
   pub occupancies : OccupanciesMatch p q occ occ′
   -- the renumbered links, in any order, repeats kept
   pub order : Perm ℕ (map p blocking) blocking′

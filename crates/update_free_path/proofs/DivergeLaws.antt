@@ -70,7 +70,7 @@ pub start-train : (img dt dn : List ℕ) (moved : TrainIdx) → listed (divergeC
 unfolding trainOf decoded pathHeader
 start-train img dt dn moved h = rw h
 
-pub start-fits : (top : ℕ) (img : List ℕ) (moved : TrainIdx) → Fits top (decoded img) → moved .0 < top → Fits top (withDivNodes (decoded img) (adjustSentinel moved (decoded img .«div_nodes»)))
+pub start-fits : (top : ℕ) (img : List ℕ) (moved : TrainIdx) → Fits top (decoded img) → moved .0 ≤ top → Fits top (withDivNodes (decoded img) (adjustSentinel moved (decoded img .«div_nodes»)))
 start-fits top img moved f h = record { ests = f .ests; nodes = f .nodes; divs = adjusted-fits top moved (decoded img .«div_nodes») h (f .divs); train = f .train; search = f .search; fixedMax = f .fixedMax }
 
 -- ---- the bytes of an accepted image

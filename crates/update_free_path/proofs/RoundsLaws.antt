@@ -2,7 +2,7 @@
 use mathlib.Core.Path.{_≡_, refl, sym, ap, _∙_}
 use mathlib.Core.Bool.{Bool, true, false, cond, _&&_, false≢true}
 use mathlib.Core.List.{List, [], _∷_}
-use Prim.Native.Nat.{ℕ, zero, suc, _+_, _-_, _≤_, _<_, _^_}
+use Prim.Native.Nat.{ℕ, zero, suc, _+_, _-_, _≤_, _<_}
 use native.Mathlib.Omega.{arith}
 use lib.Dec.{ltb}
 use lib.ListN.{length, drop, length-drop}
@@ -194,8 +194,8 @@ module _ (occ img col on dt dn flags : List ℕ) (g : Given) (w : Between) (t : 
       pub next-accepted : Accepted (length occ) train′
       next-accepted = good .0 .accepted
 
-      next-fits : Fits (2 ^ 32) train′
-      next-fits = round-fits (length occ) (2 ^ 32) (given [] []) train (w .split) (w .«div_split») (again train′ (x .split) (x .«div_split»)) (t .held .accepted) (t .held .fits) (t .held .trains) (t .split-low) (t .div-low) (goes [] [])
+      next-fits : Fits (t .held .top) train′
+      next-fits = round-fits (length occ) (t .held .top) (given [] []) train (w .split) (w .«div_split») (again train′ (x .split) (x .«div_split»)) (t .held .accepted) (t .held .fits) (t .held .trains) (t .split-low) (t .div-low) (goes [] [])
 
       -- the next round finds what this one found
       pub next-top : Kept img′ img → (col′ on′ : List ℕ) → listed (x .header .«path_count») (linkAt col′) ≡ linkIdxPath (pathOf img′ (x .header .«path_count»)) → Marked on′ (pathOf img′ (x .header .«path_count»))
@@ -205,6 +205,7 @@ module _ (occ img col on dt dn flags : List ℕ) (g : Given) (w : Between) (t : 
             held = record {
               links = t .held .links;
               accepted = next-accepted;
+              top = t .held .top;
               fits = next-fits;
               trains = t .held .trains;
               size = omega (arith, t .held .size, k .size, kept-count img′ img k);

@@ -1,15 +1,15 @@
 -- The first round of an update: its train is accepted, and the loop from there is the update of the image's train. Assumes nothing.
 use mathlib.Core.Path.{_≡_, refl, sym, ap, ap₂, subst, _∙_}
 use mathlib.Core.List.{List}
-use Prim.Native.Nat.{ℕ, _-_, _^_, _≤_, _<_}
+use Prim.Native.Nat.{ℕ, _-_, _≤_}
 use native.Mathlib.Omega.{arith}
-use lib.ListN.{length, getD, drop, replicate}
+use lib.ListN.{length, drop, replicate}
 use Rattle.link_rules.specs.declared.link_idx.LinkIdx.{LinkIdx}
 use Rattle.link_rules.proofs.OctetLaws.{Bytes}
 use Rattle.disp_structs.specs.Listed.{listed}
 use Rattle.disp_structs.specs.Train.{Train}
 use Rattle.disp_structs.specs.declared.DispNode.{DispNode}
-use Rattle.image.specs.Image.{divergeCount, divergeAt, nodeAt, pathHeader, divergeRoom, estCount, imageSize}
+use Rattle.image.specs.Image.{largestTrain, divergeCount, divergeAt, nodeAt, pathHeader, divergeRoom, estCount, imageSize}
 use Rattle.image_fault.proofs.AcceptLaws as Clean
 use Rattle.image.specs.Codec.{decoded}
 use Rattle.image.specs.declared.codec.PathHeader.{PathHeader}
@@ -24,10 +24,10 @@ use Rattle.tally.specs.declared.Tally.{Tally}
 use Rattle.update_definition.specs.State.{withDivNodes}
 use Rattle.update_definition.specs.Update as Update
 use Rattle.update_definition.specs.Accepted.{Accepted}
-use Rattle.update_definition.specs.Fits.{Fits}
+use Rattle.update_definition.specs.Fits.{TrainsWithin, Fits}
 use Rattle.update_laws.proofs.Updates.{top-start}
 use Rattle.update_definition.specs.UpdateImage.{linkIdxs}
-use Rattle.update_laws.proofs.BytesAccepted.{bytes-accepted, fits-wider}
+use Rattle.update_laws.proofs.BytesAccepted.{bytes-accepted, fits-higher}
 use Rattle.update_free_path.proofs.DivergeLaws.{start-train, start-fits, accepted-size}
 use Rattle.update_laws.proofs.RefusalLaws.{refused-number}
 use Rattle.round_start.specs.Start.{Linked}
@@ -51,12 +51,12 @@ status-ran Stops.Blocked f tally was t = refl
 status-ran Stops.Ended (ok n) tally was t = refl
 status-ran Stops.Ended (no n) tally was t = refl
 
-module _ (img occ : List ℕ) (h : PathHeader) (b : Begins img occ h) (bytes : Bytes img) (held : (i : ℕ) → getD occ i 0 < 2 ^ 32) where
+module _ (img occ : List ℕ) (h : PathHeader) (b : Begins img occ h) (bytes : Bytes img) where
   good : Accepted (length occ) (decoded img)
   good = bytes-accepted img (length occ) bytes (b .fault) .0
 
-  fitting : Fits (2 ^ 32) (decoded img)
-  fitting = fits-wider 65536 (2 ^ 32) (omega arith) (decoded img) (bytes-accepted img (length occ) bytes (b .fault) .1)
+  fitting : (top : ℕ) → largestTrain img ≤ top → Fits top (decoded img)
+  fitting top high = fits-higher (largestTrain img) top high (decoded img) (bytes-accepted img (length occ) bytes (b .fault) .1)
 
   pub begin-size : (1 ≤ h .«diverge_count») × (h .«diverge_count» ≤ divergeRoom img)
   unfolding pathHeader
@@ -84,7 +84,7 @@ module _ (img occ : List ℕ) (h : PathHeader) (b : Begins img occ h) (bytes : B
   node-is : ok (nodeAt img (h .free)) ≡ at (decoded img .«disp_path») (decoded img .«disp_node_idx_free»)
   node-is = sym (listed-read (h .«path_count») (nodeAt img) (h .free) (b .free)) ∙ ap₂ (λ (xs : List DispNode) (i : ℕ). at xs i) path-is free-is
 
-  module _ (o : Order) (small : o .moved .0 < 2 ^ 32) (dt dn : List ℕ) (q : listed (h .«diverge_count») (divAt dt dn) ≡ Update.adjustSentinel (o .moved) (listed (h .«diverge_count») (divergeAt img))) where
+  module _ (o : Order) (dt dn : List ℕ) (q : listed (h .«diverge_count») (divAt dt dn) ≡ Update.adjustSentinel (o .moved) (listed (h .«diverge_count») (divergeAt img))) where
     begin-train : trainOf img dt dn h ≡ withDivNodes (decoded img) (Update.adjustSentinel (o .moved) (decoded img .«div_nodes»))
     unfolding pathHeader
     begin-train =
@@ -94,18 +94,20 @@ module _ (img occ : List ℕ) (h : PathHeader) (b : Begins img occ h) (bytes : B
     pub begin-accepted : Accepted (length occ) (trainOf img dt dn h)
     begin-accepted = subst (λ (y : Train). Accepted (length occ) y) (sym begin-train) (top-start (length occ) (o .moved) (decoded img) good .stays .accepted)
 
-    linked : (top : ℕ) → length occ ≤ top → Linked top (pathOf img (h .«path_count»))
-    linked top l = subst (Linked top) (sym path-is) (linked-accepted top (length occ) _ (decoded img .«disp_path») l (good .path .each))
+    linked : (room : ℕ) → length occ ≤ room → Linked room (pathOf img (h .«path_count»))
+    linked room l = subst (Linked room) (sym path-is) (linked-accepted room (length occ) _ (decoded img .«disp_path») l (good .path .each))
 
     module _ (col : List ℕ) (c : listed (h .«path_count») (linkAt col) ≡ linkIdxPath (pathOf img (h .«path_count»))) where
-      pub begin-top : (on : List ℕ) → Marked on (pathOf img (h .«path_count»)) → (s : ℕ) → s ≤ 512 → Top occ img col on dt dn (startAt h s)
-      begin-top on m s l =
+      -- top is the largest train of the call and of the image
+      pub begin-top : (top : ℕ) → largestTrain img ≤ top → TrainsWithin top occ (o .moved .0) → (on : List ℕ) → Marked on (pathOf img (h .«path_count»)) → (s : ℕ) → s ≤ 512 → Top occ img col on dt dn (startAt h s)
+      begin-top top high within on m s l =
           record {
             held = record {
               links = b .few;
               accepted = begin-accepted;
-              fits = subst (λ (y : Train). Fits (2 ^ 32) y) (sym begin-train) (start-fits (2 ^ 32) img (o .moved) fitting small);
-              trains = λ i. held (i .0);
+              top = top;
+              fits = subst (λ (y : Train). Fits top y) (sym begin-train) (start-fits top img (o .moved) (fitting top high) (within .moved-low));
+              trains = within .entries;
               size = accepted-size img (length occ) (b .fault) bytes .0;
               marked = m;
             };
@@ -116,7 +118,7 @@ module _ (img occ : List ℕ) (h : PathHeader) (b : Begins img occ h) (bytes : B
             faultless = refl;
           }
 
-      module _ (top : ℕ) (l : length occ ≤ top) (blocking flags knowing : List ℕ) (f : flags ≡ flagLinks (listed (h .«path_count») (linkAt col)) (replicate top 0)) (k : knowing ≡ flagLinks (kept (flagged flags) (links blocking)) (replicate top 0)) where
+      module _ (room : ℕ) (l : length occ ≤ room) (blocking flags knowing : List ℕ) (f : flags ≡ flagLinks (listed (h .«path_count») (linkAt col)) (replicate room 0)) (k : knowing ≡ flagLinks (kept (flagged flags) (links blocking)) (replicate room 0)) where
         abbrev begun : Given
         begun = givenAt img blocking flags o (h .free)
 
@@ -127,12 +129,12 @@ module _ (img occ : List ℕ) (h : PathHeader) (b : Begins img occ h) (bytes : B
         given = Update.givenOf occ (linkIdxs blocking) (o .moved) (o .local) (decoded img) (nodeAt img (h .free))
 
         knows : Known knowing (linkIdxs blocking) first
-        knows i _ _ = known-links top (pathOf img (h .«path_count»)) (linked top l) (listed (h .«path_count») (linkAt col)) c flags f (links blocking) knowing k (link i)
+        knows i _ _ = known-links room (pathOf img (h .«path_count»)) (linked room l) (listed (h .«path_count») (linkAt col)) c flags f (links blocking) knowing k (link i)
 
         given-is : givenOf begun occ (linkIdxs blocking) first ≡ given
         unfolding decoded
         given-is =
-            ap (λ (y : LinkOptType). make y first) (class-flags top (pathOf img (h .«path_count»)) (linked top l) (listed (h .«path_count») (linkAt col)) c flags f (links blocking))
+            ap (λ (y : LinkOptType). make y first) (class-flags room (pathOf img (h .«path_count»)) (linked room l) (listed (h .«path_count») (linkAt col)) c flags f (links blocking))
             ∙ ap (λ (xs : List DispNode). make (linkOptType (links blocking) (contains (linksOnPath xs))) (linksOnPath xs)) path-is
           where
             make : LinkOptType → List LinkIdx → Update.Given

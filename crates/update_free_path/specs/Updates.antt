@@ -176,6 +176,10 @@ pub record Ended (occ flags : List ℕ) (g : Given) (limit : ℕ) (img₀ dt₀ 
 
 -- ---- the first round
 
+-- the largest train that a column of u32 entries holds
+abbrev pub columnTop : ℕ
+columnTop = 2 ^ 32 - 1
+
 abbrev pub startAt : PathHeader → ℕ → Between
 startAt h s = record { header = h; split = 1; «div_split» = 1; tally = started s }
 

@@ -17,7 +17,8 @@ use Rattle.disp_structs.specs.declared.DispNode.{DispNode}
 use Rattle.disp_structs.specs.declared.DivergeNode.{DivergeNode}
 use Rattle.est_times.proofs.Counting.{clash}
 use Rattle.free_path.specs.Base.{ok, at}
-use Rattle.image.specs.Image.{estFrom, nodeFrom, divergeFrom}
+use Rattle.image.specs.Fields.{divergeTrainField, fieldBound}
+use Rattle.image.specs.Image.{largestTrain, estFrom, nodeFrom, divergeFrom}
 use Rattle.image.specs.Codec.{decoded, storedInto}
 use Rattle.image.proofs.RecordLaws.{EstHeld, NodeHeld, DivergeHeld}
 use Rattle.image.proofs.CodecLaws.{Keeps, Held}
@@ -51,7 +52,7 @@ time-number (fin s m e) h = tt
 each-getD : {A : Type 0} (P : A → Type 0) (xs : List A) (d : A) → ((i : ℕ) (x : A) → at xs i ≡ ok x → P x) → (i : ℕ) → i < length xs → P (getD xs i d)
 each-getD P xs d h i l = let w = at-some xs i l in subst P (sym (at-getD xs i d (w .1))) (h i (w .0) (w .1))
 
-module _ (l : ℕ) (few : l ≤ 4000) (t : Train) (a : Accepted l t) (f : Fits 65536 t) where
+module _ (l : ℕ) (few : l ≤ 4000) (top : ℕ) (low : top < fieldBound divergeTrainField) (t : Train) (a : Accepted l t) (f : Fits top t) where
   est-held : (i : ℕ) (x : EstTime) → at (t .«est_times») i ≡ ok x → EstHeld x
   est-held i x r =
       let w = a .ests .each i x r in
@@ -91,7 +92,7 @@ module _ (l : ℕ) (few : l ≤ 4000) (t : Train) (a : Accepted l t) (f : Fits 6
       (eq-or-lt-of-le m)
 
   diverge-held : (i : ℕ) (d : DivergeNode) → at (t .«div_nodes») i ≡ ok d → DivergeHeld d
-  diverge-held i d r = record { train = omega (arith, f .divs i d r); node = omega (arith, diverge-node i d (at-below (t .«div_nodes») i r) r) }
+  diverge-held i d r = record { train = omega (arith, low, f .divs i d r); node = omega (arith, diverge-node i d (at-below (t .«div_nodes») i r) r) }
 
   pub held : Held t
   held =
@@ -114,11 +115,12 @@ module _ (l : ℕ) (few : l ≤ 4000) (t : Train) (a : Accepted l t) (f : Fits 6
 
 -- ---- stored
 
-pub accepted-bytes : (bs : List ℕ) (l : ℕ) → Bytes bs → imageFault bs l .number ≡ 0 → (t : Train) → Keeps t (decoded bs) → Accepted l t → Fits 65536 t
+-- whatever the largest train is that the image holds
+pub accepted-bytes : (bs : List ℕ) (l : ℕ) → Bytes bs → imageFault bs l .number ≡ 0 → (top : ℕ) → top ≤ largestTrain bs → (t : Train) → Keeps t (decoded bs) → Accepted l t → Fits top t
     → (imageFault (storedInto t bs) l .number ≡ 0) × (decoded (storedInto t bs) ≡ t)
-accepted-bytes bs l b h t k a f =
+accepted-bytes bs l b h top low t k a f =
     let c = Clean.accepted bs l h in
     let g = Clean.good-image bs (c .fits) l (c .values) b in
-    let d = held l (c .links .1) t a f in
+    let d = held l (c .links .1) top (omega (arith, low)) t a f in
     let e = decoded-stored bs g t k d in
     (good-clean (storedInto t bs) l (stored-good bs g t k d) (subst (Accepted l) (sym e) a) (c .links .0) (c .links .1), e)

@@ -26,14 +26,14 @@ use Rattle.disp_structs.proofs.ListedLaws.{listed-length, listed-at, listed-map
 use Rattle.est_times.proofs.Counting.{clash}
 use Rattle.est_times.proofs.WalkLaws.{or-right}
 use Rattle.free_path.specs.Base.{ok, at}
-use Rattle.image.specs.Image.{estCount, pathCount, divergeCount, divergeRoom, pathHeader, estPlace, nodePlace, estFrom, nodeFrom, divergeFrom, estAt, nodeAt, divergeAt}
+use Rattle.image.specs.Image.{estCount, pathCount, divergeCount, divergeRoom, pathHeader, estPlace, nodePlace, divergePlace, largestTrain, estFrom, nodeFrom, divergeFrom, estAt, nodeAt, divergeAt}
 use Rattle.image.specs.Codec.{decoded}
 use Rattle.image_fault.specs.ImageFault.{CountsFit, floatFits, timeFits, distFits, eventFits, estLinksFit, indicesFit, headerFits, imageFault}
 use Rattle.image_fault.proofs.ScanLaws.{both}
 use Rattle.image_fault.proofs.AcceptLaws as Clean
 use Rattle.image_fault.proofs.RouteLaws as Route
 use Rattle.update_definition.specs.Accepted.{EventAccepted, EstAccepted, EstsAccepted, NodeAccepted, PathAccepted, Leads, DivsAccepted, Accepted, timeAccepted, distanceAccepted}
-use Rattle.update_definition.specs.Fits.{NodeFits, Fits}
+use Rattle.update_definition.specs.Fits.{TrainsWithin, NodeFits, Fits}
 use Rattle.update_laws.proofs.Lists.{at-last}
 use Rattle.update_laws.proofs.PathReads.{listed-read, read-listed, once-distinct, arrivesAt, linkOf}
 
@@ -262,34 +262,37 @@ module _ (bs : List ℕ) (b : Bytes bs) where
   unfolding estFrom
   est-fit i = real-fits (leAt 8 bs (estPlace i))
 
-  diverge-fit : (i : ℕ) → divergeAt bs i .«train_idx» .0 < 65536
+  diverge-fit : (i : ℕ) → divergeAt bs i .«train_idx» .0 ≤ largestTrain bs
   unfolding divergeFrom
-  diverge-fit i = le-lt 2 bs _ b
+  diverge-fit i = omega (arith, le-lt 2 bs (divergePlace (estCount bs) i) b)
 
-  pub bytes-fit : Fits 65536 (decoded bs)
+  pub bytes-fit : Fits (largestTrain bs) (decoded bs)
   unfolding decoded
   bytes-fit =
       record {
         ests = λ i x r. subst (λ (y : EstTime). T (fits binary64 (y .«dist_to_next» .0))) (listed-read (estCount bs) (estAt bs) i r .1) (est-fit i);
         nodes = λ i x r. subst NodeFits (listed-read (pathCount bs) (nodeAt bs) i r .1) (node-fit i);
-        divs = λ i x r. subst (λ (y : DivergeNode). y .«train_idx» .0 < 65536) (listed-read (divergeCount bs) (divergeAt bs) i r .1) (diverge-fit i);
+        divs = λ i x r. subst (λ (y : DivergeNode). y .«train_idx» .0 ≤ largestTrain bs) (listed-read (divergeCount bs) (divergeAt bs) i r .1) (diverge-fit i);
         train = le-lt 2 bs 32 b;
         search = real-fits (leAt 8 bs 48);
         fixedMax = real-fits (leAt 8 bs 56);
       }
 
--- wider fields hold it too
-pub fits-wider : (a b : ℕ) → a ≤ b → (t : Train) → Fits a t → Fits b t
-fits-wider a b h t f =
+-- what is up to a is up to b
+pub fits-higher : (a b : ℕ) → a ≤ b → (t : Train) → Fits a t → Fits b t
+fits-higher a b h t f =
     record {
       ests = f .ests;
       nodes = f .nodes;
       divs = λ i d r. omega (arith, h, f .divs i d r);
-      train = omega (arith, h, f .train);
+      train = f .train;
       search = f .search;
       fixedMax = f .fixedMax;
     }
 
+pub within-higher : (a b : ℕ) → a ≤ b → (occ : List ℕ) (moved : ℕ) → TrainsWithin a occ moved → TrainsWithin b occ moved
+within-higher a b h occ moved w = record { entries = λ i. omega (arith, h, w .entries i); moved-low = omega (arith, h, w .moved-low) }
+
 -- an image that is not refused by 6 to 9
-pub bytes-accepted : (bs : List ℕ) (l : ℕ) → Bytes bs → imageFault bs l .number ≡ 0 → Accepted l (decoded bs) × Fits 65536 (decoded bs)
+pub bytes-accepted : (bs : List ℕ) (l : ℕ) → Bytes bs → imageFault bs l .number ≡ 0 → Accepted l (decoded bs) × Fits (largestTrain bs) (decoded bs)
 bytes-accepted bs l b h = (train-accepted bs l (Clean.accepted bs l h), bytes-fit bs b)

@@ -3,7 +3,7 @@ use mathlib.Core.Path.{_≡_, refl, sym, ap, ap₂, subst, _∙_}
 use mathlib.Core.Logic.{⊎-elim}
 use mathlib.Core.Bool.{Bool, true, false, cond, _&&_}
 use mathlib.Core.List.{List, [], _∷_, map}
-use Prim.Native.Nat.{ℕ, zero, suc, _-_, _<_}
+use Prim.Native.Nat.{ℕ, zero, suc, _-_, _≤_, _<_}
 use native.Mathlib.Omega.{arith}
 use lib.Dec.{ltb, leb, eqb}
 use lib.ListN.{length, length-map}
@@ -20,6 +20,7 @@ use Rattle.est_times.proofs.WalkLaws.{or-cases}
 use Rattle.free_path.specs.Base.{any}
 use Rattle.free_path.specs.LinkOptType.{contains}
 use Rattle.free_path.specs.Order.{Perm, done, keep, swap, chain}
+use Rattle.image.specs.Image.{largestTrain}
 use Rattle.image.specs.Codec.{decoded}
 use Rattle.image.specs.ImageMatch.{ImagesMatch}
 use Rattle.image_fault.specs.ImageFault.{imageFault}
@@ -29,13 +30,14 @@ use Rattle.image_fault.proofs.ScanLaws.{both}
 use Rattle.image_fault.proofs.AcceptLaws.{accepted, or-else-clean}
 use Rattle.image_fault.proofs.MatchLaws.{image-fault-match, state-match, stored-match}
 use Rattle.update_definition.specs.Update.{Status, Success, Blocked, Faulty, Refused, Updated, updateFreePath}
+use Rattle.update_definition.specs.Fits.{TrainsWithin}
 use Rattle.update_definition.specs.Renumbered.{TwoNumberings, rUpdated}
 use Rattle.update_laws.proofs.UpdateRenumbering.{update-renumbered}
 use Rattle.update_laws.specs.Ended.{Leaves}
 use Rattle.update_laws.proofs.Updates.{StaysFit}
 use Rattle.update_definition.specs.UpdateImage.{linksBelow, callFault, leftImage, storedAnswer, answerBy, linkIdxs, updateFault, updatedImage}
 use Rattle.update_definition.specs.UpdateMatch.{CallsMatch, UpdatesMatch}
-use Rattle.update_laws.proofs.UpdateLeaves.{Trains16, keeps, fit-held, leaves}
+use Rattle.update_laws.proofs.UpdateLeaves.{keeps, fit-held, leaves}
 
 -- ---- lists in another order
 
@@ -85,19 +87,19 @@ links-below l (y ∷ ys) h x c =
 
 -- ---- the refusals
 
-module _ (p q : ℕ → ℕ) (occ occ′ blocking blocking′ : List ℕ) (c : CallsMatch p q occ occ′ blocking blocking′) (moved limit : ℕ) where
+module _ (top : ℕ) (p q : ℕ → ℕ) (occ occ′ blocking blocking′ : List ℕ) (c : CallsMatch top p q occ occ′ blocking blocking′) (moved limit : ℕ) where
   -- refused by 2, 4 or 5 alike
   pub call-fault-match : callFault occ′ blocking′ (q moved) limit ≡ callFault occ blocking moved limit
   unfolding callFault
   call-fault-match =
       let n : length blocking′ ≡ length blocking = sym (perm-length (c .order)) ∙ length-map blocking p in
       let b : linksBelow (length occ) blocking′ ≡ linksBelow (length occ) blocking = sym (perm-below (length occ) (c .order)) ∙ map-below (length occ) p (c .links) blocking in
-      rw (c .occupancies .long, n, b, eqb-renumbered-0 (c .lastTrain) q (c .trains) moved)
+      rw (c .occupancies .long, n, b, eqb-renumbered-0 top q (c .trains) moved)
 
   -- the same number and place
   pub update-fault-match : (img img′ : List ℕ) → ImagesMatch p q img img′ → updateFault img′ occ′ blocking′ (q moved) limit ≡ updateFault img occ blocking moved limit
   unfolding updateFault
-  update-fault-match img img′ m = rw (call-fault-match, c .occupancies .long, image-fault-match p q (length occ) (c .lastTrain) (c .links) (c .trains) img img′ m)
+  update-fault-match img img′ m = rw (call-fault-match, c .occupancies .long, image-fault-match p q (length occ) top (c .links) (c .trains) img img′ m)
 
 -- where a call is not refused by 4, the blocking links are below L
 call-below : (occ blocking : List ℕ) (moved limit : ℕ) → callFault occ blocking moved limit .number ≡ 0 → linksBelow (length occ) blocking ≡ true
@@ -123,7 +125,7 @@ module _ (p q : ℕ → ℕ) (img img′ : List ℕ) (m : ImagesMatch p q img im
   refusals-match zero x u u′ h = absurd (h refl)
   refusals-match (suc k) x u u′ h = record { answer = refl; images = m }
 
-module _ (p q : ℕ → ℕ) (occ occ′ blocking blocking′ : List ℕ) (c : CallsMatch p q occ occ′ blocking blocking′) (moved : ℕ) (local : Bool) (limit : ℕ)
+module _ (top : ℕ) (p q : ℕ → ℕ) (occ occ′ blocking blocking′ : List ℕ) (c : CallsMatch top p q occ occ′ blocking blocking′) (moved : ℕ) (local : Bool) (limit : ℕ)
     (img img′ : List ℕ) (m : ImagesMatch p q img img′) where
   abbrev L : ℕ
   L = length occ
@@ -141,7 +143,7 @@ module _ (p q : ℕ → ℕ) (occ occ′ blocking blocking′ : List ℕ) (c : C
   u′ = updateFreePath occ′ (linkIdxs blocking′) (record { 0 = q moved }) local limit (decoded img′)
 
   same-fault : f′ ≡ f
-  same-fault = update-fault-match p q occ occ′ blocking blocking′ c moved limit img img′ m
+  same-fault = update-fault-match top p q occ occ′ blocking blocking′ c moved limit img img′ m
 
   -- refused by 2 to 9: the same refusal, and the images stay
   pub refused-match : (f .number ≡ 0 → ⊥) → UpdatesMatch p q (updatedImage img occ blocking moved local limit) (updatedImage img′ occ′ blocking′ (q moved) local limit)
@@ -150,17 +152,17 @@ module _ (p q : ℕ → ℕ) (occ occ′ blocking blocking′ : List ℕ) (c : C
       subst (λ (x : Refusal). UpdatesMatch p q (answerBy (f .number) f u img) (answerBy (x .number) x u′ img′)) (sym same-fault)
       (refusals-match p q img img′ m (f .number) f u u′ h)
 
-  module _ (b : Bytes img) (b′ : Bytes img′) (w : Trains16 occ) (few : moved < 65536) (z : occupied occ noLink ≡ false) where
+  -- the largest train, and the trains of the call, are ones that the image holds
+  module _ (b : Bytes img) (b′ : Bytes img′) (low : top ≤ largestTrain img) (w : TrainsWithin (largestTrain img) occ moved) (z : occupied occ noLink ≡ false) where
     module _ (clean : f .number ≡ 0) where
       passes : (callFault occ blocking moved limit .number ≡ 0) × (imageFault img L .number ≡ 0)
       unfolding updateFault
       passes = or-else-clean (callFault occ blocking moved limit) (imageFault img L) clean
 
-      two : TwoNumberings p q occ occ′ (linkIdxs blocking) (linkIdxs blocking′)
+      two : TwoNumberings top p q occ occ′ (linkIdxs blocking) (linkIdxs blocking′)
       two =
           record {
             links = c .links;
-            lastTrain = c .lastTrain;
             trains = c .trains;
             occupancies = c .occupancies;
             order = rw (links-map p blocking) (perm-map (λ (n : ℕ). record { 0 = n }) (c .order));
@@ -171,13 +173,13 @@ module _ (p q : ℕ → ℕ) (occ occ′ blocking blocking′ : List ℕ) (c : C
 
       renumbered : u .answer .tally .strays ≡ 0 → u′ ≡ rUpdated p q u
       renumbered s =
-          ap (updateFreePath occ′ (linkIdxs blocking′) (record { 0 = q moved }) local limit) (state-match p q L (c .lastTrain) (c .links) (c .trains) (c .fewTrains) img img′ m b b′ (passes .1))
-          ∙ update-renumbered p q occ occ′ (linkIdxs blocking) (linkIdxs blocking′) two (record { 0 = moved }) local limit (decoded img) s
+          ap (updateFreePath occ′ (linkIdxs blocking′) (record { 0 = q moved }) local limit) (state-match p q L top (c .links) (c .trains) img img′ low m b b′ (passes .1))
+          ∙ update-renumbered top p q occ occ′ (linkIdxs blocking) (linkIdxs blocking′) two (record { 0 = moved }) local limit (decoded img) s
 
-      stored : (t : Train) → StaysFit L 65536 (decoded img) t → ImagesMatch p q (leftImage Success t img) (leftImage Success (rTrainDisp p q t) img′)
-      stored t k = stored-match p q L (c .lastTrain) (c .links) (c .trains) (c .fewTrains) img img′ m b b′ (passes .1) t (keeps img L b (passes .1) t (k .stays .same)) (fit-held img L b (passes .1) t k)
+      stored : (t : Train) → StaysFit L (largestTrain img) (decoded img) t → ImagesMatch p q (leftImage Success t img) (leftImage Success (rTrainDisp p q t) img′)
+      stored t k = stored-match p q L top (c .links) (c .trains) img img′ low m b b′ (passes .1) t (keeps img L b (passes .1) t (k .stays .same)) (fit-held img L b (passes .1) t k)
 
-      images-left : (s : Status) (t : Train) → Leaves (StaysFit L 65536 (decoded img)) (decoded img) s t → ImagesMatch p q (leftImage s t img) (leftImage s (rTrainDisp p q t) img′)
+      images-left : (s : Status) (t : Train) → Leaves (StaysFit L (largestTrain img) (decoded img)) (decoded img) s t → ImagesMatch p q (leftImage s t img) (leftImage s (rTrainDisp p q t) img′)
       images-left Success t k = stored t k
       images-left Blocked t k = stored t k
       images-left (Faulty n) t k = stored t k
@@ -186,7 +188,7 @@ module _ (p q : ℕ → ℕ) (occ occ′ blocking blocking′ : List ℕ) (c : C
       stored-answers : u .answer .tally .strays ≡ 0 → UpdatesMatch p q (storedAnswer u img) (storedAnswer u′ img′)
       stored-answers s =
           subst (λ (x : Updated). UpdatesMatch p q (storedAnswer u img) (storedAnswer x img′)) (sym (renumbered s))
-          (record { answer = refl; images = images-left (u .answer .status) (u .train) (leaves img L b (passes .1) occ blocking moved local limit w few) })
+          (record { answer = refl; images = images-left (u .answer .status) (u .train) (leaves img L b (passes .1) occ blocking moved local limit (largestTrain img) (omega arith) w) })
 
     -- the theorem: where the first update counts no stray and entry 0 of the occupancy is empty
     pub update-match : updatedImage img occ blocking moved local limit .answer .tally .strays ≡ 0

@@ -1,27 +1,26 @@
 -- What an update leaves: a refused one the image itself, any other an image that passes 6 to 9 again. Assumes nothing.
-use mathlib.Core.Path.{_≡_, refl, sym, ap, _∙_}
+use mathlib.Core.Path.{_≡_, refl, sym, ap, subst, _∙_}
 use mathlib.Core.Bool.{Bool}
 use mathlib.Core.List.{List}
-use Prim.Native.Nat.{ℕ, zero, suc, _<_}
-use lib.ListN.{length, getD}
+use Prim.Native.Nat.{ℕ, zero, suc, _≤_}
+use native.Mathlib.Omega.{arith}
+use lib.ListN.{length}
 use Rattle.link_rules.proofs.OctetLaws.{Bytes}
 use Rattle.disp_structs.specs.Train.{Train}
+use Rattle.image.specs.Image.{largestTrain}
 use Rattle.image.specs.Codec.{decoded, storedInto}
 use Rattle.image.proofs.CodecLaws.{Keeps, Held}
 use Rattle.image_fault.specs.ImageFault.{imageFault}
 use Rattle.link_rules.specs.declared.refusal.Refusal.{Refusal}
 use Rattle.image_fault.proofs.AcceptLaws as Clean
 use Rattle.update_definition.specs.Update.{Status, Success, Blocked, Faulty, Refused, Updated, updateFreePath}
+use Rattle.update_definition.specs.Fits.{TrainsWithin, Fits}
 use Rattle.update_laws.specs.Ended.{SameTrip, Leaves}
 use Rattle.update_laws.proofs.Updates.{StaysFit, update-fits}
 use Rattle.update_definition.specs.UpdateImage.{UpdatedImage, callFault, leftImage, answerBy, linkIdxs, updateFault, updatedImage}
-use Rattle.update_laws.proofs.BytesAccepted.{bytes-accepted}
+use Rattle.update_laws.proofs.BytesAccepted.{bytes-accepted, within-higher}
 use Rattle.update_laws.proofs.StoredGood.{bytes-stored, length-stored}
 use Rattle.update_laws.proofs.AcceptedBytes.{accepted-bytes, held}
-
--- the occupancy holds trains of 16 bits, as many as an image has for a train
-abbrev pub Trains16 : List ℕ → Type 0
-Trains16 occ = (i : ℕ) → getD occ i 0 < 65536
 
 -- ---- by the answer
 
@@ -55,29 +54,45 @@ module _ (img : List ℕ) (l : ℕ) (b : Bytes img) (h : imageFault img l .numbe
   pub keeps : (u : Train) → SameTrip (decoded img) u → Keeps u (decoded img)
   keeps u s = record { ests = s .ests; room = s .room; train = s .train; search = s .search; fixed-max = s .fixedMax }
 
-  pub fit-held : (u : Train) → StaysFit l 65536 (decoded img) u → Held u
-  fit-held u w = held l (Clean.accepted img l h .links .1) u (w .stays .accepted) (w .fit)
+  -- with trains up to the largest one of the image
+  abbrev pub Fit : Train → Type 0
+  Fit u = StaysFit l (largestTrain img) (decoded img) u
 
-  stored : (u : Train) → StaysFit l 65536 (decoded img) u → (imageFault (storedInto u img) l .number ≡ 0) × (decoded (storedInto u img) ≡ u)
-  stored u w = accepted-bytes img l b h u (keeps u (w .stays .same)) (w .stays .accepted) (w .fit)
+  pub fit-held : (u : Train) → Fit u → Held u
+  fit-held u w = held l (Clean.accepted img l h .links .1) (largestTrain img) (omega arith) u (w .stays .accepted) (w .fit)
 
-  pub left-passes : (s : Status) (u : Train) → Leaves (StaysFit l 65536 (decoded img)) (decoded img) s u → (imageFault (leftImage s u img) l .number ≡ 0) × (decoded (leftImage s u img) ≡ u)
+  stored : (u : Train) → Fit u → (imageFault (storedInto u img) l .number ≡ 0) × (decoded (storedInto u img) ≡ u)
+  stored u w = accepted-bytes img l b h (largestTrain img) (omega arith) u (keeps u (w .stays .same)) (w .stays .accepted) (w .fit)
+
+  pub left-passes : (s : Status) (u : Train) → Leaves Fit (decoded img) s u → (imageFault (leftImage s u img) l .number ≡ 0) × (decoded (leftImage s u img) ≡ u)
   left-passes Success u w = stored u w
   left-passes Blocked u w = stored u w
   left-passes (Faulty n) u w = stored u w
   left-passes (Refused r) u w = (h, sym w)
 
-  pub leaves : (occ : List ℕ) (blocking : List ℕ) (moved : ℕ) (local : Bool) (limit : ℕ) → Trains16 occ → moved < 65536
-      → Leaves (StaysFit l 65536 (decoded img)) (decoded img) (updateFreePath occ (linkIdxs blocking) (record { 0 = moved }) local limit (decoded img) .answer .status) (updateFreePath occ (linkIdxs blocking) (record { 0 = moved }) local limit (decoded img) .train)
-  leaves occ blocking moved local limit w m =
-      let a = bytes-accepted img l b h in
-      update-fits l 65536 occ (linkIdxs blocking) (record { 0 = moved }) local limit (decoded img) (a .0) (a .1) m (λ x. w (x .0))
+  module _ (occ : List ℕ) (blocking : List ℕ) (moved : ℕ) (local : Bool) (limit : ℕ) where
+    abbrev updated : Updated
+    updated = updateFreePath occ (linkIdxs blocking) (record { 0 = moved }) local limit (decoded img)
 
-  answer-passes : (k : ℕ) (f : Refusal) (u : Updated) → Leaves (StaysFit l 65536 (decoded img)) (decoded img) (u .answer .status) (u .train) → imageFault (answerBy k f u img .image) l .number ≡ 0
+    -- where the image's trains and those of the call are up to top, so are those of the train that is left
+    pub leaves-up-to : (top : ℕ) → Fits top (decoded img) → TrainsWithin top occ moved → Leaves (StaysFit l top (decoded img)) (decoded img) (updated .answer .status) (updated .train)
+    leaves-up-to top f w = update-fits l top occ (linkIdxs blocking) (record { 0 = moved }) local limit (decoded img) (bytes-accepted img l b h .0) f w
+
+    pub leaves : (top : ℕ) → top ≤ largestTrain img → TrainsWithin top occ moved → Leaves Fit (decoded img) (updated .answer .status) (updated .train)
+    leaves top low w = leaves-up-to (largestTrain img) (bytes-accepted img l b h .1) (within-higher top (largestTrain img) low occ moved w)
+
+  answer-passes : (k : ℕ) (f : Refusal) (u : Updated) → Leaves Fit (decoded img) (u .answer .status) (u .train) → imageFault (answerBy k f u img .image) l .number ≡ 0
   answer-passes zero f u w = left-passes (u .answer .status) (u .train) w .0
   answer-passes (suc k) f u w = h
 
--- ---- the call
+-- trains up to top are left where there were none above it
+left-fits : (l top : ℕ) (t u : Train) (s : Status) → Fits top t → Leaves (StaysFit l top t) t s u → Fits top u
+left-fits l top t u Success f w = w .fit
+left-fits l top t u Blocked f w = w .fit
+left-fits l top t u (Faulty n) f w = w .fit
+left-fits l top t u (Refused r) f w = subst (λ (x : Train). Fits top x) (sym w) f
+
+-- ---- the call; top is the largest train, of which laws ask that the image holds it
 
 module _ (img occ blocking : List ℕ) (moved : ℕ) (local : Bool) (limit : ℕ) where
   abbrev after : UpdatedImage
@@ -97,29 +112,45 @@ module _ (img occ blocking : List ℕ) (moved : ℕ) (local : Bool) (limit : ℕ
   bytes-kept b = answer-bytes (updateFault img occ blocking moved limit .number) (updateFault img occ blocking moved limit) _ img b
 
   -- an image that passes 6 to 9 passes them again, whatever the answer
-  pub left-accepted : Bytes img → Trains16 occ → moved < 65536 → imageFault img (length occ) .number ≡ 0 → imageFault (after .image) (length occ) .number ≡ 0
+  pub left-accepted : Bytes img → (top : ℕ) → top ≤ largestTrain img → TrainsWithin top occ moved → imageFault img (length occ) .number ≡ 0 → imageFault (after .image) (length occ) .number ≡ 0
   unfolding updatedImage
-  left-accepted b w m h =
-      answer-passes img (length occ) b h (updateFault img occ blocking moved limit .number) (updateFault img occ blocking moved limit) _ (leaves img (length occ) b h occ blocking moved local limit w m)
+  left-accepted b top low w h =
+      answer-passes img (length occ) b h (updateFault img occ blocking moved limit .number) (updateFault img occ blocking moved limit) _ (leaves img (length occ) b h occ blocking moved local limit top low w)
 
   -- where 2 to 9 do not refuse, it holds the train that the update of its train leaves
-  pub left-holds : Bytes img → Trains16 occ → moved < 65536 → updateFault img occ blocking moved limit .number ≡ 0
+  pub left-holds : Bytes img → (top : ℕ) → top ≤ largestTrain img → TrainsWithin top occ moved → updateFault img occ blocking moved limit .number ≡ 0
       → decoded (after .image) ≡ updateFreePath occ (linkIdxs blocking) (record { 0 = moved }) local limit (decoded img) .train
   unfolding updatedImage updateFault
-  left-holds b w m e =
+  left-holds b top low w e =
       let u = updateFreePath occ (linkIdxs blocking) (record { 0 = moved }) local limit (decoded img) in
       let h = Clean.or-else-clean (callFault occ blocking moved limit) (imageFault img (length occ)) e .1 in
       ap (λ (k : ℕ). decoded (answerBy k (updateFault img occ blocking moved limit) u img .image)) e
-      ∙ left-passes img (length occ) b h (u .answer .status) (u .train) (leaves img (length occ) b h occ blocking moved local limit w m) .1
+      ∙ left-passes img (length occ) b h (u .answer .status) (u .train) (leaves img (length occ) b h occ blocking moved local limit top low w) .1
 
   -- so Success, Blocked and Faulty leave an image that passes 6 to 9
-  pub done-accepted : Bytes img → Trains16 occ → moved < 65536 → ((r : Refusal) → after .answer .status ≡ Refused r → ⊥) → imageFault (after .image) (length occ) .number ≡ 0
+  pub done-accepted : Bytes img → (top : ℕ) → top ≤ largestTrain img → TrainsWithin top occ moved → ((r : Refusal) → after .answer .status ≡ Refused r → ⊥) → imageFault (after .image) (length occ) .number ≡ 0
   unfolding updatedImage updateFault
-  done-accepted b w m done = go (updateFault img occ blocking moved limit .number) refl
+  done-accepted b top low w done = go (updateFault img occ blocking moved limit .number) refl
     where
       go : (k : ℕ) → updateFault img occ blocking moved limit .number ≡ k → imageFault (after .image) (length occ) .number ≡ 0
-      go zero e = left-accepted b w m (Clean.or-else-clean (callFault occ blocking moved limit) (imageFault img (length occ)) e .1)
+      go zero e = left-accepted b top low w (Clean.or-else-clean (callFault occ blocking moved limit) (imageFault img (length occ)) e .1)
       go (suc k) e =
           let f = updateFault img occ blocking moved limit in
           let u = updateFreePath occ (linkIdxs blocking) (record { 0 = moved }) local limit (decoded img) in
           absurd (done f (ap (λ (n : ℕ). answerBy n f u img .answer .status) e))
+
+  -- no diverge record comes to hold a train above top
+  pub left-up-to : Bytes img → (top : ℕ) → top ≤ largestTrain img → Fits top (decoded img) → TrainsWithin top occ moved → Fits top (decoded (after .image))
+  unfolding updatedImage updateFault
+  left-up-to b top low f w = go (updateFault img occ blocking moved limit .number) refl
+    where
+      go : (k : ℕ) → updateFault img occ blocking moved limit .number ≡ k → Fits top (decoded (after .image))
+      go zero e =
+          let u = updateFreePath occ (linkIdxs blocking) (record { 0 = moved }) local limit (decoded img) in
+          let h = Clean.or-else-clean (callFault occ blocking moved limit) (imageFault img (length occ)) e .1 in
+          subst (λ (t : Train). Fits top t) (sym (left-holds b top low w e))
+          (left-fits (length occ) top (decoded img) (u .train) (u .answer .status) f (leaves-up-to img (length occ) b h occ blocking moved local limit top f w))
+      go (suc k) e =
+          let r = updateFault img occ blocking moved limit in
+          let u = updateFreePath occ (linkIdxs blocking) (record { 0 = moved }) local limit (decoded img) in
+          subst (λ (n : ℕ). Fits top (decoded (answerBy n r u img .image))) (sym e) f

@@ -65,7 +65,7 @@ adjustSentinel-r q m (d ∷ (e ∷ es)) = ap (λ x. rDiv q d ∷ x) (adjustSenti
 
 -- ---- the update, by the first node of its free path
 
-module _ (p q : ℕ → ℕ) (occ occ′ : List ℕ) (blocking blocking′ : List LinkIdx) (n : TwoNumberings p q occ occ′ blocking blocking′) (moved : TrainIdx) (local : Bool) (limit : ℕ) (t : Train) where
+module _ (top : ℕ) (p q : ℕ → ℕ) (occ occ′ : List ℕ) (blocking blocking′ : List LinkIdx) (n : TwoNumberings top p q occ occ′ blocking blocking′) (moved : TrainIdx) (local : Bool) (limit : ℕ) (t : Train) where
   abbrev rp : Renumbering (length occ - 1) p
   rp = n .links
 
@@ -85,7 +85,7 @@ module _ (p q : ℕ → ℕ) (occ occ′ : List ℕ) (blocking blocking′ : Lis
   b′ = all-perm Link32 (n .order) (all-32 (length occ) (n .short) (map (rLink p) blocking) (below-r occ p rp blocking under))
 
   z′ : occupied occ′ noLink ≡ false
-  z′ = ap (occupied occ′) (sym (noLink-r (length occ - 1) p rp)) ∙ Numbers.occupied-r p q (n .lastTrain) (n .trains) occ occ′ rp (n .occupancies) noLink ∙ n .zero-empty
+  z′ = ap (occupied occ′) (sym (noLink-r (length occ - 1) p rp)) ∙ Numbers.occupied-r p q top (n .trains) occ occ′ rp (n .occupancies) noLink ∙ n .zero-empty
 
   classes : plainly (linkOptType blocking′ (contains on′)) ≡ rClass p (plainly (linkOptType blocking (contains on)))
   classes = class-r (length occ - 1) p rp (contains on) (contains on′) (onPathLinks-r (length occ - 1) p rp (t .«disp_path»)) blocking blocking′ (n .order)
@@ -106,13 +106,13 @@ module _ (p q : ℕ → ℕ) (occ occ′ : List ℕ) (blocking blocking′ : Lis
     start-r : startOf g′ (rTrainDisp p q t) ≡ rBetween p q (startOf g t)
     start-r =
         ap₂ startWith (adjustSentinel-r q moved (t .«div_nodes»))
-        (straysOf-r p q (n .lastTrain) (n .trains) occ occ′ rp (n .occupancies) blocking blocking′ on on′ b b′ (n .zero-empty) z′ moved local (g .«offset_lowest») classes knowns t)
+        (straysOf-r p q top (n .trains) occ occ′ rp (n .occupancies) blocking blocking′ on on′ b b′ (n .zero-empty) z′ moved local (g .«offset_lowest») classes knowns t)
 
     started-r : roundsFrom limit g t (startOf g t) .answer .tally .strays ≡ 0 → roundsFrom limit g′ (rTrainDisp p q t) (startOf g′ (rTrainDisp p q t)) ≡ rUpdated p q (roundsFrom limit g t (startOf g t))
     unfolding strays
     started-r s =
         ap (roundsFrom limit g′ (rTrainDisp p q t)) start-r
-        ∙ rounds-r p q (n .lastTrain) (n .trains) occ occ′ rp (n .occupancies) blocking blocking′ on on′ b b′ (n .zero-empty) z′ moved local (g .«offset_lowest») classes knowns limit t (startOf g t) (omega arith) s
+        ∙ rounds-r p q top (n .trains) occ occ′ rp (n .occupancies) blocking blocking′ on on′ b b′ (n .zero-empty) z′ moved local (g .«offset_lowest») classes knowns limit t (startOf g t) (omega arith) s
 
   from-r : (x : Res DispNode) → updateFrom x occ blocking moved local limit t .answer .tally .strays ≡ 0
       → updateFrom (mapRes (rNode p) x) occ′ blocking′ (rTrain q moved) local limit (rTrainDisp p q t) ≡ rUpdated p q (updateFrom x occ blocking moved local limit t)
@@ -121,10 +121,10 @@ module _ (p q : ℕ → ℕ) (occ occ′ : List ℕ) (blocking blocking′ : Lis
 
 -- ---- the theorem
 
-pub update-renumbered : (p q : ℕ → ℕ) (occ occ′ : List ℕ) (blocking blocking′ : List LinkIdx) → TwoNumberings p q occ occ′ blocking blocking′
+pub update-renumbered : (top : ℕ) (p q : ℕ → ℕ) (occ occ′ : List ℕ) (blocking blocking′ : List LinkIdx) → TwoNumberings top p q occ occ′ blocking blocking′
     → (moved : TrainIdx) (local : Bool) (limit : ℕ) (t : Train) → updateFreePath occ blocking moved local limit t .answer .tally .strays ≡ 0
     → updateFreePath occ′ blocking′ (rTrain q moved) local limit (rTrainDisp p q t) ≡ rUpdated p q (updateFreePath occ blocking moved local limit t)
 unfolding updateFreePath
-update-renumbered p q occ occ′ blocking blocking′ n moved local limit t s =
+update-renumbered top p q occ occ′ blocking blocking′ n moved local limit t s =
     ap (λ x. updateFrom x occ′ blocking′ (rTrain q moved) local limit (rTrainDisp p q t)) (at-map (rNode p) (t .«disp_path») (t .«disp_node_idx_free»))
-    ∙ from-r p q occ occ′ blocking blocking′ n moved local limit t (at (t .«disp_path») (t .«disp_node_idx_free»)) s
+    ∙ from-r top p q occ occ′ blocking blocking′ n moved local limit t (at (t .«disp_path») (t .«disp_node_idx_free»)) s

@@ -6,7 +6,7 @@ use mathlib.Core.List.{List, [], _∷_}
 use Prim.Native.Nat.{ℕ, zero, suc, _+_, _-_, _<_, _≤_}
 use native.Mathlib.Omega.{arith}
 use lib.ListN.{length}
-use Rattle.link_rules.specs.LinkIdx.{noTrain, holder}
+use Rattle.link_rules.specs.LinkIdx.{noTrain}
 use Rattle.link_rules.specs.declared.link_idx.LinkIdx.{LinkIdx}
 use Rattle.link_rules.specs.declared.link_idx.TrainIdx.{TrainIdx}
 use Rattle.disp_structs.specs.Train.{Train}
@@ -18,7 +18,7 @@ use Rattle.free_path.specs.Base.{Res, ok, no, at}
 use Rattle.update_definition.specs.State.{Ended, atEnd, blockedAt, again, withDivNodes}
 use Rattle.update_definition.specs.Update.{Given, Updated, Between, between, refused, straysOf, faultsOf, finish, afterRound, due, roundsFrom, roundOf, adjustSentinel, givenOf, startOf, updateFrom, updateFreePath, turnLimit}
 use Rattle.update_definition.specs.Accepted.{Each, Accepted, DivsAccepted}
-use Rattle.update_definition.specs.Fits.{NodeFits, Fits}
+use Rattle.update_definition.specs.Fits.{TrainsUpTo, TrainsWithin, NodeFits, Fits}
 use Rattle.update_laws.specs.Ended.{SameTrip, StaysAccepted, EndsGood, Leaves}
 use Rattle.update_laws.specs.FitsGood.{TrainFits, DivFits, EndsFit}
 use Rattle.update_laws.proofs.Answers.{no-ok, ok-same}
@@ -171,67 +171,67 @@ update-leaves links occ blocking moved local limit t g = go (at (t .«disp_path�
 
 -- ---- and an image can hold it
 
--- at the top of a round, with the widths
-record TopFits (links trains : ℕ) (was t : Train) (split k : ℕ) : Type 0 where
+-- at the top of a round, trains up to top
+record TopFits (links top : ℕ) (was t : Train) (split k : ℕ) : Type 0 where
   good : TopGood links was t split k
-  fit : Fits trains t
+  fit : Fits top t
 
--- the train that is left: accepted, of the same trip, and within its fields
-pub record StaysFit (links trains : ℕ) (t u : Train) : Type 0 where
+-- the train that is left: accepted, of the same trip, within its fields, with trains up to top
+pub record StaysFit (links top : ℕ) (t u : Train) : Type 0 where
   pub stays : StaysAccepted links t u
-  pub fit : Fits trains u
+  pub fit : Fits top u
 
-begun-fits : (links trains : ℕ) (occ : List ℕ) (t : Train) (g : Accepted links t) (f : Fits trains t) → ((l : LinkIdx) → TrainFits trains (holder occ l)) → {e : Ended} → Begun links occ t (ok e) → EndsFit trains e
+begun-fits : (links top : ℕ) (occ : List ℕ) (t : Train) (g : Accepted links t) (f : Fits top t) → TrainsUpTo top occ → {e : Ended} → Begun links occ t (ok e) → EndsFit top e
 unfolding at
-begun-fits links trains occ t g f held {e} w =
+begun-fits links top occ t g f held {e} w =
     let r = w .round in
     let s = w .search in
-    search-fits trains r
-    (record { train = subst (λ (y : Train). Fits trains y) (sym (w .train-is)) f; held = λ l. subst (λ (y : List ℕ). TrainFits trains (holder y l)) (sym (w .occ-is)) (held l) })
+    search-fits top r
+    (record { train = subst (λ (y : Train). Fits top y) (sym (w .train-is)) f; held = subst (λ (y : List ℕ). TrainsUpTo top y) (sym (w .occ-is)) held })
     links (subst (λ (y : Train). Accepted links y) (sym (w .train-is)) g) (turnLimit t) s e (w .good)
     (record {
-      pool = subst (λ (y : List TrainIdx). Each (TrainFits trains) y) (sym (w .pool-is)) (each-one (TrainFits trains) noTrain (omega (arith, f .train)));
+      pool = subst (λ (y : List TrainIdx). Each (TrainFits top) y) (sym (w .pool-is)) (each-one (TrainFits top) noTrain (omega arith));
       nodes = subst (λ (y : List DispNode). Each NodeFits y) (sym (w .new-is)) (λ i x p. no-ok p);
-      divs = subst (λ (y : List DivergeNode). Each (DivFits trains) y) (sym (w .divs-is)) (each-one (DivFits trains) (record { «train_idx» = noTrain; «disp_node_idx» = 0 }) (omega (arith, f .train)));
+      divs = subst (λ (y : List DivergeNode). Each (DivFits top) y) (sym (w .divs-is)) (each-one (DivFits top) (record { «train_idx» = noTrain; «disp_node_idx» = 0 }) (omega arith));
     })
     (w .searched)
 
 -- what a round ends with fits
-pub round-fits : (links trains : ℕ) (g : Given) (t : Train) (split k : ℕ) (e : Ended) → Accepted links t → Fits trains t → ((l : LinkIdx) → TrainFits trains (holder (g .«links_blocked») l)) → 1 ≤ split → 1 ≤ k → roundOf g t split k ≡ ok e
-    → EndsFit trains e
-round-fits links trains g t split k e a f held i d q =
-    ⊎-elim (λ z. subst (λ (y : Ended). EndsFit trains y) (sym z) tt) (λ b. begun-fits links trains (g .«links_blocked») t a f held b) (round-begun links g t a split k i d q)
+pub round-fits : (links top : ℕ) (g : Given) (t : Train) (split k : ℕ) (e : Ended) → Accepted links t → Fits top t → TrainsUpTo top (g .«links_blocked») → 1 ≤ split → 1 ≤ k → roundOf g t split k ≡ ok e
+    → EndsFit top e
+round-fits links top g t split k e a f held i d q =
+    ⊎-elim (λ z. subst (λ (y : Ended). EndsFit top y) (sym z) tt) (λ b. begun-fits links top (g .«links_blocked») t a f held b) (round-begun links g t a split k i d q)
 
-fit-hands : (links trains : ℕ) (g : Given) (was t : Train) (split k : ℕ) (e : Ended) → ((l : LinkIdx) → TrainFits trains (holder (g .«links_blocked») l)) → TopFits links trains was t split k → roundOf g t split k ≡ ok e
-    → Hands g was (StaysFit links trains was) (TopFits links trains was) e
-fit-hands links trains g was t split k e held w q =
-    go e (top-hands links g was t split k e (w .good) q) (round-fits links trains g t split k e (w .good .stays .accepted) (w .fit) held (w .good .split-low) (w .good .div-low) q)
+fit-hands : (links top : ℕ) (g : Given) (was t : Train) (split k : ℕ) (e : Ended) → TrainsUpTo top (g .«links_blocked») → TopFits links top was t split k → roundOf g t split k ≡ ok e
+    → Hands g was (StaysFit links top was) (TopFits links top was) e
+fit-hands links top g was t split k e held w q =
+    go e (top-hands links g was t split k e (w .good) q) (round-fits links top g t split k e (w .good .stays .accepted) (w .fit) held (w .good .split-low) (w .good .div-low) q)
   where
-    go : (e : Ended) → Hands g was (StaysAccepted links was) (TopGood links was) e → EndsFit trains e → Hands g was (StaysFit links trains was) (TopFits links trains was) e
+    go : (e : Ended) → Hands g was (StaysAccepted links was) (TopGood links was) e → EndsFit top e → Hands g was (StaysFit links top was) (TopFits links top was) e
     go atEnd h f = tt
     go (blockedAt u) h f = record { stays = h; fit = f }
     go (again u i d) h f = record { good = h; fit = f }
 
 -- the sentinel takes the moved train
-pub adjusted-fits : (trains : ℕ) (moved : TrainIdx) (divs : List DivergeNode) → TrainFits trains moved → Each (DivFits trains) divs → Each (DivFits trains) (adjustSentinel moved divs)
+pub adjusted-fits : (top : ℕ) (moved : TrainIdx) (divs : List DivergeNode) → TrainFits top moved → Each (DivFits top) divs → Each (DivFits top) (adjustSentinel moved divs)
 unfolding adjustSentinel at
-adjusted-fits trains moved [] m f i d h = no-ok h
-adjusted-fits trains moved (x ∷ []) m f zero d h = subst (λ (y : DivergeNode). DivFits trains y) (ok-same h) m
-adjusted-fits trains moved (x ∷ []) m f (suc i) d h = no-ok h
-adjusted-fits trains moved (x ∷ (e ∷ es)) m f zero d h = f 0 d h
-adjusted-fits trains moved (x ∷ (e ∷ es)) m f (suc i) d h = adjusted-fits trains moved (e ∷ es) m (λ j y p. f (suc j) y p) i d h
+adjusted-fits top moved [] m f i d h = no-ok h
+adjusted-fits top moved (x ∷ []) m f zero d h = subst (λ (y : DivergeNode). DivFits top y) (ok-same h) m
+adjusted-fits top moved (x ∷ []) m f (suc i) d h = no-ok h
+adjusted-fits top moved (x ∷ (e ∷ es)) m f zero d h = f 0 d h
+adjusted-fits top moved (x ∷ (e ∷ es)) m f (suc i) d h = adjusted-fits top moved (e ∷ es) m (λ j y p. f (suc j) y p) i d h
 
-pub update-fits : (links trains : ℕ) (occ : List ℕ) (blocking : List LinkIdx) (moved : TrainIdx) (local : Bool) (limit : ℕ) (t : Train) → Accepted links t → Fits trains t → TrainFits trains moved → ((l : LinkIdx) → TrainFits trains (holder occ l))
-    → Leaves (StaysFit links trains t) t (updateFreePath occ blocking moved local limit t .answer .status) (updateFreePath occ blocking moved local limit t .train)
+pub update-fits : (links top : ℕ) (occ : List ℕ) (blocking : List LinkIdx) (moved : TrainIdx) (local : Bool) (limit : ℕ) (t : Train) → Accepted links t → Fits top t → TrainsWithin top occ (moved .0)
+    → Leaves (StaysFit links top t) t (updateFreePath occ blocking moved local limit t .answer .status) (updateFreePath occ blocking moved local limit t .train)
 unfolding updateFreePath
-update-fits links trains occ blocking moved local limit t g f m held = go (at (t .«disp_path») (t .«disp_node_idx_free»))
+update-fits links top occ blocking moved local limit t g f w = go (at (t .«disp_path») (t .«disp_node_idx_free»))
   where
-    go : (x : Res DispNode) → Leaves (StaysFit links trains t) t (updateFrom x occ blocking moved local limit t .answer .status) (updateFrom x occ blocking moved local limit t .train)
+    go : (x : Res DispNode) → Leaves (StaysFit links top t) t (updateFrom x occ blocking moved local limit t .answer .status) (updateFrom x occ blocking moved local limit t .train)
     go (no n) = refl
     go (ok n) =
         let v = givenOf occ blocking moved local t n in
-        rounds-leave v t (StaysFit links trains t) (TopFits links trains t) (λ u i d k. record { stays = k .good .stays; fit = k .fit }) (λ u i d e k q. fit-hands links trains v t u i d e held k q) limit (startOf v t)
+        rounds-leave v t (StaysFit links top t) (TopFits links top t) (λ u i d k. record { stays = k .good .stays; fit = k .fit }) (λ u i d e k q. fit-hands links top v t u i d e (w .entries) k q) limit (startOf v t)
         (record {
           good = top-start links moved t g;
-          fit = record { ests = f .ests; nodes = f .nodes; divs = adjusted-fits trains moved (t .«div_nodes») m (f .divs); train = f .train; search = f .search; fixedMax = f .fixedMax };
+          fit = record { ests = f .ests; nodes = f .nodes; divs = adjusted-fits top moved (t .«div_nodes») (w .moved-low) (f .divs); train = f .train; search = f .search; fixedMax = f .fixedMax };
         })

@@ -14,9 +14,12 @@ use Rattle.link_rules.specs.Refusals.{noRefusal, refused}
 use Rattle.link_rules.specs.declared.refusal.Refusal.{Refusal}
 use Rattle.image_fault.proofs.ScanLaws.{both}
 use Rattle.image_fault.proofs.AcceptLaws.{or-else-clean}
+use Rattle.image.specs.Image.{largestTrain}
+use Rattle.update_definition.specs.Fits.{TrainsUpTo, TrainsWithin}
 use Rattle.update_definition.specs.UpdateImage.{UpdatedImage, callFault, updatedImage}
-use Rattle.update_laws.proofs.UpdateLeaves.{Trains16, left-accepted}
+use Rattle.update_laws.proofs.UpdateLeaves.{left-accepted}
 use Rattle.yard_check.specs.Yard.{slotCount, partBegin, partEnd, partOf, withPart, yardFits, yardFault}
+use Rattle.yard_check.specs.YardMatch.{TrainsHeld}
 use Rattle.yard_check.specs.Check.{CheckArgs, rowSize, slotsFault, reportFault, checkFault, Row, unvisitedRow, refusedRow, finishedRow, movedRow, updatedRow, isErredRow, rowAt, isFinished, visit, visitBy, visited, slotVisit, slotRow, slotImage, yardAfter, howMany, firstNot, Refused, answerBy, answerOf, Checked, check, checkDone, checkedBy, checkedWith}
 use Rattle.yard_check.proofs.VisitLaws.{slot-keeps, slot-refused, images-fit, trains-stay, images-bytes}
 use Rattle.yard_check.proofs.YardLaws.{Fits, fits, part-long, part-bytes, left, slots-after, part-done, part-later, after-fits, after-bytes}
@@ -179,19 +182,30 @@ module _ (yard occ : List ℕ) (a : CheckArgs) (f : Fits yard) where
   yard-before (suc n) h l = rw (yard-before n (omega arith) (omega arith), slotImage, slot-unvisited (suc n) h) (part-back (suc n) (omega arith) l)
 
   -- an image that passes 6 to 9 passes them again
-  pub accepted-after : Bytes yard → Trains16 occ → a .moved < 65536 → ((t : ℕ) → 1 ≤ t → t ≤ slotCount yard → imageFault (partOf yard t) (length occ) .number ≡ 0)
+  pub accepted-after : Bytes yard → ((t : ℕ) → 1 ≤ t → t ≤ slotCount yard → TrainsWithin (largestTrain (partOf yard t)) occ (a .moved)) → ((t : ℕ) → 1 ≤ t → t ≤ slotCount yard → imageFault (partOf yard t) (length occ) .number ≡ 0)
       → (t : ℕ) → 1 ≤ t → t ≤ slotCount yard → imageFault (partOf (yardAfter yard (slotImage yard occ a) (slotCount yard)) t) (length occ) .number ≡ 0
-  accepted-after b w few ok t l m =
+  accepted-after b w ok t l m =
       rw (part-done yard f (slotImage yard occ a) (images-fit yard occ a) (slotCount yard) (omega arith) t l m m)
       (slot-keeps yard occ a t (λ (x : List ℕ). imageFault x (length occ) .number ≡ 0) (ok t l m)
-      (left-accepted (partOf yard t) occ (a .blocking) (a .moved) (a .local) (a .limit) (part-bytes yard f t l m b) w few (ok t l m)))
+      (left-accepted (partOf yard t) occ (a .blocking) (a .moved) (a .local) (a .limit) (part-bytes yard f t l m b) (largestTrain (partOf yard t)) (omega arith) (w t l m) (ok t l m)))
 
-pub accepted-kept : (yard occ : List ℕ) (a : CheckArgs) (report : List ℕ) → yardFits yard ≡ true → Bytes yard → Trains16 occ
+-- a slot's number is a train that every image holds
+slot-held : (img : List ℕ) → 63 ≤ largestTrain img
+slot-held img = omega arith
+
+-- the trains of a check that is not refused, whose moved train is a slot, are ones that each image holds
+pub slots-within : (top : ℕ) (yard occ : List ℕ) (moved : ℕ) → Fits yard → moved ≤ slotCount yard → TrainsHeld top yard → TrainsUpTo top occ
+    → (t : ℕ) → 1 ≤ t → t ≤ slotCount yard → TrainsWithin (largestTrain (partOf yard t)) occ moved
+slots-within top yard occ moved f h k w t l m =
+    record { entries = λ i. omega (arith, w i, k t l m); moved-low = omega (arith, h, f .few, slot-held (partOf yard t)) }
+
+-- top is the largest train, which every image holds
+pub accepted-kept : (top : ℕ) (yard occ : List ℕ) (a : CheckArgs) (report : List ℕ) → yardFits yard ≡ true → Bytes yard → TrainsHeld top yard → TrainsUpTo top occ
     → ((t : ℕ) → 1 ≤ t → t ≤ slotCount yard → imageFault (partOf yard t) (length occ) .number ≡ 0)
     → (t : ℕ) → 1 ≤ t → t ≤ slotCount yard → imageFault (partOf (checkedWith yard occ a report .yard) t) (length occ) .number ≡ 0
-accepted-kept yard occ a report ok b w h =
+accepted-kept top yard occ a report ok b k w h =
     by yard occ a report (λ (c : Checked). (t : ℕ) → 1 ≤ t → t ≤ slotCount yard → imageFault (partOf (c .yard) t) (length occ) .number ≡ 0) (λ k e. h)
-    (λ e. accepted-after yard occ a (fits yard ok) b w (omega (arith, taken yard occ a (length report) e .moved, fits yard ok .few)) h)
+    (λ e. accepted-after yard occ a (fits yard ok) b (slots-within top yard occ (a .moved) (fits yard ok) (taken yard occ a (length report) e .moved) k w) h)
 
 -- a train refused within a check keeps its image: a slot whose record says refused has the part that it had, after a refused check too
 pub refused-slot-keeps : (yard occ : List ℕ) (a : CheckArgs) (report : List ℕ) (t : ℕ) → 1 ≤ t → t ≤ slotCount yard

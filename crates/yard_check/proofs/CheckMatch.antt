@@ -13,20 +13,20 @@ use Rattle.link_rules.specs.Matching.{OccupanciesMatch}
 use Rattle.link_rules.proofs.OctetLaws.{Bytes}
 use Rattle.image_fault.specs.ImageFault.{imageFault}
 use Rattle.link_rules.specs.declared.refusal.Refusal.{Refusal}
+use Rattle.update_definition.specs.Fits.{TrainsUpTo}
 use Rattle.update_definition.specs.Update.{Status, Success, Blocked, Faulty, Refused}
 use Rattle.update_definition.specs.UpdateImage.{UpdatedImage, updatedImage}
 use Rattle.update_definition.specs.UpdateMatch.{CallsMatch}
-use Rattle.update_laws.proofs.UpdateLeaves.{Trains16}
 use Rattle.update_laws.proofs.UpdateCounts.{image-counts}
 use Rattle.update_laws.proofs.ImageRenumbering.{call-fault-match}
 use Rattle.yard_check.specs.Yard.{slotCount, partOf, yardFits}
 use Rattle.yard_check.specs.Check.{CheckArgs, rowSize, slotsFault, reportFault, checkFault, Row, rowAt, statusRow, isBlockedRow, isErredRow, isFinished, Visit, visitBy, visited, slotVisit, slotRow, slotImage, yardAfter, reportAfter, howMany, answerBy, answerOf, Checked, checkDone, checkedBy, checkedWith}
-use Rattle.yard_check.specs.YardMatch.{YardsMatch, rRow, ReportsMatch, AnswersMatch, NotRefused, ArgsMatch}
+use Rattle.yard_check.specs.YardMatch.{TrainsHeld, YardsMatch, rRow, ReportsMatch, AnswersMatch, NotRefused, ArgsMatch}
 use Rattle.yard_check.specs.DemandThree.{Plain}
 use Rattle.yard_check.proofs.SlotLaws.{some, many-same, many-renumbered, leb-slots}
 use Rattle.yard_check.proofs.YardLaws.{fits, slots-after, part-bytes, part-done}
 use Rattle.yard_check.proofs.VisitLaws.{images-fit}
-use Rattle.yard_check.proofs.CheckLaws.{taken, taken-done}
+use Rattle.yard_check.proofs.CheckLaws.{taken, taken-done, slots-within}
 use Rattle.yard_check.proofs.ReportLaws.{keptRow, report-length, report-row}
 use Rattle.yard_check.proofs.VisitMatch.{VisitsMatch, visit-match, visited-slot}
 
@@ -94,18 +94,18 @@ pub record ChecksMatch (p q : ℕ → ℕ) (slots : ℕ) (c c′ : Checked) : Ty
   pub report : NotRefused (ReportsMatch q slots (c .report) (c′ .report)) (c .answer)
   pub yards : YardsMatch p q (c .yard) (c′ .yard)
 
-module _ (top : ℕ) (few-trains : top < 65536) (p q : ℕ → ℕ) (yard yard′ occ occ′ : List ℕ) (a a′ : CheckArgs) (report report′ : List ℕ)
+module _ (top : ℕ) (p q : ℕ → ℕ) (yard yard′ occ occ′ : List ℕ) (a a′ : CheckArgs) (report report′ : List ℕ)
     (links : Renumbering (length occ - 1) p) (trains : Renumbering top q)
     (among : (t : ℕ) → t ≤ slotCount yard → q t ≤ slotCount yard) (ok : yardFits yard ≡ true) (ok′ : yardFits yard′ ≡ true) (m : YardsMatch p q yard yard′)
-    (o : OccupanciesMatch p q occ occ′) (b : Bytes yard) (b′ : Bytes yard′) (w : Trains16 occ) (g : ArgsMatch p q a a′) (long : length report′ ≡ length report) where
+    (o : OccupanciesMatch p q occ occ′) (b : Bytes yard) (b′ : Bytes yard′) (held : TrainsHeld top yard) (w : TrainsUpTo top occ) (g : ArgsMatch p q a a′) (long : length report′ ≡ length report) where
   abbrev S : ℕ
   S = slotCount yard
 
   abbrev f : Refusal
   f = checkFault yard occ a (length report)
 
-  calls : CallsMatch p q occ occ′ (a .blocking) (a′ .blocking)
-  calls = record { links = links; lastTrain = top; fewTrains = few-trains; trains = trains; occupancies = o; order = g .blocking }
+  calls : CallsMatch top p q occ occ′ (a .blocking) (a′ .blocking)
+  calls = record { links = links; trains = trains; occupancies = o; order = g .blocking }
 
   -- the same refusal, or none in both
   fault-same : checkFault yard′ occ′ a′ (length report′) ≡ f
@@ -115,7 +115,7 @@ module _ (top : ℕ) (few-trains : top < 65536) (p q : ℕ → ℕ) (yard yard�
         g .moved,
         g .limit,
         g .begin,
-        call-fault-match p q occ occ′ (a .blocking) (a′ .blocking) calls (a .moved) (a .limit),
+        call-fault-match top p q occ occ′ (a .blocking) (a′ .blocking) calls (a .moved) (a .limit),
         ok,
         ok′,
         m .slots,
@@ -124,9 +124,6 @@ module _ (top : ℕ) (few-trains : top < 65536) (p q : ℕ → ℕ) (yard yard�
       )
 
   module _ (clean : f .number ≡ 0) where
-    moved-few : a .moved < 65536
-    moved-few = omega (arith, fits yard ok .few, taken yard occ a (length report) clean .moved)
-
     report-long : length report ≡ rowSize * S
     report-long = taken yard occ a (length report) clean .report-long
 
@@ -150,8 +147,9 @@ module _ (top : ℕ) (few-trains : top < 65536) (p q : ℕ → ℕ) (yard yard�
           let here = visited-slot yard occ a t begins l in
           let there = visited-slot yard′ occ′ a′ (q t) (g .begin ∙ begins) (slot t l k .0) in
           rw (here, there)
-          (visit-match p q occ occ′ a a′ g calls w moved-few zero-empty t (partOf yard t) (partOf yard′ (q t)) (m .images t l k)
+          (visit-match top p q occ occ′ a a′ g calls zero-empty t (partOf yard t) (partOf yard′ (q t)) (m .images t l k)
           (part-bytes yard (fits yard ok) t l k b) (part-bytes yard′ (fits yard′ ok′) (q t) (slot t l k .0) (slot t l k .1) b′)
+          (held t l k) (slots-within top yard occ (a .moved) (fits yard ok) (taken yard occ a (length report) clean .moved) held w t l k)
           (rw (here, slotRow) at (strays t l k)))
 
       -- as many rows of a kind that does not see the numbering

@@ -15,7 +15,7 @@ use Rattle.link_rules.specs.declared.link_idx.LinkIdx.{LinkIdx}
 use Rattle.link_rules.specs.declared.link_idx.TrainIdx.{TrainIdx}
 use Rattle.est_times.proofs.Counting.{same-or-not}
 use Rattle.image.proofs.Writers.{side}
-use Rattle.yard_check.specs.DemandThree.{TrainsUpTo}
+use Rattle.update_definition.specs.Fits.{TrainsUpTo}
 
 module _ (top : ℕ) where
   upto-set : (occ : List ℕ) (k x : ℕ) → x ≤ top → TrainsUpTo top occ → TrainsUpTo top (set occ k x)

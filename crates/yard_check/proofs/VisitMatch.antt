@@ -2,7 +2,7 @@
 use mathlib.Core.Path.{_≡_, refl, sym, ap, ap₂, subst, _∙_}
 use mathlib.Core.Bool.{Bool, true, false, cond}
 use mathlib.Core.List.{List}
-use Prim.Native.Nat.{ℕ, zero, suc, _≤_, _<_}
+use Prim.Native.Nat.{ℕ, zero, suc, _≤_}
 use native.Mathlib.Omega.{arith}
 use lib.Dec.{eqb}
 use lib.ListN.{length}
@@ -10,15 +10,16 @@ use borrow.Author.Tests.{le-ltb}
 use Rattle.link_rules.specs.LinkIdx.{noLink, occupied}
 use Rattle.link_rules.proofs.OctetLaws.{Bytes}
 use Rattle.link_rules.proofs.RenumberingLaws.{eqb-renumbered}
+use Rattle.image.specs.Image.{largestTrain}
 use Rattle.image.specs.ImageMatch.{ImagesMatch}
 use Rattle.image.proofs.MatchLaws.{path-count, header-high}
 use Rattle.image_fault.specs.ImageFault.{imageFault}
 use Rattle.link_rules.specs.declared.refusal.Refusal.{Refusal}
 use Rattle.image_fault.proofs.MatchLaws.{image-fault-match}
+use Rattle.update_definition.specs.Fits.{TrainsWithin}
 use Rattle.update_definition.specs.Update.{Status, Success, Blocked, Faulty, Refused}
 use Rattle.update_definition.specs.UpdateImage.{UpdatedImage, updatedImage}
 use Rattle.update_definition.specs.UpdateMatch.{CallsMatch, UpdatesMatch}
-use Rattle.update_laws.proofs.UpdateLeaves.{Trains16}
 use Rattle.update_laws.proofs.ImageRenumbering.{update-match}
 use Rattle.yard_check.specs.Yard.{partOf}
 use Rattle.yard_check.specs.Check.{CheckArgs, Row, unvisitedRow, statusRow, isFinished, Visit, visit, visitBy, visited, slotVisit}
@@ -62,9 +63,9 @@ finished-match : (p q : ℕ → ℕ) (img img′ : List ℕ) → ImagesMatch p q
 unfolding isFinished
 finished-match p q img img′ m = ap₂ eqb (header-high p q img img′ m 2 36 (omega arith) (omega arith)) (path-count p q img img′ m)
 
-module _ (p q : ℕ → ℕ) (occ occ′ : List ℕ) (a a′ : CheckArgs) (g : ArgsMatch p q a a′) (c : CallsMatch p q occ occ′ (a .blocking) (a′ .blocking))
-    (w : Trains16 occ) (few : a .moved < 65536) (empty : occupied occ noLink ≡ false) where
-  module _ (t : ℕ) (img img′ : List ℕ) (m : ImagesMatch p q img img′) (b : Bytes img) (b′ : Bytes img′) where
+-- top is the largest train; it and the trains of the call are ones that the image holds
+module _ (top : ℕ) (p q : ℕ → ℕ) (occ occ′ : List ℕ) (a a′ : CheckArgs) (g : ArgsMatch p q a a′) (c : CallsMatch top p q occ occ′ (a .blocking) (a′ .blocking)) (empty : occupied occ noLink ≡ false) where
+  module _ (t : ℕ) (img img′ : List ℕ) (m : ImagesMatch p q img img′) (b : Bytes img) (b′ : Bytes img′) (low : top ≤ largestTrain img) (w : TrainsWithin (largestTrain img) occ (a .moved)) where
     abbrev u : UpdatedImage
     u = updatedImage img occ (a .blocking) (a .moved) (a .local) (a .limit)
 
@@ -75,18 +76,18 @@ module _ (p q : ℕ → ℕ) (occ occ′ : List ℕ) (a a′ : CheckArgs) (g : A
     f = imageFault img (length occ)
 
     fault-same : imageFault img′ (length occ′) ≡ f
-    fault-same = rw (c .occupancies .long) (image-fault-match p q (length occ) (c .lastTrain) (c .links) (c .trains) img img′ m)
+    fault-same = rw (c .occupancies .long) (image-fault-match p q (length occ) top (c .links) (c .trains) img img′ m)
 
     second : visited occ′ a′ (q t) img′ ≡ visitBy (f .number) f (isFinished img) (eqb t (a .moved)) (q (a .moved)) u′ img′
     unfolding visited
-    second = rw (g .moved, g .local, g .limit, fault-same, finished-match p q img img′ m, eqb-renumbered (c .lastTrain) q (c .trains) t (a .moved))
+    second = rw (g .moved, g .local, g .limit, fault-same, finished-match p q img img′ m, eqb-renumbered top q (c .trains) t (a .moved))
 
     pub visit-match : visited occ a t img .row .strays ≡ 0 → VisitsMatch p q (visited occ a t img) (visited occ′ a′ (q t) img′)
     unfolding visited
     visit-match s =
         subst (λ (v : Visit). VisitsMatch p q (visited occ a t img) v) (sym second)
         (visit-by p q (c .trains .zero-stays) img img′ m (a .moved) u u′ (f .number) f (isFinished img) (eqb t (a .moved))
-        (update-match p q occ occ′ (a .blocking) (a′ .blocking) c (a .moved) (a .local) (a .limit) img img′ m b b′ w few empty) s)
+        (update-match top p q occ occ′ (a .blocking) (a′ .blocking) c (a .moved) (a .local) (a .limit) img img′ m b b′ low w empty) s)
 
 -- from slot 1 on every slot is visited
 pub visited-slot : (yard occ : List ℕ) (a : CheckArgs) (t : ℕ) → a .begin ≡ 1 → 1 ≤ t → slotVisit yard occ a t ≡ visited occ a t (partOf yard t)

@@ -8,6 +8,7 @@ use lib.ListN.{length, getD}
 use Rattle.link_rules.specs.Network.{linkCount, tableFits}
 use Rattle.link_rules.specs.Renumbering.{Renumbering, rLink, rTrain}
 use Rattle.link_rules.specs.Matching.{TablesMatch, OccupanciesMatch}
+use Rattle.update_definition.specs.Fits.{TrainsUpTo}
 use Rattle.yard_check.specs.Yard.{slotCount, yardFits}
 use Rattle.yard_check.specs.Check.{CheckArgs, checkFault, rowAt, checkedWith}
 use Rattle.yard_check.specs.YardMatch.{YardsMatch, ReportsMatch, AnswersMatch, NotRefused, ArgsMatch}
@@ -33,11 +34,7 @@ pub record OneYard (top : ℕ) (p q : ℕ → ℕ) (w w′ : World) : Type 0 whe
   pub yard′ : yardFits (w′ .yard) ≡ true
   pub yards : YardsMatch p q (w .yard) (w′ .yard)
 
--- no entry is above top
-abbrev pub TrainsUpTo : ℕ → List ℕ → Type 0
-TrainsUpTo top occ = (i : ℕ) → getD occ i 0 ≤ top
-
--- what the types say: yards are of u8, an occupancy of trains up to top, which for u16 is 65,535
+-- what the types say: yards are of u8, no entry of the occupancy is above top, which for u16 is 65,535
 pub record OfTypes (top : ℕ) (w w′ : World) : Type 0 where
   pub bytes : (i : ℕ) → getD (w .yard) i 0 < 256
   pub bytes′ : (i : ℕ) → getD (w′ .yard) i 0 < 256

@@ -4,9 +4,14 @@ use mathlib.Core.List.{List, map}
 use Prim.Native.Nat.{ℕ, _≤_}
 use lib.ListN.{length}
 use Rattle.free_path.specs.Order.{Perm}
+use Rattle.image.specs.Image.{largestTrain}
 use Rattle.image.specs.ImageMatch.{ImagesMatch}
 use Rattle.yard_check.specs.Yard.{slotCount, partOf}
 use Rattle.yard_check.specs.Check.{CheckArgs, Row, rowAt, Answer, Refused, Erred, Done}
+
+-- every image holds trains up to top
+abbrev pub TrainsHeld : ℕ → List ℕ → Type 0
+TrainsHeld top yard = (t : ℕ) → 1 ≤ t → t ≤ slotCount yard → top ≤ largestTrain (partOf yard t)
 
 -- S is the same, and the renumbered slot's image matches; offsets in the yard may differ
 pub record YardsMatch (p q : ℕ → ℕ) (yard yard′ : List ℕ) : Type 0 where

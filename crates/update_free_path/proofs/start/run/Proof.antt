@@ -1,11 +1,12 @@
 use mathlib.Core.Path.{sym, ap, subst, _∙_}
-use Prim.Native.Nat.{ℕ, _^_, _<_}
+use Prim.Native.Nat.{ℕ, _<_}
 use native.Mathlib.Omega.{arith}
 use denote.Ref.{now}
 use lib.ListN.{length, getD}
 use Rattle.disp_structs.specs.Listed.{listed}
 use Rattle.free_path.specs.Columns.{linkAt, links, flagged, flagLinks, kept}
-use Rattle.update_free_path.specs.Updates.{Top, Ended, givenAt}
+use Rattle.update_definition.specs.Fits.{TrainsWithin}
+use Rattle.update_free_path.specs.Updates.{Top, Ended, columnTop, givenAt}
 use Rattle.round.specs.declared.Given.{Given}
 use Rattle.update_free_path.specs.declared.rounds.Between.{Between}
 use Rattle.update_free_path.proofs.RoundsLaws.{path-within, path-ests, strays-low}
@@ -20,8 +21,7 @@ start-diverges-requires c κs =
     let a = z .args in
     let p = z .pre in
     let bytes : ((i : ℕ) → getD (now (a .img)) i 0 < 256) = λ i. omega (arith, c .before .before .before .before .before .before .before .before .before .before .before .before .slice-known .given i) in
-    let held : ((i : ℕ) → getD (now (a .occ)) i 0 < 2 ^ 32) = λ i. omega (arith, c .before .before .before .before .before .before .before .before .before .before .before .shared-slice-known .given i) in
-    let s = begin-size (now (a .img)) (now (a .occ)) (a .h) (p .0) bytes held in
+    let s = begin-size (now (a .img)) (now (a .occ)) (a .h) (p .0) bytes in
     (s .0, omega (arith, s .1, p .1 .sizes .trains), omega (arith, s .1, p .1 .sizes .nodes))
 
 derive-requires : tie.Need-derive-requires
@@ -30,10 +30,8 @@ derive-requires c κs =
     let a = z .args in
     let p = z .pre in
     let bytes : ((i : ℕ) → getD (now (a .img)) i 0 < 256) = λ i. omega (arith, c .before .before .before .before .before .before .before .before .before .before .before .before .before .before .before .before .before .before .before .before .slice-known .given i) in
-    let held : ((i : ℕ) → getD (now (a .occ)) i 0 < 2 ^ 32) = λ i. omega (arith, c .before .before .before .before .before .before .before .before .before .before .before .before .before .before .before .before .before .before .before .shared-slice-known .given i) in
-    let small : a .o .moved .0 < 2 ^ 32 = omega (arith, z .good) in
     let v = c .before .before .before .before .before .before .before .start-diverges in
-    let t = begin-accepted (now (a .img)) (now (a .occ)) (a .h) (p .0) bytes held (a .o) small (v .last .1 .1 .1 .0) (v .last .1 .1 .1 .1 .0) (v .ensures) in
+    let t = begin-accepted (now (a .img)) (now (a .occ)) (a .h) (p .0) bytes (a .o) (v .last .1 .1 .1 .0) (v .last .1 .1 .1 .1 .0) (v .ensures) in
     (omega (arith, path-within (now (a .occ)) (now (a .img)) (v .last .1 .1 .1 .0) (v .last .1 .1 .1 .1 .0) (a .h) t, p .1 .sizes .column), λ i k. omega (arith, path-ests (now (a .occ)) (now (a .img)) (v .last .1 .1 .1 .0) (v .last .1 .1 .1 .1 .0) (a .h) t i k, p .1 .sizes .flags))
 
 cast-flag-links : tie.Need-cast-flag-links
@@ -60,12 +58,11 @@ rounds-requires c κs =
     let a = z .args in
     let p = z .pre in
     let bytes : ((i : ℕ) → getD (now (a .img)) i 0 < 256) = λ i. omega (arith, c .before .before .before .before .before .before .before .before .before .before .before .before .before .before .before .before .before .before .before .before .before .before .before .before .before .before .before .before .before .before .before .before .before .before .before .before .before .before .before .before .before .before .before .before .before .before .before .before .before .slice-known .given i) in
-    let held : ((i : ℕ) → getD (now (a .occ)) i 0 < 2 ^ 32) = λ i. omega (arith, c .before .before .before .before .before .before .before .before .before .before .before .before .before .before .before .before .before .before .before .before .before .before .before .before .before .before .before .before .before .before .before .before .before .before .before .before .before .before .before .before .before .before .before .before .before .before .before .before .shared-slice-known .given i) in
-    let small : a .o .moved .0 < 2 ^ 32 = omega (arith, z .good) in
+    let within : TrainsWithin columnTop (now (a .occ)) (a .o .moved .0) = record { entries = λ i. omega (arith, c .before .before .before .before .before .before .before .before .before .before .before .before .before .before .before .before .before .before .before .before .before .before .before .before .before .before .before .before .before .before .before .before .before .before .before .before .before .before .before .before .before .before .before .before .before .before .before .before .shared-slice-known .given i); moved-low = omega (arith, z .good) } in
     let v = c .before .before .before .before .before .before .before .before .before .before .before .before .before .before .before .before .before .before .before .before .before .before .before .before .before .before .before .before .before .before .before .before .before .before .before .before .start-diverges in
     let u = c .before .before .before .before .before .before .before .before .before .before .before .before .before .before .before .before .before .before .before .before .before .before .before .before .before .before .before .before .derive in
     let s = c .before .before .before .before .before .before .before .strays-of in
-    let t = begin-accepted (now (a .img)) (now (a .occ)) (a .h) (p .0) bytes held (a .o) small (v .last .1 .1 .1 .0) (v .last .1 .1 .1 .1 .0) (v .ensures) in
+    let t = begin-accepted (now (a .img)) (now (a .occ)) (a .h) (p .0) bytes (a .o) (v .last .1 .1 .1 .0) (v .last .1 .1 .1 .1 .0) (v .ensures) in
     let low = strays-low (now (a .occ)) (now (a .img)) (v .last .1 .1 .1 .0) (v .last .1 .1 .1 .1 .0) (a .h) t (u .last .1 .1 .0) (c .before .before .before .before .before .before .before .before .before .before .before .before .before .before .before .flag-known .last .0) (s .result) (s .ensures) in (
       record {
         column = omega (arith, c .before .before .before .before .before .before .before .before .before .before .before .before .before .before .before .before .before .before .before .before .before .before .before .before .before .before .before .col .given, p .1 .sizes .column);
@@ -74,7 +71,7 @@ rounds-requires c κs =
         nodes = omega (arith, c .before .before .before .before .before .before .before .before .before .before .before .before .before .before .before .before .before .before .before .before .before .before .before .before .before .before .before .before .before .before .before .before .before .dn .given, p .1 .sizes .nodes);
       },
       subst (λ (w : Between). Top (now (a .occ)) (now (a .img)) (u .last .1 .1 .0) (u .last .1 .1 .1 .0) (v .last .1 .1 .1 .0) (v .last .1 .1 .1 .1 .0) w) (sym (c .before .before .before .before .before .before .start-of .ensures))
-          (begin-top (now (a .img)) (now (a .occ)) (a .h) (p .0) bytes held (a .o) small (v .last .1 .1 .1 .0) (v .last .1 .1 .1 .1 .0) (v .ensures) (u .last .1 .1 .0) (u .ensures .0) (u .last .1 .1 .1 .0) (u .ensures .1) (s .result) low),
+          (begin-top (now (a .img)) (now (a .occ)) (a .h) (p .0) bytes (a .o) (v .last .1 .1 .1 .0) (v .last .1 .1 .1 .1 .0) (v .ensures) (u .last .1 .1 .0) (u .ensures .0) columnTop (omega arith) within (u .last .1 .1 .1 .0) (u .ensures .1) (s .result) low),
     )
 
 same-length : tie.Need-same-length
@@ -104,8 +101,6 @@ returns c =
     let a = z .args in
     let p = z .pre in
     let bytes : ((i : ℕ) → getD (now (a .img)) i 0 < 256) = λ i. omega (arith, c .before .before .before .before .before .before .before .before .before .before .before .before .before .before .before .before .before .before .before .before .before .before .before .before .before .before .before .before .before .before .before .before .before .before .before .before .before .before .before .before .before .before .before .before .before .before .before .before .before .before .before .before .before .before .before .before .before .before .before .before .slice-known .given i) in
-    let held : ((i : ℕ) → getD (now (a .occ)) i 0 < 2 ^ 32) = λ i. omega (arith, c .before .before .before .before .before .before .before .before .before .before .before .before .before .before .before .before .before .before .before .before .before .before .before .before .before .before .before .before .before .before .before .before .before .before .before .before .before .before .before .before .before .before .before .before .before .before .before .before .before .before .before .before .before .before .before .before .before .before .before .shared-slice-known .given i) in
-    let small : a .o .moved .0 < 2 ^ 32 = omega (arith, z .good) in
     let v = c .before .before .before .before .before .before .before .before .before .before .before .before .before .before .before .before .before .before .before .before .before .before .before .before .before .before .before .before .before .before .before .before .before .before .before .before .before .before .before .before .before .before .before .before .before .before .before .start-diverges in
     let u = c .before .before .before .before .before .before .before .before .before .before .before .before .before .before .before .before .before .before .before .before .before .before .before .before .before .before .before .before .before .before .before .before .before .before .before .before .before .before .before .derive in
     let s = c .before .before .before .before .before .before .before .before .before .before .before .before .before .before .before .before .before .before .strays-of in
@@ -114,7 +109,7 @@ returns c =
     let r = c .before .before .before .before .before .before .before .before .before .before .rounds in
     let e = fl .ensures ∙ ap (flagLinks (listed (a .h .«path_count») (linkAt (u .last .1 .1 .0)))) (p .1 .noFlag) in
     let k = kn .ensures ∙ ap (flagLinks (kept (flagged (fl .last .0)) (links (now (a .blocking))))) (p .1 .noneKnown) in
-    finished (now (a .img)) (now (a .occ)) (a .h) (p .0) bytes held (a .o) small (v .last .1 .1 .1 .0) (v .last .1 .1 .1 .1 .0) (v .ensures) (u .last .1 .1 .0) (u .ensures .0) (length (now (a .flags))) (p .1 .links) (now (a .blocking)) (fl .last .0) (kn .last .0) e k (s .result) (s .ensures) (r .last .0) (r .last .1 .1 .1 .1 .1 .1 .1 .1 .0) (r .last .1 .1 .1 .1 .1 .1 .1 .1 .1 .0) (r .result)
+    finished (now (a .img)) (now (a .occ)) (a .h) (p .0) bytes (a .o) (v .last .1 .1 .1 .0) (v .last .1 .1 .1 .1 .0) (v .ensures) (u .last .1 .1 .0) (u .ensures .0) (length (now (a .flags))) (p .1 .links) (now (a .blocking)) (fl .last .0) (kn .last .0) e k (s .result) (s .ensures) (r .last .0) (r .last .1 .1 .1 .1 .1 .1 .1 .1 .0) (r .last .1 .1 .1 .1 .1 .1 .1 .1 .1 .0) (r .result)
     (subst (λ (w : Between). Ended (now (a .occ)) (kn .last .0) (givenAt (now (a .img)) (now (a .blocking)) (fl .last .0) (a .o) (a .h .free)) (a .o .limit) (now (a .img)) (v .last .1 .1 .1 .0) (v .last .1 .1 .1 .1 .0) w (r .last .0) (r .last .1 .1 .1 .1 .1 .1 .1 .1 .0) (r .last .1 .1 .1 .1 .1 .1 .1 .1 .1 .0) (r .result)) (c .before .before .before .before .before .before .before .before .before .before .before .before .before .before .before .before .before .start-of .ensures)
     (subst (λ (g : Given). Ended (now (a .occ)) (kn .last .0) g (a .o .limit) (now (a .img)) (v .last .1 .1 .1 .0) (v .last .1 .1 .1 .1 .0) (c .before .before .before .before .before .before .before .before .before .before .before .before .before .before .before .before .before .start-of .result) (r .last .0) (r .last .1 .1 .1 .1 .1 .1 .1 .1 .0) (r .last .1 .1 .1 .1 .1 .1 .1 .1 .1 .0) (r .result)) (c .before .before .before .before .before .before .before .before .before .before .before .before .before .before .before .before .before .before .before .before .before .given-of .ensures) (r .ensures)))
 
