@@ -25,7 +25,7 @@ fn answer_in(head: &[u8], body: &[u8], occupancy: &mut [u16], sums: bool) -> boo
 pub(crate) fn answer_from(head: &[u8], table: &[u8], occupancy: &mut [u16], sums: bool) -> bool {
     let link = LinkIdx(case::argument(head, 0));
     let train = NarrowTrainIdx((case::argument(head, 1) % 65536) as u16);
-    match advance_rewind::update_links_blocked(table, occupancy, link, train) {
+    match advance_rewind::mark(table, occupancy, link, train) {
         Answer::Done => print_done(occupancy, sums),
         Answer::Refused(r) => print_refused(r, occupancy, sums),
     }

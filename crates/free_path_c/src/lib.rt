@@ -36,12 +36,7 @@ pub extern "C" fn lavtoeu_mark(table: &[u8], occupancy: &mut [u16], link: u32, t
     ensures { λ r. ⌜ (r ≡ answerWord (markOf (now (table .entry)) (now (occupancy .entry)) (record { 0 = link }) (record { 0 = train }) .answer))
         × (now (occupancy .exit) ≡ markOf (now (table .entry)) (now (occupancy .entry)) (record { 0 = link }) (record { 0 = train }) .occupancy) ⌝ }
 {
-    answer_word(advance_rewind::update_links_blocked(
-        table,
-        occupancy,
-        LinkIdx(link),
-        NarrowTrainIdx(train),
-    ))
+    answer_word(advance_rewind::mark(table, occupancy, LinkIdx(link), NarrowTrainIdx(train)))
 }
 
 fn answer_word(answer: Answer) -> u32

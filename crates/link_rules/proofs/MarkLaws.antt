@@ -1,16 +1,16 @@
 -- Laws of mark and release: the walks over a link's lockouts, the length, refusals. Assumes nothing.
 use mathlib.Core.Path.{_≡_, refl, ap, _∙_}
-use mathlib.Core.Bool.{Bool, true, false, cond, not, _||_}
+use mathlib.Core.Bool.{Bool, true, false, cond}
 use mathlib.Core.List.{List, [], _∷_}
 use Prim.Native.Nat.{ℕ, zero, suc, _+_, _-_, _≤_, _<_}
 use native.Mathlib.Omega.{arith}
-use lib.Dec.{ltb, leb, eqb}
+use lib.Dec.{ltb, eqb}
 use lib.ListN.{length, getD, set, length-set}
 use borrow.Author.Tests.{eq-eqb, ne-eqb}
 use Rattle.link_rules.specs.LinkIdx.{noTrain, sameTrain, hold, occupied}
 use Rattle.link_rules.specs.Network.{linkCount, tableFits, lockouts, lockoutAt, linkAt}
 use Rattle.link_rules.specs.Refusals.{orElse, refusedUnless}
-use Rattle.link_rules.specs.AdvanceRewind.{holdAll, refilled, resetLinkTrainIdx, resetAll, updateLinksBlocked, markRefusal, marked, markedBy, markOf}
+use Rattle.link_rules.specs.AdvanceRewind.{holdAll, refilled, resetLinkTrainIdx, resetAll, updateLinksBlocked, isLink, markRefusal, marked, markedBy, markOf}
 use Rattle.link_rules.specs.declared.link_idx.LinkIdx.{LinkIdx}
 use Rattle.link_rules.specs.declared.link_idx.TrainIdx.{TrainIdx}
 use Rattle.link_rules.specs.declared.refusal.Answer.the-variants.{Refused}
@@ -112,29 +112,10 @@ refused-by (suc n) was left h = refl
 
 -- ---- the refusals, by their tests
 
--- the number, where the table fits, the length is right and the link is none of the table's
+-- the number, where the table fits, the length is right and the link is one of the table's
 abbrev pub numberBy : Bool → Bool → Bool → ℕ
-numberBy fits long none = orElse (refusedUnless fits 1) (orElse (refusedUnless long 2) (refusedUnless (not none) 3)) .number
+numberBy fits long inside = orElse (refusedUnless fits 1) (orElse (refusedUnless long 2) (refusedUnless inside 3)) .number
 
-module _ (tbl : List ℕ) (n : ℕ) (l : LinkIdx) where
-  abbrev pub long : Bool
-  long = eqb n (linkCount tbl)
-
-  abbrev pub none : Bool
-  none = eqb (l .0) 0 || leb (linkCount tbl) (l .0)
-
-  pub by-tests : (a b c : Bool) → tableFits tbl ≡ a → long ≡ b → none ≡ c → markRefusal tbl n l ≡ numberBy a b c
-  unfolding markRefusal
-  by-tests a b c e f g = ap (λ (t : Bool). numberBy t long none) e ∙ (ap (λ (t : Bool). numberBy a t none) f ∙ ap (λ (t : Bool). numberBy a b t) g)
-
-  pub refused-1 : tableFits tbl ≡ false → markRefusal tbl n l ≡ 1
-  refused-1 e = by-tests false long none e refl refl
-
-  pub refused-2 : tableFits tbl ≡ true → long ≡ false → markRefusal tbl n l ≡ 2
-  refused-2 e f = by-tests true false none e f refl
-
-  pub refused-3 : tableFits tbl ≡ true → long ≡ true → none ≡ true → markRefusal tbl n l ≡ 3
-  refused-3 e f g = by-tests true true true e f g
-
-  pub refused-none : tableFits tbl ≡ true → long ≡ true → none ≡ false → markRefusal tbl n l ≡ 0
-  refused-none e f g = by-tests true true false e f g
+pub by-tests : (tbl : List ℕ) (n : ℕ) (l : LinkIdx) (a b c : Bool) → tableFits tbl ≡ a → eqb n (linkCount tbl) ≡ b → isLink tbl l ≡ c → markRefusal tbl n l ≡ numberBy a b c
+unfolding markRefusal
+by-tests tbl n l a b c e f g = ap (λ (t : Bool). numberBy t (eqb n (linkCount tbl)) (isLink tbl l)) e ∙ (ap (λ (t : Bool). numberBy a t (isLink tbl l)) f ∙ ap (λ (t : Bool). numberBy a b t) g)

@@ -1,16 +1,16 @@
 -- Demand 3's part for mark and release: over tables and occupancies that match, markOf matches, refused calls included. Assumes nothing.
 use mathlib.Core.Path.{_≡_, refl, sym, ap, _∙_, subst}
-use mathlib.Core.Bool.{Bool, true, false, cond, not, _&&_, _||_}
+use mathlib.Core.Bool.{Bool, true, false, cond, not, _&&_}
 use mathlib.Core.List.{List, [], _∷_, map}
 use Prim.Native.Nat.{ℕ, zero, suc, _+_, _-_, _≤_, _<_}
 use native.Mathlib.Omega.{arith}
 use lib.Dec.{ltb, leb, eqb}
 use lib.Seq.{getD-set-same, getD-set-other}
 use lib.ListN.{length, getD, set, length-map, length-set}
-use borrow.Author.Tests.{eqb-true, eqb-false, ltb-true, ltb-false, leb-true, leb-false, le-leb, lt-leb}
-use Rattle.link_rules.specs.LinkIdx.{noTrain, sameTrain, holder, occupied, hold}
+use borrow.Author.Tests.{eqb-true, eqb-false, ltb-true, leb-true}
+use Rattle.link_rules.specs.LinkIdx.{noTrain, sameTrain, entryAt, occupied, hold}
 use Rattle.link_rules.specs.Network.{Link, linkCount, lockoutCount, flipAt, startAt, countAt, lockoutAt, lockouts, linkAt, allBelow, headerFits, recordFits, lockoutFits, tableFits}
-use Rattle.link_rules.specs.AdvanceRewind.{holdAll, refilled, resetLinkTrainIdx, resetAll, updateLinksBlocked, markRefusal, markedBy, markOf}
+use Rattle.link_rules.specs.AdvanceRewind.{holdAll, refilled, resetLinkTrainIdx, resetAll, updateLinksBlocked, isLink, markRefusal, markedBy, markOf}
 use Rattle.link_rules.specs.Renumbering.{Renumbering, rLink, rTrain}
 use Rattle.link_rules.specs.Matching.{TablesMatch, OccupanciesMatch, MarksMatch}
 use Rattle.link_rules.specs.declared.link_idx.LinkIdx.{LinkIdx}
@@ -76,7 +76,7 @@ module _ (n : ℕ) (p : ℕ → ℕ) (rp : Renumbering (n - 1) p) (top : ℕ) (q
     pub long : length occ ≡ n
     pub alike : OccupanciesMatch p q occ occ′
 
-  twin-entry : (occ occ′ : List ℕ) → Twin occ occ′ → (l : LinkIdx) → holder occ′ (rLink p l) ≡ rTrain q (holder occ l)
+  twin-entry : (occ occ′ : List ℕ) → Twin occ occ′ → (l : LinkIdx) → entryAt occ′ (rLink p l) ≡ rTrain q (entryAt occ l)
   twin-entry occ occ′ w l = entry-r p q top rq occ occ′ (subst (λ (k : ℕ). Renumbering (k - 1) p) (sym (w .long)) rp) (w .alike) l
 
   twin-occupied : (occ occ′ : List ℕ) → Twin occ occ′ → (l : LinkIdx) → occupied occ′ (rLink p l) ≡ occupied occ l
@@ -111,7 +111,7 @@ module _ (n : ℕ) (p : ℕ → ℕ) (rp : Renumbering (n - 1) p) (top : ℕ) (q
   refilled-r occ occ′ l [] b w = w
   refilled-r occ occ′ l (a ∷ ls) b w =
       twin-cond (occupied occ a) (occupied occ′ (rLink p a)) _ _ _ _ (twin-occupied occ occ′ w a)
-      (subst (λ (t : TrainIdx). Twin (hold occ l (holder occ a)) (hold occ′ (rLink p l) t)) (sym (twin-entry occ occ′ w a)) (hold-r occ occ′ l (holder occ a) b w))
+      (subst (λ (t : TrainIdx). Twin (hold occ l (entryAt occ a)) (hold occ′ (rLink p l) t)) (sym (twin-entry occ occ′ w a)) (hold-r occ occ′ l (entryAt occ a) b w))
       (refilled-r occ occ′ l ls b w)
 
 -- ---- over tables that match
@@ -165,36 +165,32 @@ module _ (tbl tbl′ : List ℕ) (fits : tableFits tbl ≡ true) (p : ℕ → �
   -- ---- the call, with its refusals
 
   module _ (fits′ : tableFits tbl′ ≡ true) where
-    leb-r : (l : ℕ) → leb (linkCount tbl) (p l) ≡ leb (linkCount tbl) l
-    leb-r l = go (ltb l (linkCount tbl)) refl
-      where
-        go : (t : Bool) → ltb l (linkCount tbl) ≡ t → leb (linkCount tbl) (p l) ≡ leb (linkCount tbl) l
-        go true e = let h = ltb-true l (linkCount tbl) e in lt-leb (linkCount tbl) (p l) (below (linkCount tbl) p rp l h) ∙ sym (lt-leb (linkCount tbl) l h)
-        go false e =
-            le-leb (linkCount tbl) (p l) (ltb-false (p l) (linkCount tbl) (ltb-renumbered (linkCount tbl) p rp l ∙ e))
-            ∙ sym (le-leb (linkCount tbl) l (ltb-false l (linkCount tbl) e))
+    link-r : (l : LinkIdx) → isLink tbl′ (rLink p l) ≡ isLink tbl l
+    unfolding isLink
+    link-r l = rw (m .count, eqb-renumbered-0 (linkCount tbl - 1) p rp (l .0), ltb-renumbered (linkCount tbl) p rp (l .0))
 
     refusal-r : (n : ℕ) (l : LinkIdx) → markRefusal tbl′ n (rLink p l) ≡ markRefusal tbl n l
     refusal-r n l =
-        by-tests tbl′ n (rLink p l) true (eqb n (linkCount tbl)) (eqb (l .0) 0 || leb (linkCount tbl) (l .0)) fits′ (rw (m .count))
-        (rw (m .count, eqb-renumbered-0 (linkCount tbl - 1) p rp (l .0), leb-r (l .0)))
-        ∙ sym (by-tests tbl n l true (eqb n (linkCount tbl)) (eqb (l .0) 0 || leb (linkCount tbl) (l .0)) fits refl refl)
+        by-tests tbl′ n (rLink p l) true (eqb n (linkCount tbl)) (isLink tbl l) fits′ (rw (m .count)) (link-r l)
+        ∙ sym (by-tests tbl n l true (eqb n (linkCount tbl)) (isLink tbl l) fits refl refl)
 
     -- what a call that is not refused says of its arguments
     pub record Taken (n : ℕ) (l : LinkIdx) : Type 0 where
       pub long : n ≡ linkCount tbl
       pub inside : l .0 < linkCount tbl
 
+    link-inside : (l : LinkIdx) → isLink tbl l ≡ true → l .0 < linkCount tbl
+    unfolding isLink
+    link-inside l h = ltb-true (l .0) (linkCount tbl) (and-right (not (eqb (l .0) 0)) _ h)
+
     taken : (n : ℕ) (l : LinkIdx) → markRefusal tbl n l ≡ 0 → Taken n l
     taken n l h =
-        go (eqb n (linkCount tbl)) refl (eqb (l .0) 0) (leb (linkCount tbl) (l .0)) refl
-        (sym (by-tests tbl n l true (eqb n (linkCount tbl)) (eqb (l .0) 0 || leb (linkCount tbl) (l .0)) fits refl refl) ∙ h)
+        go (eqb n (linkCount tbl)) refl (isLink tbl l) refl (sym (by-tests tbl n l true (eqb n (linkCount tbl)) (isLink tbl l) fits refl refl) ∙ h)
       where
-        go : (u : Bool) → eqb n (linkCount tbl) ≡ u → (v w : Bool) → leb (linkCount tbl) (l .0) ≡ w → _≡_ {A = ℕ} (numberBy true u (v || w)) 0 → Taken n l
-        go true e false false k z = record { long = eqb-true n (linkCount tbl) e; inside = leb-false (linkCount tbl) (l .0) k }
-        go true e false true k z = absurd (omega (arith, z))
-        go true e true w k z = absurd (omega (arith, z))
-        go false e v w k z = absurd (omega (arith, z))
+        go : (u : Bool) → eqb n (linkCount tbl) ≡ u → (v : Bool) → isLink tbl l ≡ v → _≡_ {A = ℕ} (numberBy true u v) 0 → Taken n l
+        go true e true k z = record { long = eqb-true n (linkCount tbl) e; inside = link-inside l k }
+        go true e false k z = absurd (omega (arith, z))
+        go false e v k z = absurd (omega (arith, z))
 
     abbrev matched : ℕ → ℕ → (occ occ′ left left′ : List ℕ) → Type 0
     matched n n′ occ occ′ left left′ = MarksMatch p q (markedBy n occ left) (markedBy n′ occ′ left′)

@@ -7,7 +7,7 @@ use native.Mathlib.Omega.{arith}
 use lib.Dec.{ltb, leb, eqb}
 use lib.ListN.{length, List·getD-eq-default}
 use borrow.Author.Tests.{eqb-true, eqb-false, eq-eqb, ne-eqb, ltb-true, ltb-false, lt-ltb, le-ltb, leb-true, leb-false}
-use Rattle.link_rules.specs.LinkIdx.{holder, occupied, sameLink, sameTrain}
+use Rattle.link_rules.specs.LinkIdx.{entryAt, occupied, sameLink, sameTrain}
 use Rattle.link_rules.specs.Renumbering.{Renumbering, rLink, rTrain}
 use Rattle.link_rules.specs.Matching.{OccupanciesMatch}
 use Rattle.link_rules.specs.declared.link_idx.LinkIdx.{LinkIdx}
@@ -57,10 +57,10 @@ sameTrain-r top q r a b = eqb-renumbered top q r (a .0) (b .0)
 
 module _ (p q : ℕ → ℕ) (top : ℕ) (rq : Renumbering top q) (occ occ′ : List ℕ) (rp : Renumbering (length occ - 1) p) (m : OccupanciesMatch p q occ occ′) where
   -- at every link number: past the end both are empty
-  pub entry-r : (l : LinkIdx) → holder occ′ (rLink p l) ≡ rTrain q (holder occ l)
+  pub entry-r : (l : LinkIdx) → entryAt occ′ (rLink p l) ≡ rTrain q (entryAt occ l)
   entry-r l = go (ltb (l .0) (length occ)) refl
     where
-      go : (t : Bool) → ltb (l .0) (length occ) ≡ t → holder occ′ (rLink p l) ≡ rTrain q (holder occ l)
+      go : (t : Bool) → ltb (l .0) (length occ) ≡ t → entryAt occ′ (rLink p l) ≡ rTrain q (entryAt occ l)
       go true e = m .entry l (ltb-true (l .0) (length occ) e)
       go false e =
           let h : length occ ≤ l .0 = ltb-false (l .0) (length occ) e in
@@ -69,4 +69,4 @@ module _ (p q : ℕ → ℕ) (top : ℕ) (rq : Renumbering top q) (occ occ′ : 
 
   pub occupied-r : (l : LinkIdx) → occupied occ′ (rLink p l) ≡ occupied occ l
   unfolding occupied
-  occupied-r l = ap (λ (t : TrainIdx). not (eqb (t .0) 0)) (entry-r l) ∙ ap not (eqb-renumbered-0 top q rq (holder occ l .0))
+  occupied-r l = ap (λ (t : TrainIdx). not (eqb (t .0) 0)) (entry-r l) ∙ ap not (eqb-renumbered-0 top q rq (entryAt occ l .0))

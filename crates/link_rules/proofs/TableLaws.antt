@@ -7,9 +7,8 @@ use Prim.Native.Nat.{ℕ, zero, suc, _+_, _-_, _≤_, _<_}
 use native.Mathlib.Omega.{arith}
 use native.Mathlib.Nat.{eq-or-lt-of-le}
 use native.Mathlib.Numerals.{add-one}
-use lib.ListN.{length, getD}
+use lib.ListN.{length}
 use Rattle.link_rules.specs.Network.{allBelow, lockouts, lockoutAt}
-use Rattle.link_rules.specs.LinkIdx.{noLink}
 
 -- ---- allBelow, a turn at a time
 
@@ -46,12 +45,6 @@ pub lockouts-length : (tbl : List ℕ) (n j : ℕ) → length (lockouts tbl n j)
 unfolding lockouts
 lockouts-length tbl zero j = refl
 lockouts-length tbl (suc n) j = ap suc (lockouts-length tbl n (j + 1))
-
-pub lockouts-at : (tbl : List ℕ) (n j i : ℕ) → i < n → getD (lockouts tbl n j) i noLink ≡ record { 0 = lockoutAt tbl (j + i) }
-unfolding lockouts
-lockouts-at tbl zero j i h = absurd (omega arith)
-lockouts-at tbl (suc n) j zero h = let e : j + 0 ≡ j = omega arith in rw e
-lockouts-at tbl (suc n) j (suc i) h = let e : j + suc i ≡ j + 1 + i = omega arith in rw e (lockouts-at tbl n (j + 1) i (omega arith))
 
 -- the i-th of n is the head of what is left
 pub lockouts-turn : (tbl : List ℕ) (n j i : ℕ) → i < n → lockouts tbl (n - i) (j + i) ≡ record { 0 = lockoutAt tbl (j + i) } ∷ lockouts tbl (n - (i + 1)) (j + (i + 1))

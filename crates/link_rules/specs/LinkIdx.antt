@@ -27,13 +27,13 @@ sameTrain a b = eqb (a .0) (b .0)
 -- ---- occupancy table (document 01): the train that holds each link, 0 for empty; links_blocked in the Rust
 
 -- links_blocked[l]; past the end no train
-abbrev pub holder : List ℕ → LinkIdx → TrainIdx
-holder occ l = record { 0 = getD occ (l .0) 0 }
+abbrev pub entryAt : (occ : List ℕ) (l : LinkIdx) → TrainIdx
+entryAt occ l = record { 0 = getD occ (l .0) 0 }
 
 -- links_blocked[l].is_some()
-unfoldable pub occupied : List ℕ → LinkIdx → Bool
-occupied occ l = not (sameTrain (holder occ l) noTrain)
+unfoldable pub occupied : (occ : List ℕ) (l : LinkIdx) → Bool
+occupied occ l = not (sameTrain (entryAt occ l) noTrain)
 
 -- links_blocked[l] = t
-abbrev pub hold : List ℕ → LinkIdx → TrainIdx → List ℕ
+abbrev pub hold : (occ : List ℕ) (l : LinkIdx) (t : TrainIdx) → List ℕ
 hold occ l t = set occ (l .0) (t .0)

@@ -3,7 +3,7 @@ use mathlib.Core.Path.{_≡_}
 use mathlib.Core.List.{List, map}
 use Prim.Native.Nat.{ℕ, _<_}
 use lib.ListN.{length}
-use Rattle.link_rules.specs.LinkIdx.{holder}
+use Rattle.link_rules.specs.LinkIdx.{entryAt}
 use Rattle.link_rules.specs.Network.{Link, linkCount, linkAt}
 use Rattle.link_rules.specs.AdvanceRewind.{Marked}
 use Rattle.link_rules.specs.Renumbering.{rLink, rTrain}
@@ -21,7 +21,7 @@ pub record TablesMatch (p : ℕ → ℕ) (tbl tbl′ : List ℕ) : Type 0 where
 -- the renumbered link's entry is the renumbered train
 pub record OccupanciesMatch (p q : ℕ → ℕ) (occ occ′ : List ℕ) : Type 0 where
   pub long : length occ′ ≡ length occ
-  pub entry : (l : LinkIdx) → l .0 < length occ → holder occ′ (rLink p l) ≡ rTrain q (holder occ l)
+  pub entry : (l : LinkIdx) → l .0 < length occ → entryAt occ′ (rLink p l) ≡ rTrain q (entryAt occ l)
 
 -- refused in both with the same number and place, or done in both; and the occupancies that are left
 pub record MarksMatch (p q : ℕ → ℕ) (a b : Marked) : Type 0 where

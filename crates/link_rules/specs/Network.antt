@@ -1,6 +1,6 @@
 -- The link table (document 01, Layouts) and refusal 1. Assumes nothing.
 use Prim.Native.Nat.{ℕ, zero, suc, _+_, _*_}
-use mathlib.Core.Bool.{Bool, true, false, _&&_}
+use mathlib.Core.Bool.{Bool, true, _&&_}
 use mathlib.Core.List.{List, [], _∷_}
 use lib.Dec.{ltb, leb, eqb}
 use lib.ListN.{length}
@@ -25,16 +25,16 @@ lockoutOffset tbl = leAt 4 tbl 12
 
 -- ---- the record of link l: u32 flip, start, count; and the lockout of index j
 
-abbrev pub flipAt : List ℕ → ℕ → ℕ
+abbrev pub flipAt : (tbl : List ℕ) (l : ℕ) → ℕ
 flipAt tbl l = leAt 4 tbl (16 + 12 * l)
 
-abbrev pub startAt : List ℕ → ℕ → ℕ
+abbrev pub startAt : (tbl : List ℕ) (l : ℕ) → ℕ
 startAt tbl l = leAt 4 tbl (20 + 12 * l)
 
-abbrev pub countAt : List ℕ → ℕ → ℕ
+abbrev pub countAt : (tbl : List ℕ) (l : ℕ) → ℕ
 countAt tbl l = leAt 4 tbl (24 + 12 * l)
 
-abbrev pub lockoutAt : List ℕ → ℕ → ℕ
+abbrev pub lockoutAt : (tbl : List ℕ) (j : ℕ) → ℕ
 lockoutAt tbl j = leAt 4 tbl (16 + 12 * linkCount tbl + 4 * j)
 
 -- ---- Link (network.rs): of its fields idx_flip and link_idxs_lockout
@@ -44,7 +44,7 @@ pub record Link : Type 0 where
   pub «link_idxs_lockout» : List LinkIdx
 
 -- n lockouts from index j on
-unfoldable pub lockouts : List ℕ → ℕ → ℕ → List LinkIdx
+unfoldable pub lockouts : (tbl : List ℕ) (n j : ℕ) → List LinkIdx
 lockouts tbl zero j = []
 lockouts tbl (suc n) j = record { 0 = lockoutAt tbl j } ∷ lockouts tbl n (j + 1)
 
@@ -70,11 +70,11 @@ headerFits tbl =
     && (eqb (tableSize tbl) (16 + 12 * linkCount tbl + 4 * lockoutCount tbl) && eqb (tableSize tbl) (length tbl)))))
 
 -- the flip is a link, and the lockouts lie in the list
-unfoldable pub recordFits : List ℕ → ℕ → Bool
+unfoldable pub recordFits : (tbl : List ℕ) (l : ℕ) → Bool
 recordFits tbl l = ltb (flipAt tbl l) (linkCount tbl) && leb (startAt tbl l + countAt tbl l) (lockoutCount tbl)
 
 -- the lockout is a link
-unfoldable pub lockoutFits : List ℕ → ℕ → Bool
+unfoldable pub lockoutFits : (tbl : List ℕ) (j : ℕ) → Bool
 lockoutFits tbl j = ltb (lockoutAt tbl j) (linkCount tbl)
 
 -- a table that is not refused by 1

@@ -7,8 +7,8 @@ use Rattle.link_rules.specs.declared.refusal.Refusal.{Refusal}
 abbrev pub noRefusal : Refusal
 noRefusal = record { number = 0; place = 0 }
 
-abbrev pub refused : ℕ → ℕ → Refusal
-refused n i = record { number = n; place = i }
+abbrev pub refused : (number place : ℕ) → Refusal
+refused number place = record { number = number; place = place }
 
 -- a, or b where a is none
 abbrev pub orElse : Refusal → Refusal → Refusal

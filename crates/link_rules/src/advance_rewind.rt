@@ -3,20 +3,16 @@ ghost use mathlib.Core.Path.{_≡_};
 ghost use lib.ListN.{length, getD, set};
 ghost use Rattle.link_rules.specs.LinkIdx.{occupied, wideTrain};
 ghost use Rattle.link_rules.specs.Network.{linkAt};
-ghost use Rattle.link_rules.specs.AdvanceRewind.{holdAll, refilled, resetLinkTrainIdx, resetAll, updateLinksBlocked, markRefusal, marked, markOf};
+ghost use Rattle.link_rules.specs.AdvanceRewind.{holdAll, refilled, resetLinkTrainIdx, resetAll, updateLinksBlocked, isLink, markRefusal, marked, markOf};
 use crate::link_idx::LinkIdx;
 use crate::link_idx::NarrowTrainIdx;
 use crate::network;
+use crate::refusal;
 use crate::refusal::Answer;
 use crate::refusal::Refusal;
 
 // Marks a link for a train; train 0 releases it. Refused by 1 (table), 2 (length of the occupancy), 3 (link): then nothing is changed.
-pub fn update_links_blocked(
-    table: &[u8],
-    occupancy: &mut [u16],
-    link: LinkIdx,
-    train: NarrowTrainIdx,
-) -> Answer
+pub fn mark(table: &[u8], occupancy: &mut [u16], link: LinkIdx, train: NarrowTrainIdx) -> Answer
     ensures { λ r. ⌜ marked r (now (occupancy .exit)) ≡ markOf (now (table .entry)) (now (occupancy .entry)) link (wideTrain train) ⌝ }
 {
     let number = mark_refusal(table, occupancy.len(), link);
@@ -26,30 +22,31 @@ pub fn update_links_blocked(
             place: 0,
         });
     }
-    mark(table, occupancy, link, train);
+    update_links_blocked(table, occupancy, link, train);
     Answer::Done
 }
 
 fn mark_refusal(table: &[u8], n: usize, link: LinkIdx) -> u16
     ensures { λ r. ⌜ r ≡ markRefusal (now (table .entry)) n link ⌝ }
 {
-    if !network::table_fits(table) {
-        return 1;
-    }
-    if n != network::link_count(table) as usize {
-        return 2;
-    }
-    let l = link.0;
-    if l == 0 {
-        return 3;
-    }
-    if network::link_count(table) <= l {
-        return 3;
-    }
-    0
+    let bad_table = refusal::refused_unless(network::table_fits(table), 1);
+    let bad_length = refusal::refused_unless(n == network::link_count(table) as usize, 2);
+    let bad_link = refusal::refused_unless(is_link(table, link), 3);
+    let first = refusal::or_else(bad_table, refusal::or_else(bad_length, bad_link));
+    first.number
 }
 
-fn mark(table: &[u8], occupancy: &mut [u16], link: LinkIdx, train: NarrowTrainIdx)
+// Not 0, and one of the table's.
+fn is_link(table: &[u8], link: LinkIdx) -> bool
+    ensures { λ r. ⌜ r ≡ isLink (now (table .entry)) link ⌝ }
+{
+    if link.0 == 0 {
+        return false;
+    }
+    link.0 < network::link_count(table)
+}
+
+fn update_links_blocked(table: &[u8], occupancy: &mut [u16], link: LinkIdx, train: NarrowTrainIdx)
     ensures { λ _. ⌜ now (occupancy .exit) ≡ updateLinksBlocked (now (table .entry)) (now (occupancy .entry)) link (wideTrain train) ⌝ }
 {
     let flip = network::idx_flip(table, link);

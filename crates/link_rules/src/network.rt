@@ -1,8 +1,7 @@
 // The link table: its check, refusal 1, and thin readers (network.rs: idx_flip and link_idxs_lockout of Link).
 ghost use mathlib.Core.Path.{_≡_};
 ghost use Prim.Native.Nat.{_<_, _^_};
-ghost use lib.ListN.{length, getD};
-ghost use Rattle.link_rules.specs.LinkIdx.{noLink};
+ghost use lib.ListN.{length};
 ghost use Rattle.link_rules.specs.Network.{linkCount, lockoutCount, flipAt, startAt, countAt, lockoutAt, linkAt, allBelow, headerFits, recordFits, lockoutFits, tableFits};
 use crate::link_idx::LinkIdx;
 use crate::octets;
@@ -39,16 +38,6 @@ pub fn lockout_len(table: &[u8], link: LinkIdx) -> u32
     ensures { λ r. ⌜ r ≡ length (linkAt (now (table .entry)) link .«link_idxs_lockout») ⌝ }
 {
     count_at(table, link.0)
-}
-
-// The i-th lockout of a link, or no link where it has no such.
-pub fn link_idx_lockout(table: &[u8], link: LinkIdx, i: u32) -> LinkIdx
-    ensures { λ r. ⌜ r ≡ getD (linkAt (now (table .entry)) link .«link_idxs_lockout») i noLink ⌝ }
-{
-    if count_at(table, link.0) <= i {
-        return LinkIdx(0);
-    }
-    LinkIdx(lockout_at(table, (start_at(table, link.0) as u64) + (i as u64)))
 }
 
 // ---- the fields of a record, and of the list of lockouts

@@ -5,7 +5,7 @@ use mathlib.Core.List.{List, [], _∷_}
 use Prim.Native.Nat.{ℕ, _≤_, _<_}
 use native.Mathlib.Nat.{add-zero}
 use borrow.Author.Tests.{lt-ltb, le-ltb}
-use Rattle.link_rules.specs.LinkIdx.{holder}
+use Rattle.link_rules.specs.LinkIdx.{entryAt}
 use Rattle.link_rules.specs.declared.link_idx.LinkIdx.{LinkIdx}
 use Rattle.disp_structs.specs.Values.{sameEst, noEst, sameEvent}
 use Rattle.disp_structs.specs.declared.DispNode.{DispNode}
@@ -18,20 +18,20 @@ use Rattle.update_definition.specs.declared.Move.{Move}
 use Rattle.update_definition.specs.declared.Move.the-variants.{PushSaved, BlockEmpty, Advance, Join}
 use Rattle.search.specs.Read.{trainsFrom}
 
-pub one-train : (occ : List ℕ) (l : LinkIdx) → trainsFrom occ (l .0) 1 ≡ holder occ l ∷ []
+pub one-train : (occ : List ℕ) (l : LinkIdx) → trainsFrom occ (l .0) 1 ≡ entryAt occ l ∷ []
 unfolding listed
 one-train occ l = rw (add-zero (l .0))
 
 module _ (r : Round) (h : Here) (s : Search) where
   pub next-free : meetsTrain (r .«links_blocked») h s ≡ false → ok s ≡ occupiedNext r h s
   unfolding occupiedNext
-  next-free e = sym (ap (λ (b : Bool). cond b (blockBy s (h .«est_curr» .«idx_next») (holder (r .«links_blocked») (h .«est_next» .«link_event» .«link_idx») ∷ [])) (ok s)) e)
+  next-free e = sym (ap (λ (b : Bool). cond b (blockBy s (h .«est_curr» .«idx_next») (entryAt (r .«links_blocked») (h .«est_next» .«link_event» .«link_idx») ∷ [])) (ok s)) e)
 
   pub next-held : meetsTrain (r .«links_blocked») h s ≡ true → blockBy s (h .«est_curr» .«idx_next») (trainsFrom (r .«links_blocked») (h .«est_next» .«link_event» .«link_idx» .0) 1) ≡ occupiedNext r h s
   unfolding occupiedNext
   next-held e =
       ap (blockBy s (h .«est_curr» .«idx_next»)) (one-train (r .«links_blocked») (h .«est_next» .«link_event» .«link_idx»))
-      ∙ sym (ap (λ (b : Bool). cond b (blockBy s (h .«est_curr» .«idx_next») (holder (r .«links_blocked») (h .«est_next» .«link_event» .«link_idx») ∷ [])) (ok s)) e)
+      ∙ sym (ap (λ (b : Bool). cond b (blockBy s (h .«est_curr» .«idx_next») (entryAt (r .«links_blocked») (h .«est_next» .«link_event» .«link_idx») ∷ [])) (ok s)) e)
 
   pub move-blocked : blocked (s .views) (h .«est_curr» .«idx_next») ≡ true
       → (x : Move) → x ≡ blockedMove (sameEst (h .«est_curr» .«idx_next_alt») noEst || blocked (s .views) (h .«est_curr» .«idx_next_alt»)) (onPath (r .train .«disp_path») (h .«est_curr» .«idx_next_alt»))

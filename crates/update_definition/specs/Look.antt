@@ -4,7 +4,7 @@ use mathlib.Core.Bool.{Bool, true, false, cond, not, _&&_, _||_}
 use mathlib.Core.List.{List, [], _∷_, map}
 use lib.Dec.{ltb, leb, eqb}
 use lib.ListN.{length}
-use Rattle.link_rules.specs.LinkIdx.{sameTrain, holder, occupied}
+use Rattle.link_rules.specs.LinkIdx.{sameTrain, entryAt, occupied}
 use Rattle.link_rules.specs.declared.link_idx.TrainIdx.{TrainIdx}
 use Rattle.disp_structs.specs.Values.{sameEst, noEst, isArrive, sameEvent, view}
 use Rattle.disp_structs.specs.declared.EstIdx.{EstIdx}
@@ -107,7 +107,7 @@ meetsTrain occ h s =
 
 unfoldable pub occupiedNext : Round → Here → Search → Res Search
 occupiedNext r h s =
-    let hit = blockBy s (h .«est_curr» .«idx_next») (holder (r .«links_blocked») (h .«est_next» .«link_event» .«link_idx») ∷ []) in
+    let hit = blockBy s (h .«est_curr» .«idx_next») (entryAt (r .«links_blocked») (h .«est_next» .«link_event» .«link_idx») ∷ []) in
     cond (meetsTrain (r .«links_blocked») h s) hit (ok s)
 
 -- ---- which move (413-575)

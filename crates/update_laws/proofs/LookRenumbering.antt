@@ -5,7 +5,7 @@ use mathlib.Core.List.{List, [], _∷_, map}
 use Prim.Native.Nat.{ℕ, zero, suc, _+_, _-_}
 use lib.Dec.{ltb, leb, eqb}
 use lib.ListN.{length, length-map}
-use Rattle.link_rules.specs.LinkIdx.{holder}
+use Rattle.link_rules.specs.LinkIdx.{entryAt}
 use Rattle.link_rules.specs.Renumbering.{Renumbering, rTrain}
 use Rattle.link_rules.specs.Matching.{OccupanciesMatch}
 use Rattle.link_rules.specs.declared.link_idx.LinkIdx.{LinkIdx}
@@ -107,7 +107,7 @@ occupiedNext-r p q top rq occ′ r rp m h s =
     cond-map (mapRes (rSearch p q)) (meetsTrain (r .«links_blocked») h s) _ _ _ _ _
     (ap (λ t. not (blocked (s .views) (h .«est_curr» .«idx_next»)) && (leb (s .«disp_node_idx_free») (h .«idx_join_new») && (isArrive (h .«est_next» .«link_event» .«est_type») && t))) (occupied-r p q top rq (r .«links_blocked») occ′ rp m l))
     (ap (λ t. blockBy (rSearch p q s) (h .«est_curr» .«idx_next») (t ∷ [])) (entry-r p q top rq (r .«links_blocked») occ′ rp m l)
-    ∙ blockBy-r p q s (h .«est_curr» .«idx_next») (holder (r .«links_blocked») l ∷ []))
+    ∙ blockBy-r p q s (h .«est_curr» .«idx_next») (entryAt (r .«links_blocked») l ∷ []))
     refl
 
 -- ---- which move

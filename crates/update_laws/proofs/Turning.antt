@@ -9,7 +9,7 @@ use lib.Dec.{leb, ltb, eqb}
 use lib.Ieee.{lt}
 use lib.ListN.{length, take, drop, length-map}
 use borrow.Author.Tests.{leb-true, ltb-true, eqb-true, eqb-false, not-true}
-use Rattle.link_rules.specs.LinkIdx.{sameTrain, noTrain, holder, occupied}
+use Rattle.link_rules.specs.LinkIdx.{sameTrain, noTrain, entryAt, occupied}
 use Rattle.link_rules.specs.declared.link_idx.TrainIdx.{TrainIdx}
 use Rattle.disp_structs.specs.Values.{sameEst, noEst, isArrive, sameEvent, within, view, near, plus}
 use Rattle.disp_structs.specs.declared.DispNode.{DispNode}
@@ -161,7 +161,7 @@ module _ (r : Round) (h : Here) where
       let a = and-true (not (blocked (s .views) (h .«est_curr» .«idx_next»))) _ (w .0) in
       let b = and-true (leb (s .«disp_node_idx_free») (h .«idx_join_new»)) _ (a .1) in
       let c = and-true (isArrive (h .«est_next» .«link_event» .«est_type»)) _ (b .1) in
-      let t = holder (r .«links_blocked») (h .«est_next» .«link_event» .«link_idx») in
+      let t = entryAt (r .«links_blocked») (h .«est_next» .«link_event» .«link_idx») in
       let z : SomeTrain t = eqb-false (t .0) 0 (not-true (sameTrain t noTrain) (c .1)) in (
         block-by r h s (s .«div_idx_split») (t ∷ []) l (omega arith) (not-true (blocked (s .views) (h .«est_curr» .«idx_next»)) (a .0)) (each-one (Met r) t (record { some = z; from = inr (h .«est_next» .«link_event» .«link_idx», refl) })) (w .1),
         kept t (w .1),

@@ -5,7 +5,7 @@ use mathlib.Core.Logic.{_⊎_}
 use mathlib.Core.Bool.{true, false}
 use mathlib.Core.List.{List, [], _∷_, _++_}
 use lib.ListN.{length}
-use Rattle.link_rules.specs.LinkIdx.{holder}
+use Rattle.link_rules.specs.LinkIdx.{entryAt}
 use Rattle.link_rules.specs.declared.link_idx.LinkIdx.{LinkIdx}
 use Rattle.link_rules.specs.declared.link_idx.TrainIdx.{TrainIdx}
 use Rattle.disp_structs.specs.Values.{within, view}
@@ -28,7 +28,7 @@ SomeTrain t = t .0 ≡ 0 → ⊥
 -- a train that a look meets: it is in a diverge node, or holds a link
 pub record Met (r : Round) (t : TrainIdx) : Type 0 where
   pub some : SomeTrain t
-  pub from : ((i : ℕ) × (d : DivergeNode) × (at (r .train .«div_nodes») i ≡ ok d) × (d .«train_idx» ≡ t)) ⊎ ((l : LinkIdx) × (holder (r .«links_blocked») l ≡ t))
+  pub from : ((i : ℕ) × (d : DivergeNode) × (at (r .train .«div_nodes») i ≡ ok d) × (d .«train_idx» ≡ t)) ⊎ ((l : LinkIdx) × (entryAt (r .«links_blocked») l ≡ t))
 
 -- h is where the search stands, by its new path and idx_split
 pub record Stands (r : Round) (s : Search) (h : Here) : Type 0 where

@@ -8,7 +8,7 @@ use native.Mathlib.Omega.{arith}
 use lib.Dec.{ltb}
 use lib.ListN.{length, set}
 use lib.Seq.{getD-set-same, getD-set-other, set-out}
-use Rattle.link_rules.specs.LinkIdx.{noTrain, sameTrain, holder, hold, occupied}
+use Rattle.link_rules.specs.LinkIdx.{noTrain, sameTrain, entryAt, hold, occupied}
 use Rattle.link_rules.specs.Network.{linkAt}
 use Rattle.link_rules.specs.AdvanceRewind.{holdAll, refilled, resetLinkTrainIdx, resetAll, updateLinksBlocked, markRefusal, markedBy, markOf}
 use Rattle.link_rules.specs.declared.link_idx.LinkIdx.{LinkIdx}
@@ -40,7 +40,7 @@ module _ (top : ℕ) where
   upto-refilled : (occ : List ℕ) (l : LinkIdx) (ls : List LinkIdx) → TrainsUpTo top occ → TrainsUpTo top (refilled occ l ls)
   unfolding refilled
   upto-refilled occ l [] b = b
-  upto-refilled occ l (x ∷ xs) b = upto-cond (occupied occ x) _ _ (upto-set occ (l .0) (holder occ x .0) (b (x .0)) b) (upto-refilled occ l xs b)
+  upto-refilled occ l (x ∷ xs) b = upto-cond (occupied occ x) _ _ (upto-set occ (l .0) (entryAt occ x .0) (b (x .0)) b) (upto-refilled occ l xs b)
 
   upto-reset : (tbl occ : List ℕ) (ls : List LinkIdx) → TrainsUpTo top occ → TrainsUpTo top (resetAll tbl occ ls)
   unfolding resetAll resetLinkTrainIdx

@@ -6,9 +6,9 @@ use Prim.Native.Nat.{ℕ, zero, suc, _≤_, _<_}
 use native.Mathlib.Omega.{arith}
 use lib.Dec.{lit<}
 use lib.ListN.{replicate}
-use Rattle.link_rules.specs.LinkIdx.{holder}
+use Rattle.link_rules.specs.LinkIdx.{entryAt}
 use Rattle.link_rules.specs.Network.{linkAt, lockouts, headerFits as tableHeaderFits, recordFits, lockoutFits, tableFits}
-use Rattle.link_rules.specs.AdvanceRewind.{holdAll, refilled, resetLinkTrainIdx, resetAll, updateLinksBlocked, markRefusal, markOf}
+use Rattle.link_rules.specs.AdvanceRewind.{holdAll, refilled, resetLinkTrainIdx, resetAll, updateLinksBlocked, isLink, markRefusal, markOf}
 use Rattle.link_rules.specs.Renumbering.{Renumbering, rTrain}
 use Rattle.link_rules.specs.Matching.{rRecord}
 use Rattle.link_rules.specs.declared.refusal.Answer.the-variants.{Done as Marked}
@@ -77,7 +77,7 @@ calls′ =
 
 -- what the examples compute with
 unfoldable world : ℕ
-unfolding everything swapped table holdAll refilled resetLinkTrainIdx resetAll updateLinksBlocked markRefusal markOf lockouts tableHeaderFits recordFits lockoutFits tableFits rowFrom run runAll entriesBelow sameBytes renumbered imagesMatch
+unfolding everything swapped table holdAll refilled resetLinkTrainIdx resetAll updateLinksBlocked isLink markRefusal markOf lockouts tableHeaderFits recordFits lockoutFits tableFits rowFrom run runAll entriesBelow sameBytes renumbered imagesMatch
 world = 0
 
 -- ---- the calls, computed
@@ -134,7 +134,7 @@ one-yard =
       table′ = refl;
       tables = record { count = refl; each = λ l h. four-cases (λ (n : ℕ). linkAt (table 2) (record { 0 = swapped n }) ≡ rRecord swapped (linkAt (table 1) (record { 0 = n }))) refl refl refl refl (l .0) h };
       long = refl;
-      occupancies = record { long = refl; entry = λ l h. four-cases (λ (n : ℕ). holder (second .occupancy) (record { 0 = swapped n }) ≡ rTrain swapped (holder (first .occupancy) (record { 0 = n }))) refl refl refl refl (l .0) h };
+      occupancies = record { long = refl; entry = λ l h. four-cases (λ (n : ℕ). entryAt (second .occupancy) (record { 0 = swapped n }) ≡ rTrain swapped (entryAt (first .occupancy) (record { 0 = n }))) refl refl refl refl (l .0) h };
       yard = refl;
       yard′ = refl;
       yards = record { slots = refl; images = two-cases _ (images-match swapped swapped (partOf (first .yard) 1) (partOf (second .yard) 2) refl) (images-match swapped swapped (partOf (first .yard) 2) (partOf (second .yard) 1) refl) };

@@ -5,8 +5,8 @@ use borrow.Author.Needs.{needs}
 use Rattle.free_path_c.proofs.lavtoeu_mark.Statement.{statement}
 use Rattle.free_path_c.proofs.lavtoeu_mark.Tie as tie
 
-update-links-blocked-requires : tie.Need-update-links-blocked-requires
-update-links-blocked-requires c κs = search needs
+mark-requires : tie.Need-mark-requires
+mark-requires c κs = search needs
 
 answer-word-requires : tie.Need-answer-word-requires
 answer-word-requires c κs = search needs
@@ -16,9 +16,9 @@ same-length c = search needs
 
 returns : tie.Need-returns
 returns c =
-    let e = c .before .before .before .update-links-blocked .ensures in
+    let e = c .before .before .before .mark .ensures in
     (c .answer-word .ensures ∙ ap (λ (m : Marked). answerWord (m .answer)) e, ap (λ (m : Marked). m .occupancy) e)
 
 pub lavtoeu-mark-spec : {M : Type 1} → statement M
 lavtoeu-mark-spec =
-    tie.close (tie.spec update-links-blocked-requires answer-word-requires same-length returns)
+    tie.close (tie.spec mark-requires answer-word-requires same-length returns)
