@@ -23,10 +23,10 @@ faulted t n = record { rounds = t .rounds; strays = t .strays; faults = t .fault
 abbrev pub roundsAfter : ℕ → ℕ
 roundsAfter n = cond (ltb n 65535) (n + 1) n
 
-abbrev pub sumOf : ℕ → ℕ → ℕ
+abbrev pub sumOf : (a b : ℕ) → ℕ
 sumOf a b = cond (leb b (18446744073709551615 - a)) (a + b) 18446744073709551615
 
-abbrev pub countedRound : Tally → ℕ → ℕ → Tally
+abbrev pub countedRound : (t : Tally) (strays faults : ℕ) → Tally
 countedRound t strays faults = record { rounds = roundsAfter (t .rounds); strays = sumOf (t .strays) strays; faults = sumOf (t .faults) faults }
 
 abbrev pub countedFaults : Tally → ℕ → Tally

@@ -1,5 +1,5 @@
 // The tally of an update (document 01): rounds, strays and faults, lent to one thin function that each round calls.
-// `count_round` and `counted` are proved by walks of their MIR, by hand; whoever calls `counted`, which takes the tally by value, needs none.
+// `count_round` and `counted_round` are proved by walks of their MIR, by hand; whoever calls `counted_round`, which takes the tally by value, needs none.
 // The crate assumes nothing of its own, and no public function has a `requires`.
 ghost use mathlib.Core.Path.{_≡_};
 ghost use Rattle.tally.specs.Tally.{started, roundsAfter, sumOf, countedRound, countedFaults};
@@ -54,14 +54,14 @@ fn after_round(t: Tally, strays: u64, faults: u64) -> Tally
 }
 
 // A round has ended: it is counted, with its strays and the faults that were found.
-pub fn count_round(tally: &mut Tally, strays: u64, faults: u64)
+fn count_round(tally: &mut Tally, strays: u64, faults: u64)
     ensures { λ _. ⌜ now (tally .exit) ≡ countedRound (now (tally .entry)) strays faults ⌝ }
 {
     *tally = after_round(*tally, strays, faults);
 }
 
 // The same for whoever has the tally by value: it is lent to `count_round`.
-pub fn counted(t: Tally, strays: u64, faults: u64) -> Tally
+pub fn counted_round(t: Tally, strays: u64, faults: u64) -> Tally
     ensures { λ r. ⌜ r ≡ countedRound t strays faults ⌝ }
 {
     let mut tally = t;
@@ -70,7 +70,7 @@ pub fn counted(t: Tally, strays: u64, faults: u64) -> Tally
 }
 
 // The rounds have ended, and the validation found these errors.
-pub fn faulted(t: Tally, faults: u64) -> Tally
+pub fn counted_faults(t: Tally, faults: u64) -> Tally
     ensures { λ r. ⌜ r ≡ countedFaults t faults ⌝ }
 {
     Tally {

@@ -132,6 +132,6 @@ pub(crate) fn answered(
     leave(image, img, s, h, dt, dn);
     Updated {
         status: s,
-        tally: tally::faulted(t, faults_in(s)),
+        tally: tally::counted_faults(t, faults_in(s)),
     }
 }

@@ -87,7 +87,7 @@ fn tallied(t: Tally, strays: usize) -> Tally
     requires { ⌜ Counting t strays ⌝ }
     ensures { λ r. ⌜ r ≡ counted t strays ⌝ }
 {
-    tally::counted(t, strays as u64, 0)
+    tally::counted_round(t, strays as u64, 0)
 }
 
 // A round has ended and no other follows; strays are those of its path.

@@ -20,8 +20,8 @@ leave-requires c κs =
 faults-in-requires : tie.Need-faults-in-requires
 faults-in-requires c κs = search needs
 
-faulted-requires : tie.Need-faulted-requires
-faulted-requires c κs = search needs
+counted-faults-requires : tie.Need-counted-faults-requires
+counted-faults-requires c κs = search needs
 
 same-length : tie.Need-same-length
 same-length c = search needs
@@ -32,7 +32,7 @@ returns c =
     let a = z .args in
     λ was.
     answered-is (a .r .tally) was (trainOf (now (a .img)) (now (a .dt)) (now (a .dn)) (a .r .header)) (now (a .image)) (z .pre .1) (a .r .stop) (errorsOf (now (a .img)) (now (a .occ)) (a .r .header)) _ (c .before .faults-in .result) _ _
-    (c .before .before .before .before .before .before .before .status-by .ensures) (omega (arith, c .before .faults-in .ok)) (c .before .faults-in .ensures) (c .faulted .ensures) (c .before .before .before .before .leave .ensures)
+    (c .before .before .before .before .before .before .before .status-by .ensures) (omega (arith, c .before .faults-in .ok)) (c .before .faults-in .ensures) (c .counted-faults .ensures) (c .before .before .before .before .leave .ensures)
 
 pub answered-spec : {M : Type 1} → statement M
 answered-spec =
@@ -41,6 +41,6 @@ answered-spec =
     status-by-requires
     leave-requires
     faults-in-requires
-    faulted-requires
+    counted-faults-requires
     same-length
     returns)

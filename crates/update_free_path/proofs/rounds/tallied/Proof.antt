@@ -6,14 +6,14 @@ use Rattle.tally.proofs.TallyLaws.{counted-within}
 use Rattle.update_free_path.proofs.rounds.tallied.Statement.{statement}
 use Rattle.update_free_path.proofs.rounds.tallied.Tie as tie
 
-counted-requires : tie.Need-counted-requires
-counted-requires c κs = search needs
+counted-round-requires : tie.Need-counted-round-requires
+counted-round-requires c κs = search needs
 
 returns : tie.Need-returns
 returns c =
     let a = c .before .args in
     let p = c .before .pre in
-    c .counted .ensures ∙ counted-within (a .t) (a .strays) (p .rounds) (p .strays) (omega (arith, p .faultless))
+    c .counted-round .ensures ∙ counted-within (a .t) (a .strays) (p .rounds) (p .strays) (omega (arith, p .faultless))
 
 pub tallied-spec : {M : Type 1} → statement M
-tallied-spec = tie.close (tie.spec counted-requires returns)
+tallied-spec = tie.close (tie.spec counted-round-requires returns)

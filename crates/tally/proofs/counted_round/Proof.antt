@@ -1,4 +1,4 @@
--- `tally::counted` meets its contract: a walk of its MIR, by hand. The tally passed is copied to a local, which is lent to `count_round` for a lifetime of the call, comes back at the record that its contract says, and is returned. All that the proof knows of `count_round` is that it meets its contract.
+-- `tally::counted_round` meets its contract: a walk of its MIR, by hand. The tally passed is copied to a local, which is lent to `count_round` for a lifetime of the call, comes back at the record that its contract says, and is returned. All that the proof knows of `count_round` is that it meets its contract.
 -- The struct's laws come from the module that `rattle check` makes of it.
 -- Assumes nothing.
 use mathlib.Core.Path.{_≡_, refl}
@@ -47,10 +47,10 @@ use Rattle.tally.proofs.count_round as callee
 use Rattle.tally.proofs.count_round.Symbol as callee-def
 use Rattle.tally.proofs.count_round.Symbol.{name as #tally·count-round}
 use Rattle.tally.proofs.count_round.Met as callee-thm
-use Rattle.tally.proofs.counted.Key.{name as #tally·counted}
-use Rattle.tally.proofs.counted as own
-use Rattle.tally.proofs.counted.Statement as stated
-use Rattle.tally.proofs.counted.Code as code
+use Rattle.tally.proofs.counted_round.Key.{name as #tally·counted-round}
+use Rattle.tally.proofs.counted_round as own
+use Rattle.tally.proofs.counted_round.Statement as stated
+use Rattle.tally.proofs.counted_round.Code as code
 
 abbrev stayed : Stays (own.ended .signature .params) (own.ended .kept)
 stayed = (stay-none (λ _. T.the-row) yes, (stay-none (λ _. u64) yes, (stay-none (λ _. u64) yes, tt)))
@@ -121,24 +121,24 @@ module _ {M : Type 1} (𝓤 : URA M) (H : Heap 𝓤) (A : Atoms 𝓤) (W : Given
         keep ! (0 ∷ []) $ by ! (exits (zs .0) u e)))))))))))))))))
 
 module _ {M : Type 1} (𝓤 : URA M) (H : Heap 𝓤) (A : Atoms 𝓤) (W : Given 𝓤 H A) (at-mem : Memory → SProp 𝓤) (run : Routine → Fun 𝓤) where
-  counted-walks : (C : Calls 𝓤 H) (Λ : Loops 𝓤 H) → FmC 𝓤 H (W .laws) C → Triple 𝓤 (C #tally·count-round) (CountRound 𝓤 H A at-mem run)
+  counted-round-walks : (C : Calls 𝓤 H) (Λ : Loops 𝓤 H) → FmC 𝓤 H (W .laws) C → Triple 𝓤 (C #tally·count-round) (CountRound 𝓤 H A at-mem run)
       → Walks 𝓤 H A own.ended stayed (WpFn 𝓤 H C Λ code.function) (own.clauses 𝓤 H A at-mem run)
-  counted-walks C Λ fm known = walked 𝓤 H A own.ended stayed (own.clauses 𝓤 H A at-mem run) (WpFn 𝓤 H C Λ code.function) (λ κs. (LL.vals T.the-type T′.the-laws, (uint-vals w64, (uint-vals w64, tt)))) (λ κs. (LL.tells T.the-type T′.the-laws, (uint-tells w64, (uint-tells w64, tt))))
+  counted-round-walks C Λ fm known = walked 𝓤 H A own.ended stayed (own.clauses 𝓤 H A at-mem run) (WpFn 𝓤 H C Λ code.function) (λ κs. (LL.vals T.the-type T′.the-laws, (uint-vals w64, (uint-vals w64, tt)))) (λ κs. (LL.tells T.the-type T′.the-laws, (uint-tells w64, (uint-tells w64, tt))))
       (λ κs qs bounds a g are. via 𝓤 _ (fst∗ 𝓤 _ (emp 𝓤)) (walk 𝓤 H A W at-mem run (a .0) (a .1 .0) (a .1 .1 .0) (are .0) (are .1 .0 .1) (are .1 .1 .0 .1) C Λ fm known))
 
   goes : AllGo 𝓤 H A W 0 (own.signature .params) (own.ended .kept) stayed
   goes = (goes-none 𝓤 H A W 0 (λ _. T.the-row) yes (λ κs x f. refl), (goes-none 𝓤 H A W 0 (λ _. u64) yes (λ κs x f. refl), (goes-none 𝓤 H A W 0 (λ _. u64) yes (λ κs x f. refl), tt)))
 
-counted-meets : {M : Type 1} (𝓤 : URA M) (H : Heap 𝓤) (A : Atoms 𝓤) (W : Given 𝓤 H A) (at-mem : Memory → SProp 𝓤) (run : Routine → Fun 𝓤) (𝓣 : Tables 𝓤 H)
+counted-round-meets : {M : Type 1} (𝓤 : URA M) (H : Heap 𝓤) (A : Atoms 𝓤) (W : Given 𝓤 H A) (at-mem : Memory → SProp 𝓤) (run : Routine → Fun 𝓤) (𝓣 : Tables 𝓤 H)
     → Triple 𝓤 (𝓣 .C #tally·count-round) (CountRound 𝓤 H A at-mem run)
     → Meets 𝓤 H A own.signature (WpFn 𝓤 H (𝓣 .C) (𝓣 .Λ) code.function) (own.spec 𝓤 H A at-mem run)
-counted-meets 𝓤 H A W at-mem run 𝓣 known = walk-meets 𝓤 H A own.ended stayed W (goes 𝓤 H A W at-mem run) (own.clauses 𝓤 H A at-mem run) (WpFn 𝓤 H (𝓣 .C) (𝓣 .Λ) code.function) (WpFn-mono 𝓤 H (W .laws) 𝓣 code.function)
-    (counted-walks 𝓤 H A W at-mem run (𝓣 .C) (𝓣 .Λ) (fmOf 𝓤 H (W .laws) 𝓣) known)
+counted-round-meets 𝓤 H A W at-mem run 𝓣 known = walk-meets 𝓤 H A own.ended stayed W (goes 𝓤 H A W at-mem run) (own.clauses 𝓤 H A at-mem run) (WpFn 𝓤 H (𝓣 .C) (𝓣 .Λ) code.function) (WpFn-mono 𝓤 H (W .laws) 𝓣 code.function)
+    (counted-round-walks 𝓤 H A W at-mem run (𝓣 .C) (𝓣 .Λ) (fmOf 𝓤 H (W .laws) 𝓣) known)
 
-pub counted-spec : {M : Type 1} → stated.statement M
+pub counted-round-spec : {M : Type 1} → stated.statement M
 unfolding code.routine tablesOf
-counted-spec 𝓤 H 𝓜 𝓖 𝓡 =
+counted-round-spec 𝓤 H 𝓜 𝓖 𝓡 =
     entered 𝓤 H (tripleOf 𝓤 H (𝓖 .A) own.signature (own.spec 𝓤 H (𝓖 .A) (𝓜 .mem) (𝓡 .run)))
-    (tables 𝓤 H 𝓜 𝓡 code.env .C) (tables 𝓤 H 𝓜 𝓡 code.env .Λ) #tally·counted code.function (code.unfolded 𝓤 H 𝓜 𝓡)
-    (counted-meets 𝓤 H (𝓖 .A) (givenOf 𝓤 H 𝓜 𝓖) (𝓜 .mem) (𝓡 .run) (tablesOf 𝓤 H 𝓜 (tables 𝓤 H 𝓜 𝓡 code.env))
+    (tables 𝓤 H 𝓜 𝓡 code.env .C) (tables 𝓤 H 𝓜 𝓡 code.env .Λ) #tally·counted-round code.function (code.unfolded 𝓤 H 𝓜 𝓡)
+    (counted-round-meets 𝓤 H (𝓖 .A) (givenOf 𝓤 H 𝓜 𝓖) (𝓜 .mem) (𝓡 .run) (tablesOf 𝓤 H 𝓜 (tables 𝓤 H 𝓜 𝓡 code.env))
     (cited 𝓤 H (CountRound 𝓤 H (𝓖 .A) (𝓜 .mem) (𝓡 .run)) 𝓜 𝓡 code.env #tally·count-round callee-def.routine code.calls-tally·count-round (callee-thm.met 𝓤 H 𝓜 𝓖 𝓡)))
