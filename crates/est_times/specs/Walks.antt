@@ -18,5 +18,5 @@ pub data Walk (next alt : List ℕ) (e : ℕ) : ℕ → ℕ → Type 0 where
   then : {a t b : ℕ} → Step next alt e a t → Walk next alt e t b → Walk next alt e a b
 
 -- each of the first d entries of s, but the last of them, steps to the next one
-abbrev pub Steps : List ℕ → List ℕ → ℕ → List ℕ → ℕ → Type 0
+abbrev pub Steps : (next alt : List ℕ) (e : ℕ) (s : List ℕ) (d : ℕ) → Type 0
 Steps next alt e s d = (i : ℕ) → i + 1 < d → Step next alt e (getD s i 0) (getD s (i + 1) 0)

@@ -14,16 +14,12 @@ pub enum Cycle {
     At(usize),
 }
 
-// Where no record leads to one before it, there is no cycle. Else an order of the records is guessed, and checked in one pass; only where the check
-// fails is each record searched.
+// An order of the records is guessed, and checked in one pass; only where the check fails is each record searched.
 // The arrays have room for 512 records, and a larger e counts as 512.
 pub fn cycle_at(next: &[u32; 512], alt: &[u32; 512], e: usize) -> Cycle
     ensures { λ r. ⌜ r ≡ firstOnCycle (now (next .entry)) (now (alt .entry)) (min e 512) ⌝ }
 {
     let n = at_most_512(e);
-    if ascends(next, alt, n) {
-        return Cycle::None;
-    }
     let mut rank = [0u32; 512];
     order(next, alt, n, &mut rank);
     if rank_rises(next, alt, n, &rank) {
@@ -121,34 +117,6 @@ fn visit(seen: &mut [u32; 512], queue: &mut [u32; 512], n: usize, s: usize) -> u
     seen[s] = 1;
     queue[n] = s as u32;
     n + 1
-}
-
-// Every record leads to later ones alone.
-fn ascends(next: &[u32; 512], alt: &[u32; 512], e: usize) -> bool
-    requires { ⌜ e ≤ 512 ⌝ }
-    ensures { λ r. ⌜ (r ≡ true → firstOnCycle (now (next .entry)) (now (alt .entry)) e ≡ Cycle.None) ⌝ }
-{
-    let mut a = 0;
-    while a < e {
-        if !is_later(a, follow(next, e, a)) {
-            return false;
-        }
-        if !is_later(a, follow(alt, e, a)) {
-            return false;
-        }
-        a += 1;
-    }
-    true
-}
-
-// t is none, or stands after a.
-fn is_later(a: usize, t: usize) -> bool
-    ensures { λ r. ⌜ r ≡ (eqb t 0 || ltb a t) ⌝ }
-{
-    if t == 0 {
-        return true;
-    }
-    a < t
 }
 
 // The rank rises along next and alt of every record, those included that no path reaches.
