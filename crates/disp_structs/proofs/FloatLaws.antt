@@ -1,17 +1,17 @@
 -- A float and its bit pattern give each other back. Assumes nothing.
-use mathlib.Core.Path.{_≡_, refl, ap, _∙_}
+use mathlib.Core.Path.{_≡_, refl}
 use mathlib.Core.Bool.{Bool, true, false, not, cond}
 use Prim.Native.Nat.{ℕ, _*_, _^_, _≤_, _<_, _%_}
 use native.Mathlib.Omega.{arith}
 use lib.Dec.{T, eqb, eqb-refl, leb, ltb, nltb→le}
 use lib.Arith.{le→nltb}
 use borrow.Author.Tests.{le-leb, leb-true}
-use lib.Ieee.{Float, nan, inf, fin, up, down, binary64, ofBits, toBits, fits, isNan, ne, eq}
+use lib.Ieee.{Float, nan, inf, fin, up, down, binary64, ofBits, toBits, fits, isNan, ne, eq, lt, le}
 use lib.Ieee.Bits.{ofBits-toBits, toBits-ofBits, ofBits-fits, toBits-lt, nanBits-is, nanBits-above, is-true}
-use Rattle.disp_structs.specs.Floats.{realOf, bitsOf}
+use Rattle.disp_structs.specs.Floats.{realOf, bitsOf, inReach}
 
 -- a float that is no NaN equals itself
-equal : (x : Float) → T (not (isNan x)) → ne x x ≡ false
+pub equal : (x : Float) → T (not (isNan x)) → ne x x ≡ false
 unfolding ne eq isNan
 equal nan h = absurd h
 equal (inf true) h = refl
@@ -64,3 +64,10 @@ real-number b = go (leb (b % 0x8000_0000_0000_0000) 0x7ff0_0000_0000_0000) refl
     go : (t : Bool) → leb (b % 0x8000_0000_0000_0000) 0x7ff0_0000_0000_0000 ≡ t → T (not (isNan (cond t (ofBits binary64 b) (ofBits binary64 0))))
     go true h = no-nan b (leb-true (b % 0x8000_0000_0000_0000) 0x7ff0_0000_0000_0000 h)
     go false h = no-nan 0 (omega arith)
+
+-- a float within reach is no NaN
+pub reach-number : (x : Float) → inReach x ≡ true → T (not (isNan x))
+unfolding inReach le lt eq isNan
+reach-number nan h = let z : _≡_ {A = ℕ} 0 1 = cc in absurd (omega arith)
+reach-number (inf s) h = tt
+reach-number (fin s m e) h = tt

@@ -82,7 +82,7 @@ isNever t = eq (t .0) (inf false)
 
 -- ---- views (TrainIdxsView)
 
-abbrev pub view : ℕ → ℕ → TrainIdxsView
+abbrev pub view : (a b : ℕ) → TrainIdxsView
 view a b = record { «idx_begin» = a; «idx_end» = b }
 
 -- EstTimeStatus::is_blocked: (1, 1) is empty and blocked

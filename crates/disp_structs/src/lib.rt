@@ -1,5 +1,6 @@
 // The values of one train's path (disp_structs.rs, EstTime of est_times/mod.rs), and distances in binary64.
 // Every function here is proved, the crate assumes nothing of its own, and no public function has a `requires`.
+pub mod events;
 pub mod floats;
 
 use link_rules::link_idx::LinkIdx;

@@ -59,7 +59,7 @@ pub fn is_flagged(flags: &[u8], l: LinkIdx) -> bool
 }
 
 // The link goes into the set.
-pub fn flag_link(flags: &mut [u8], l: LinkIdx)
+fn flag_link(flags: &mut [u8], l: LinkIdx)
     ensures { λ _. ⌜ now (flags .exit) ≡ flagLink l (now (flags .entry)) ⌝ }
 {
     let i = l.0 as usize;

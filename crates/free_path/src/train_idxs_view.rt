@@ -5,7 +5,6 @@ ghost use Prim.Native.Nat.{_+_, _-_, _≤_, _<_};
 ghost use mathlib.Core.List.{_++_};
 ghost use lib.ListN.{length, getD, set, take};
 ghost use Rattle.link_rules.specs.LinkIdx.{sameTrain};
-ghost use Rattle.disp_structs.specs.Values.{isBlocked};
 ghost use Rattle.free_path.specs.Base.{any, part};
 ghost use Rattle.free_path.specs.TrainIdxsView.{addOne, addFrom, closed, addBlockingTrains, addAllBlockingTrains, concatTrainIdxViews, covers, size};
 ghost use Rattle.free_path.specs.Columns.{tr, trains, answer, Grows, Makes, concatIn};
@@ -22,13 +21,6 @@ pub struct Union {
     pub code: u32,
     pub view: TrainIdxsView,
     pub len: usize,
-}
-
-// EstTimeStatus::is_blocked: a view (1, 1) is empty and blocked.
-pub fn is_blocked(v: TrainIdxsView) -> bool
-    ensures { λ r. ⌜ r ≡ isBlocked v ⌝ }
-{
-    v.idx_end != 0
 }
 
 // Does t stand in the pool from b up to e?

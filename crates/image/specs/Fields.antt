@@ -8,7 +8,7 @@ pub record Field : Type 0 where
   pub place : ℕ
   pub width : ℕ
 
-abbrev pub field : ℕ → ℕ → Field
+abbrev pub field : (place width : ℕ) → Field
 field place width = record { place = place; width = width }
 
 -- a field holds the numbers below it
@@ -137,19 +137,19 @@ divergeNodeField = field 2 2
 abbrev pub readField : Field → List ℕ → ℕ
 readField f bs = leAt (f .width) bs (f .place)
 
-abbrev pub putField : Field → ℕ → List ℕ → List ℕ
+abbrev pub putField : (f : Field) (x : ℕ) (bs : List ℕ) → List ℕ
 putField f x bs = putLe (f .width) x (f .place) bs
 
 -- a field of the record that begins at the place given
-abbrev pub readIn : Field → List ℕ → ℕ → ℕ
+abbrev pub readIn : (f : Field) (bs : List ℕ) (at : ℕ) → ℕ
 readIn f bs at = leAt (f .width) bs (at + f .place)
 
-abbrev pub putIn : Field → ℕ → ℕ → List ℕ → List ℕ
+abbrev pub putIn : (f : Field) (x at : ℕ) (bs : List ℕ) → List ℕ
 putIn f x at bs = putLe (f .width) x (at + f .place) bs
 
 -- the field that a record begins with
-abbrev pub readFirst : Field → List ℕ → ℕ → ℕ
+abbrev pub readFirst : (f : Field) (bs : List ℕ) (at : ℕ) → ℕ
 readFirst f bs at = leAt (f .width) bs at
 
-abbrev pub putFirst : Field → ℕ → ℕ → List ℕ → List ℕ
+abbrev pub putFirst : (f : Field) (x at : ℕ) (bs : List ℕ) → List ℕ
 putFirst f x at bs = putLe (f .width) x at bs

@@ -63,14 +63,14 @@ distFixedMax bs = record { 0 = realOf (readField fixedMaxField bs) }
 abbrev pub estPlace : ℕ → ℕ
 estPlace i = 64 + 32 * i
 
-abbrev pub nodePlace : ℕ → ℕ → ℕ
+abbrev pub nodePlace : (e i : ℕ) → ℕ
 nodePlace e i = 64 + 32 * e + 32 * i
 
-abbrev pub divergePlace : ℕ → ℕ → ℕ
+abbrev pub divergePlace : (e i : ℕ) → ℕ
 divergePlace e i = 64 + 64 * e + 4 * i
 
 -- the size of an image of e est records with room for q diverge nodes
-abbrev pub imageSize : ℕ → ℕ → ℕ
+abbrev pub imageSize : (e q : ℕ) → ℕ
 imageSize e q = 64 + 64 * e + 4 * q
 
 -- the largest train of an image, which its diverge records hold; laws that store a train ask for no more than it
@@ -89,7 +89,7 @@ typeNumber Clear = 1
 typeNumber Fake = 2
 
 -- the est record in the 32 bytes from at
-unfoldable pub estFrom : List ℕ → ℕ → EstTime
+unfoldable pub estFrom : (bs : List ℕ) (at : ℕ) → EstTime
 estFrom bs at =
     record {
       «dist_to_next» = record { 0 = realOf (readFirst estDistField bs at) };
@@ -101,7 +101,7 @@ estFrom bs at =
     }
 
 -- the path record in the 32 bytes from at
-unfoldable pub nodeFrom : List ℕ → ℕ → DispNode
+unfoldable pub nodeFrom : (bs : List ℕ) (at : ℕ) → DispNode
 nodeFrom bs at =
     record {
       offset = record { 0 = realOf (readFirst nodeOffsetField bs at) };
@@ -112,17 +112,17 @@ nodeFrom bs at =
     }
 
 -- the diverge record in the 4 bytes from at
-unfoldable pub divergeFrom : List ℕ → ℕ → DivergeNode
+unfoldable pub divergeFrom : (bs : List ℕ) (at : ℕ) → DivergeNode
 divergeFrom bs at = record { «train_idx» = record { 0 = readFirst divergeTrainField bs at }; «disp_node_idx» = readIn divergeNodeField bs at }
 
 -- est_times[i], disp_path[i], div_nodes[i]
-abbrev pub estAt : List ℕ → ℕ → EstTime
+abbrev pub estAt : (bs : List ℕ) (i : ℕ) → EstTime
 estAt bs i = estFrom bs (estPlace i)
 
-abbrev pub nodeAt : List ℕ → ℕ → DispNode
+abbrev pub nodeAt : (bs : List ℕ) (i : ℕ) → DispNode
 nodeAt bs i = nodeFrom bs (nodePlace (estCount bs) i)
 
-abbrev pub divergeAt : List ℕ → ℕ → DivergeNode
+abbrev pub divergeAt : (bs : List ℕ) (i : ℕ) → DivergeNode
 divergeAt bs i = divergeFrom bs (divergePlace (estCount bs) i)
 
 -- records of zeros
@@ -133,15 +133,15 @@ abbrev pub zeroNode : DispNode
 zeroNode = nodeFrom [] 0
 
 -- est_times[i] and disp_path[i] where the record lies within the image, else a record of zeros
-unfoldable pub wholeEst : List ℕ → ℕ → EstTime
+unfoldable pub wholeEst : (bs : List ℕ) (i : ℕ) → EstTime
 wholeEst bs i = cond (ltb (length bs) (estPlace i + 32)) zeroEst (estAt bs i)
 
-unfoldable pub wholeNode : List ℕ → ℕ → DispNode
+unfoldable pub wholeNode : (bs : List ℕ) (i : ℕ) → DispNode
 wholeNode bs i = cond (ltb (length bs) (nodePlace (estCount bs) i + 32)) zeroNode (nodeAt bs i)
 
 -- ---- records written, every byte of them, spare bytes too
 
-unfoldable pub putEst : EstTime → ℕ → List ℕ → List ℕ
+unfoldable pub putEst : (x : EstTime) (at : ℕ) (bs : List ℕ) → List ℕ
 putEst x at bs =
     putIn estKindField (typeNumber (x .«link_event» .«est_type»)) at
     (putIn estLinkField (x .«link_event» .«link_idx» .0) at
@@ -151,7 +151,7 @@ putEst x at bs =
     (putIn estNextField (x .«idx_next» .0) at
     (putFirst estDistField (bitsOf (x .«dist_to_next» .0)) at bs))))))
 
-unfoldable pub putNode : DispNode → ℕ → List ℕ → List ℕ
+unfoldable pub putNode : (x : DispNode) (at : ℕ) (bs : List ℕ) → List ℕ
 putNode x at bs =
     putIn nodeSpareField 0 at
     (putIn nodeKindField (typeNumber (x .«link_event» .«est_type»)) at
@@ -161,19 +161,19 @@ putNode x at bs =
     (putIn nodeTimeField (bitsOf (x .«time_pass» .0)) at
     (putFirst nodeOffsetField (bitsOf (x .offset .0)) at bs))))))
 
-unfoldable pub putDiverge : DivergeNode → ℕ → List ℕ → List ℕ
+unfoldable pub putDiverge : (x : DivergeNode) (at : ℕ) (bs : List ℕ) → List ℕ
 putDiverge x at bs = putIn divergeNodeField (x .«disp_node_idx») at (putFirst divergeTrainField (x .«train_idx» .0) at bs)
 
 -- k numbers of 4 bytes from at are 0
-unfoldable pub zeroWords : ℕ → ℕ → List ℕ → List ℕ
+unfoldable pub zeroWords : (k at : ℕ) (bs : List ℕ) → List ℕ
 zeroWords zero at bs = bs
 zeroWords (suc k) at bs = putLe 4 0 (at + 4 * k) (zeroWords k at bs)
 
 -- the path records from n on, and the diverge records from m on, are zero
-unfoldable pub clearNodes : ℕ → List ℕ → List ℕ
+unfoldable pub clearNodes : (n : ℕ) (bs : List ℕ) → List ℕ
 clearNodes n bs = zeroWords (8 * (estCount bs - n)) (nodePlace (estCount bs) n) bs
 
-unfoldable pub clearDiverges : ℕ → List ℕ → List ℕ
+unfoldable pub clearDiverges : (m : ℕ) (bs : List ℕ) → List ℕ
 clearDiverges m bs = zeroWords (divergeRoom bs - m) (divergePlace (estCount bs) m) bs
 
 unfoldable pub putPathHeader : PathHeader → List ℕ → List ℕ

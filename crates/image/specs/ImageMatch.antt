@@ -8,7 +8,7 @@ use Rattle.image.specs.Fields.{trainField, estLinkField, nodeLinkField, 
 use Rattle.image.specs.Image.{estCount, divergeRoom, estPlace, nodePlace, divergePlace}
 
 -- the same bytes from a up to e
-abbrev pub SameBytes : List ℕ → List ℕ → ℕ → ℕ → Type 0
+abbrev pub SameBytes : (bs bs′ : List ℕ) (a e : ℕ) → Type 0
 SameBytes bs bs′ a e = (i : ℕ) → a ≤ i → i < e → getD bs′ i 0 ≡ getD bs i 0
 
 -- the w bytes from at are the same, except the number in the v bytes from at + k, which is renumbered

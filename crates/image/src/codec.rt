@@ -17,7 +17,7 @@ ghost use Prim.Native.Nat.{_+_, _*_, _-_, _^_, _<_};
 ghost use lib.ListN.{length, replicate};
 ghost use Rattle.link_rules.specs.Octets.{leAt, putLe};
 ghost use Rattle.disp_structs.specs.Floats.{realOf};
-ghost use Rattle.image.specs.Image.{sizeOf, estCount, pathCount, divergeCount, divergeRoom, trainIdx, pathHeader, distDispPathSearch, distFixedMax, estPlace, nodePlace, divergePlace, typeOf, typeNumber, estFrom, estAt, nodeFrom, nodeAt, zeroEst, zeroNode, wholeEst, wholeNode, divergeAt, putEst, putNode, putDiverge, zeroWords, clearNodes, clearDiverges, putPathHeader};
+ghost use Rattle.image.specs.Image.{sizeOf, estCount, pathCount, divergeCount, divergeRoom, trainIdx, pathHeader, distDispPathSearch, distFixedMax, estPlace, nodePlace, divergePlace, typeOf, typeNumber, estFrom, estAt, nodeFrom, nodeAt, zeroEst, zeroNode, wholeEst, wholeNode, divergeAt, putNode, putDiverge, zeroWords, clearNodes, clearDiverges, putPathHeader};
 
 // The header's numbers that an update changes.
 pub struct PathHeader {
@@ -334,21 +334,6 @@ pub fn node_est_idx(img: &[u8], i: u32) -> EstIdx
 
 // ---- records written, every byte of them
 
-pub fn put_est(img: &mut [u8], i: u32, x: EstTime)
-    ensures { λ _. ⌜ now (img .exit) ≡ putEst x (estPlace i) (now (img .entry)) ⌝ }
-{
-    let at = est_place(i);
-    octets::put_u64(img, at, floats::bits_of(x.dist_to_next.0));
-    octets::put_u32(img, at + 8, x.idx_next.0);
-    octets::put_u32(img, at + 12, x.idx_next_alt.0);
-    octets::put_u32(img, at + 16, x.idx_prev.0);
-    octets::put_u32(img, at + 20, x.idx_prev_alt.0);
-    octets::put_u32(img, at + 24, x.link_event.link_idx.0);
-    let e = x.link_event;
-    let t = e.est_type;
-    octets::put_u32(img, at + 28, type_number(t) as u32);
-}
-
 pub fn put_node(img: &mut [u8], i: u32, x: DispNode)
     ensures { λ _. ⌜ now (img .exit) ≡ putNode x (nodePlace (estCount (now (img .entry))) i) (now (img .entry)) ⌝ }
 {
@@ -443,7 +428,7 @@ fn clear_words(img: &mut [u8], at: usize, k: usize)
 }
 
 // Every byte becomes zero.
-fn zero_all(s: &mut [u8])
+pub fn zero_all(s: &mut [u8])
     ensures { λ _. ⌜ now (s .exit) ≡ replicate (length (now (s .entry))) 0 ⌝ }
 {
     let mut i = 0;

@@ -5,29 +5,20 @@ use disp_structs::DispNode;
 use image::codec;
 use link_rules::octets;
 ghost use mathlib.Core.Path.{_≡_};
-ghost use Rattle.image.specs.Image.{pathCount, nodeAt};
-ghost use Rattle.image_reader.specs.Reader.{freeOf, indexAfter};
+ghost use Rattle.image.specs.Image.{nodeAt};
+ghost use Rattle.image_reader.specs.Reader.{freeOf};
 
 pub struct Reader<'a> {
     pub image: &'a [u8],
     pub at: u32,
 }
 
-// ---- over plain slices and numbers
+// ---- over a plain slice
 
 fn header_free(image: &[u8]) -> u16
     ensures { λ r. ⌜ r ≡ freeOf (now (image .entry)) ⌝ }
 {
     octets::u16_at(image, 36)
-}
-
-fn index_after(i: u32) -> u32
-    ensures { λ r. ⌜ r ≡ indexAfter i ⌝ }
-{
-    if i < 4294967295 {
-        return i + 1;
-    }
-    i
 }
 
 // ---- over a reader
@@ -45,28 +36,11 @@ pub fn free<'a>(r: Reader<'a>) -> u16
     header_free(r.image)
 }
 
-// How many path nodes the header counts.
-pub fn path_count<'a>(r: Reader<'a>) -> u32
-    ensures { λ n. ⌜ n ≡ pathCount (now (r .entry .image)) ⌝ }
-{
-    codec::path_count(r.image)
-}
-
 // The path node at the reader's index.
 pub fn node<'a>(r: Reader<'a>) -> DispNode
     ensures { λ x. ⌜ x ≡ nodeAt (now (r .entry .image)) (r .entry .at) ⌝ }
 {
     codec::node_at(r.image, r.at)
-}
-
-// The reader one further.
-pub fn next<'a>(r: Reader<'a>) -> Reader<'a>
-    ensures { λ q. ⌜ (q .image ≡ r .entry .image) × (q .at ≡ indexAfter (r .entry .at)) ⌝ }
-{
-    Reader {
-        image: r.image,
-        at: index_after(r.at),
-    }
 }
 
 // ---- for whoever has a plain slice

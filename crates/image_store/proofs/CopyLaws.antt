@@ -12,6 +12,7 @@ use Rattle.link_rules.proofs.OctetLaws.{Bytes, le-add, le-lt, put-add, put-mod}
 use Rattle.disp_structs.proofs.FloatLaws.{bits-real}
 use Rattle.image.specs.Image.{typeOf, typeNumber, nodeFrom, putNode}
 use Rattle.image_store.specs.Plain.{plainNode}
+use Rattle.image_store.specs.Stored.{wordsInto}
 
 both : (a b : Bool) → a && b ≡ true → (a ≡ true) × (b ≡ true)
 both true true h = (refl, refl)
@@ -82,10 +83,8 @@ module _ (img : List ℕ) (bytes : Bytes img) (p q : ℕ) where
         let two = put-parts 2 4 k k 0 (q + 26) (putLe 2 (leAt 2 img (p + 24)) (q + 24) bs) (omega (arith, few)) (omega (arith, few)) in
         (rw f at one) ∙ (rw g at two)
 
-  pub words-node : plainNode img p ≡ true → (bs : List ℕ)
-      → putLe 8 (leAt 8 img (p + 24)) (q + 24) (putLe 8 (leAt 8 img (p + 16)) (q + 16) (putLe 8 (leAt 8 img (p + 8)) (q + 8) (putLe 8 (leAt 8 img p) q bs)))
-      ≡ putNode (nodeFrom img p) q bs
-  unfolding plainNode putNode nodeFrom
+  pub words-node : plainNode img p ≡ true → (bs : List ℕ) → wordsInto img p q bs ≡ putNode (nodeFrom img p) q bs
+  unfolding plainNode wordsInto putNode nodeFrom
   words-node h bs =
       let a = both (leb (p + 32) (length img)) _ h in
       let b = both (leb (leAt 8 img p % 0x8000_0000_0000_0000) 0x7ff0_0000_0000_0000) _ (a .1) in

@@ -13,12 +13,13 @@ use Rattle.disp_structs.specs.declared.DispNode.{DispNode}
 use Rattle.disp_structs.specs.declared.DivergeNode.{DivergeNode}
 use Rattle.free_path.specs.Columns.{divAt}
 use Rattle.image.specs.Image.{estCount, divergeRoom, estAt, nodeAt, nodePlace, divergePlace, putNode, putDiverge, zeroWords, clearNodes, clearDiverges, putPathHeader}
-use Rattle.image.specs.Codec.{putEach, pathHeaderOf, putRecords, storedInto}
+use Rattle.image.specs.Codec.{putEach, putRecords, storedInto}
 use Rattle.image.specs.declared.codec.PathHeader.{PathHeader}
 use Rattle.image.proofs.Writers.{Writes, le-outside, each-writes, zero-writes}
 use Rattle.image.proofs.RecordLaws.{node-writes, diverge-writes}
 use Rattle.image.proofs.EachLaws.{each-more}
 use Rattle.splice.specs.Read.{trainOf}
+use Rattle.image_store.specs.Stored.{changedTrain}
 
 -- a write from 64 on leaves a number of the header
 header-stays : {a b : ℕ} {f : List ℕ → List ℕ} → Writes a b f → (v j : ℕ) (bs : List ℕ) → j + v ≤ 64 → 64 ≤ a → leAt v (f bs) j ≡ leAt v bs j
@@ -81,30 +82,36 @@ clear-diverges : (m e q : ℕ) (bs : List ℕ) → estCount bs ≡ e → diverge
 unfolding clearDiverges
 clear-diverges m e q bs h k = ap₂ (λ (x y : ℕ). zeroWords (y - m) (divergePlace x m) bs) h k
 
+-- the writes of a train whose counts are e and q, n and m, over any of its other fields
 module _ (img dt dn : List ℕ) (h : PathHeader) where
-  abbrev e : ℕ
-  e = estCount img
-
-  abbrev q : ℕ
-  q = divergeRoom img
-
   abbrev n : ℕ
   n = h .«path_count»
 
   abbrev m : ℕ
   m = h .«diverge_count»
 
-  header-of : pathHeaderOf (trainOf img dt dn h) ≡ h
-  unfolding trainOf
-  header-of = rw (listed-length n (nodeAt img), listed-length m (divAt dt dn))
+  abbrev written : (e q : ℕ) (bs : List ℕ) → List ℕ
+  written e q bs =
+      putPathHeader h
+      (zeroWords (q - m) (divergePlace e m)
+      (putEach putDiverge 4 (listed m (divAt dt dn)) (divergePlace e 0)
+      (zeroWords (8 * (e - n)) (nodePlace e n)
+      (putEach putNode 32 (listed n (nodeAt img)) (nodePlace e 0) bs))))
 
-  records-of : (bs : List ℕ) → putRecords (trainOf img dt dn h) bs
-      ≡ zeroWords (q - m) (divergePlace e m) (putEach putDiverge 4 (listed m (divAt dt dn)) (divergePlace e 0) (zeroWords (8 * (e - n)) (nodePlace e n) (putEach putNode 32 (listed n (nodeAt img)) (nodePlace e 0) bs)))
-  unfolding trainOf putRecords
-  records-of bs = rw (listed-length e (estAt img), listed-length n (nodeAt img), listed-length m (divAt dt dn))
+  changed-is : (bs : List ℕ) → storedInto (changedTrain img dt dn h bs) bs ≡ written (estCount bs) (divergeRoom bs) bs
+  unfolding changedTrain storedInto putRecords
+  changed-is bs = rw (listed-length (estCount bs) (estAt bs), listed-length n (nodeAt img), listed-length m (divAt dt dn))
+
+  train-is : (bs : List ℕ) → storedInto (trainOf img dt dn h) bs ≡ written (estCount img) (divergeRoom img) bs
+  unfolding trainOf storedInto putRecords
+  train-is bs = rw (listed-length (estCount img) (estAt img), listed-length n (nodeAt img), listed-length m (divAt dt dn))
+
+  -- an image with the counts of the copy takes the copy's train
+  pub stored-train : (bs : List ℕ) → estCount bs ≡ estCount img → divergeRoom bs ≡ divergeRoom img → storedInto (changedTrain img dt dn h bs) bs ≡ storedInto (trainOf img dt dn h) bs
+  stored-train bs he hq = changed-is bs ∙ ap₂ (λ (e q : ℕ). written e q bs) he hq ∙ sym (train-is bs)
 
   -- the five writes, one after another
-  module _ (bs : List ℕ) (he : estCount bs ≡ e) (hq : divergeRoom bs ≡ q) (b1 b2 b3 b4 : List ℕ)
+  module _ (bs b1 b2 b3 b4 : List ℕ)
       (p1 : b1 ≡ putEach putNode 32 (listed n (nodeAt img)) (nodePlace (estCount bs) 0) bs) (p2 : b2 ≡ clearNodes n b1)
       (p3 : b3 ≡ putEach putDiverge 4 (listed m (divAt dt dn)) (divergePlace (estCount b2) 0) b2) (p4 : b4 ≡ clearDiverges m b3) where
     -- a number of the header
@@ -117,18 +124,14 @@ module _ (img dt dn : List ℕ) (h : PathHeader) where
     same3 : (v j : ℕ) → j + v ≤ 64 → leAt v b3 j ≡ leAt v bs j
     same3 v j l = ap (λ (x : List ℕ). leAt v x j) p3 ∙ diverges-stay m (divAt dt dn) b2 v j l ∙ same2 v j l
 
-    is1 : b1 ≡ putEach putNode 32 (listed n (nodeAt img)) (nodePlace e 0) bs
-    is1 = p1 ∙ ap (λ (x : ℕ). putEach putNode 32 (listed n (nodeAt img)) (nodePlace x 0) bs) he
+    is2 : b2 ≡ zeroWords (8 * (estCount bs - n)) (nodePlace (estCount bs) n) b1
+    is2 = p2 ∙ clear-nodes n (estCount bs) b1 (same1 4 4 (omega arith))
 
-    is2 : b2 ≡ zeroWords (8 * (e - n)) (nodePlace e n) b1
-    is2 = p2 ∙ clear-nodes n e b1 (same1 4 4 (omega arith) ∙ he)
+    is3 : b3 ≡ putEach putDiverge 4 (listed m (divAt dt dn)) (divergePlace (estCount bs) 0) b2
+    is3 = p3 ∙ ap (λ (x : ℕ). putEach putDiverge 4 (listed m (divAt dt dn)) (divergePlace x 0) b2) (same2 4 4 (omega arith))
 
-    is3 : b3 ≡ putEach putDiverge 4 (listed m (divAt dt dn)) (divergePlace e 0) b2
-    is3 = p3 ∙ ap (λ (x : ℕ). putEach putDiverge 4 (listed m (divAt dt dn)) (divergePlace x 0) b2) (same2 4 4 (omega arith) ∙ he)
+    is4 : b4 ≡ zeroWords (divergeRoom bs - m) (divergePlace (estCount bs) m) b3
+    is4 = p4 ∙ clear-diverges m (estCount bs) (divergeRoom bs) b3 (same3 4 4 (omega arith)) (same3 4 16 (omega arith))
 
-    is4 : b4 ≡ zeroWords (q - m) (divergePlace e m) b3
-    is4 = p4 ∙ clear-diverges m e q b3 (same3 4 4 (omega arith) ∙ he) (same3 4 16 (omega arith) ∙ hq)
-
-    pub stored-is : putPathHeader h b4 ≡ storedInto (trainOf img dt dn h) bs
-    unfolding storedInto
-    stored-is = rw (header-of, records-of, is4, is3, is2, is1)
+    pub stored-is : putPathHeader h b4 ≡ storedInto (changedTrain img dt dn h bs) bs
+    stored-is = rw (is4, is3, is2, p1) (sym (changed-is bs))

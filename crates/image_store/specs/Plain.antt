@@ -7,7 +7,7 @@ use lib.ListN.{length}
 use Rattle.link_rules.specs.Octets.{leAt}
 
 -- the 32 bytes from at lie within bs, neither float is a NaN, the type is at most 2, and the spare bytes behind it are 0
-unfoldable pub plainNode : List ℕ → ℕ → Bool
+unfoldable pub plainNode : (bs : List ℕ) (at : ℕ) → Bool
 plainNode bs at =
     leb (at + 32) (length bs)
     && (leb (leAt 8 bs at % 0x8000_0000_0000_0000) 0x7ff0_0000_0000_0000

@@ -1,13 +1,13 @@
 // An updated train goes back to the caller's image.
+// Every function here is proved, the crate assumes nothing of its own, and no public function has a `requires`.
 ghost use mathlib.Core.Path.{_≡_};
-ghost use Prim.Native.Nat.{_+_, _^_, _<_};
-ghost use Rattle.link_rules.specs.Octets.{leAt, putLe};
+ghost use Prim.Native.Nat.{_^_, _<_};
 ghost use Rattle.disp_structs.specs.Listed.{listed};
 ghost use Rattle.free_path.specs.Columns.{divAt};
-ghost use Rattle.image.specs.Image.{estCount, divergeRoom, nodePlace, divergePlace, nodeAt, putNode, putDiverge};
+ghost use Rattle.image.specs.Image.{estCount, nodePlace, divergePlace, nodeAt, putNode, putDiverge};
 ghost use Rattle.image.specs.Codec.{putEach, storedInto};
-ghost use Rattle.splice.specs.Read.{trainOf};
 ghost use Rattle.image_store.specs.Plain.{plainNode};
+ghost use Rattle.image_store.specs.Stored.{wordsInto, changedTrain};
 use disp_structs::DivergeNode;
 use free_path::columns;
 use image::codec;
@@ -35,7 +35,7 @@ fn plain_node(img: &[u8], at: usize) -> bool
 // The 32 bytes from p on go to the image, from q on, in four words.
 fn put_words(image: &mut [u8], q: usize, img: &[u8], p: usize)
     requires { ⌜ (p < 2 ^ 48) × (q < 2 ^ 48) ⌝ }
-    ensures { λ _. ⌜ now (image .exit) ≡ putLe 8 (leAt 8 (now (img .entry)) (p + 24)) (q + 24) (putLe 8 (leAt 8 (now (img .entry)) (p + 16)) (q + 16) (putLe 8 (leAt 8 (now (img .entry)) (p + 8)) (q + 8) (putLe 8 (leAt 8 (now (img .entry)) p) q (now (image .entry))))) ⌝ }
+    ensures { λ _. ⌜ now (image .exit) ≡ wordsInto (now (img .entry)) p q (now (image .entry)) ⌝ }
 {
     octets::put_u64(image, q, octets::u64_at(img, p));
     octets::put_u64(image, q + 8, octets::u64_at(img, p + 8));
@@ -96,8 +96,7 @@ fn put_diverges(image: &mut [u8], dt: &[u32], dn: &[u32], m: u32)
 
 // What an update changes goes to the image: the path and the diverge nodes with their unused records, and the header's numbers.
 pub fn store(image: &mut [u8], img: &[u8], h: PathHeader, dt: &[u32], dn: &[u32])
-    requires { ⌜ (estCount (now image) ≡ estCount (now img)) × (divergeRoom (now image) ≡ divergeRoom (now img)) ⌝ }
-    ensures { λ _. ⌜ now (image .exit) ≡ storedInto (trainOf (now (img .entry)) (now (dt .entry)) (now (dn .entry)) h) (now (image .entry)) ⌝ }
+    ensures { λ _. ⌜ now (image .exit) ≡ storedInto (changedTrain (now (img .entry)) (now (dt .entry)) (now (dn .entry)) h (now (image .entry))) (now (image .entry)) ⌝ }
 {
     put_nodes(image, img, h.path_count);
     codec::clear_nodes(image, h.path_count);

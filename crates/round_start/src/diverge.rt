@@ -27,7 +27,7 @@ fn at_sentinel(dn: &[u32], m: usize, split: usize, k: usize) -> Index
 }
 
 // div_idx_split; node and divs are the sentinels. No diverge node is above 4,294,967,295.
-pub fn div_point(
+fn div_point(
     dn: &[u32],
     m: usize,
     split: usize,

@@ -1,9 +1,9 @@
 // The path of an image: link_idx_path as a column, is_on_path as flags, links_on_path asked for one link, and the save node.
+use disp_structs::events;
 use free_path::link_opt_type::LinkOptType;
 use image::codec;
 use link_rules::link_idx::LinkIdx;
 use search::Index;
-use search::views;
 ghost use mathlib.Core.Path.{_≡_};
 ghost use mathlib.Core.Bool.{_&&_};
 ghost use Prim.Native.Nat.{ℕ, _<_, _≤_};
@@ -27,7 +27,7 @@ fn arrive_link(img: &[u8], i: u32) -> LinkIdx
 {
     let e = codec::node_link_event(img, i);
     let t = e.est_type;
-    if views::is_arrive(t) {
+    if events::is_arrive(t) {
         return e.link_idx;
     }
     LinkIdx(0)
@@ -48,23 +48,12 @@ pub fn link_path(img: &[u8], n: u32, col: &mut [u32])
 
 // ---- is_on_path
 
-// Every flag becomes 0.
-pub fn clear_flags(on: &mut [u8])
-    ensures { λ _. ⌜ now (on .exit) ≡ replicate (length (now (on .entry))) 0 ⌝ }
-{
-    let mut i = 0;
-    while i < on.len() {
-        on[i] = 0;
-        i += 1;
-    }
-}
-
 // is_on_path of the n nodes of the path, whatever the flags were.
 pub fn mark_path(img: &[u8], n: u32, on: &mut [u8])
     requires { ⌜ ((i : ℕ) → i < n → nodeAt (now img) i .«est_idx» .0 < length (now on)) ⌝ }
     ensures { λ _. ⌜ Marked (now (on .exit)) (pathOf (now (img .entry)) n) ⌝ }
 {
-    clear_flags(on);
+    codec::zero_all(on);
     let mut i: u32 = 0;
     while i < n {
         let e = codec::node_est_idx(img, i);
@@ -81,14 +70,14 @@ fn arrives_at(img: &[u8], i: u32, l: LinkIdx) -> bool
 {
     let e = codec::node_link_event(img, i);
     let t = e.est_type;
-    if views::is_arrive(t) {
+    if events::is_arrive(t) {
         return l.0 == e.link_idx.0;
     }
     false
 }
 
 // links_on_path.contains(l)
-pub fn on_path(img: &[u8], n: u32, l: LinkIdx) -> bool
+fn on_path(img: &[u8], n: u32, l: LinkIdx) -> bool
     ensures { λ r. ⌜ r ≡ contains (linksOnPath (pathOf (now (img .entry)) n)) l ⌝ }
 {
     let mut i: u32 = 0;
@@ -123,7 +112,7 @@ fn walk_fakes(img: &[u8], n: u32, from: usize) -> Index
     while k < n as usize {
         let e = codec::node_link_event(img, k as u32);
         let t = e.est_type;
-        if !views::is_fake(t) {
+        if !events::is_fake(t) {
             return Index { code: 0, index: k };
         }
         k += 1;

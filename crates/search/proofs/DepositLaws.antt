@@ -1,7 +1,6 @@
 -- Trains of a view deposited at a node, and Alternate, test by test as the code has them. Assumes nothing.
 use mathlib.Core.Path.{_≡_, refl, sym, ap, ap₂, _∙_}
-use mathlib.Core.Bool.{Bool, true, false}
-use mathlib.Core.List.{List, [], _∷_, _++_, append-assoc, append-nil}
+use mathlib.Core.List.{List, [], _∷_, _++_, append-assoc}
 use Prim.Native.Nat.{ℕ, zero, suc, _+_, _-_, _≤_, _<_}
 use native.Mathlib.Omega.{arith}
 use native.Mathlib.Numerals.{add-one}
@@ -13,11 +12,11 @@ use Rattle.link_rules.specs.declared.link_idx.TrainIdx.{TrainIdx}
 use Rattle.disp_structs.specs.declared.DispNode.{DispNode}
 use Rattle.disp_structs.specs.declared.DivergeNode.{DivergeNode}
 use Rattle.disp_structs.specs.declared.TrainIdxsView.{TrainIdxsView}
-use Rattle.free_path.specs.Base.{Res, ok, no, _>>=_, part, slice}
+use Rattle.free_path.specs.Base.{Res, ok, no, _>>=_, slice}
 use Rattle.free_path.specs.Columns.{answer, divAt, tr, trains}
 use Rattle.disp_structs.specs.Listed.{listed}
-use Rattle.disp_structs.proofs.ListedLaws.{listed-length, listed-map}
-use Rattle.free_path.proofs.CountLaws.{answer-no, bind-stop, bind-go}
+use Rattle.disp_structs.proofs.ListedLaws.{listed-length, listed-map, listed-same}
+use Rattle.free_path.proofs.CountLaws.{answer-no, bind-go}
 use Rattle.free_path.proofs.PoolLaws.{trains-at, trains-length}
 use Rattle.update_definition.specs.State as State
 use Rattle.update_definition.specs.State.{diverging, pushDivs}
@@ -25,7 +24,7 @@ use Rattle.update_definition.specs.Look as Look
 use Rattle.update_definition.specs.Moves as Moves
 use Rattle.update_definition.specs.Moves.{trainsOf, alternateFree, alternateNode}
 use Rattle.search.specs.Read.{divsOf, trainsFrom}
-use Rattle.search.proofs.ListedLaws.{listed-same, listed-push, listed-part}
+use Rattle.search.proofs.ListedLaws.{listed-push, listed-part}
 use Rattle.search.specs.Effects.{pushTurn, deposit}
 
 abbrev pub divOf : ℕ → ℕ → DivergeNode

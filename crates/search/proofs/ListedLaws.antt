@@ -4,13 +4,12 @@ use mathlib.Core.Logic.{_⊎_, inl, inr, ⊎-elim}
 use mathlib.Core.List.{List, [], _∷_, _++_}
 use Prim.Native.Nat.{ℕ, zero, suc, _+_, _-_, _≤_, _<_}
 use native.Mathlib.Omega.{arith}
-use native.Mathlib.Nat.{eq-or-lt-of-le}
 use native.Mathlib.Numerals.{add-one}
-use lib.ListN.{length, getD, take, drop, set, length-set}
-use lib.Seq.{take-append-le, take-all, ext-getD, getD-set-same, getD-set-other, getD-take, getD-drop}
+use lib.ListN.{length, getD, drop, set}
+use lib.Seq.{ext-getD, getD-take, getD-drop}
 use Rattle.free_path.specs.Base.{part}
 use Rattle.disp_structs.specs.Listed.{listed}
-use Rattle.disp_structs.proofs.ListedLaws.{listed-length, listed-at}
+use Rattle.disp_structs.proofs.ListedLaws.{listed-length, listed-at, listed-same}
 use Rattle.free_path.proofs.CountLaws.{length-part}
 
 pub same-or-not : (x y : ℕ) → (x ≡ y) ⊎ (x ≡ y → ⊥)
@@ -36,42 +35,10 @@ module _ {A : Type 0} where
   set-out (x ∷ xs) zero a h = absurd (omega (arith, h))
   set-out (x ∷ xs) (suc i) a h = ap (λ l. x ∷ l) (set-out xs i a (omega (arith, h)))
 
-  -- only what f reads below n counts
-  pub listed-same : (n : ℕ) (f g : ℕ → A) → ((i : ℕ) → i < n → g i ≡ f i) → listed n g ≡ listed n f
-  unfolding listed
-  listed-same zero f g h = refl
-  listed-same (suc n) f g h = rw (listed-same n f g (λ i k. h i (omega arith)), h n (omega arith))
-
   -- push, with what else is written past n
   pub listed-push : (n : ℕ) (f g : ℕ → A) (a : A) → ((i : ℕ) → i < n → g i ≡ f i) → g n ≡ a → listed (n + 1) g ≡ listed n f ++ (a ∷ [])
   unfolding listed
   listed-push n f g a h q = rw (add-one, listed, listed-same n f g h, q)
-
-  -- a write inside
-  pub listed-set : (n : ℕ) (f g : ℕ → A) (k : ℕ) (a : A) → k < n → ((i : ℕ) → i < n → (i ≡ k → ⊥) → g i ≡ f i) → g k ≡ a → listed n g ≡ set (listed n f) k a
-  listed-set n f g k a l h q =
-      ext-getD a (listed n g) (set (listed n f) k a) (omega (arith, listed-length n g, listed-length n f, length-set (listed n f) k a))
-      (λ i m.
-      let j : i < n = omega (arith, listed-length n g) in
-      listed-at n g i a j
-      ∙ sym
-      (⊎-elim
-      (λ (e : i ≡ k). rw (e, q) (getD-set-same (listed n f) k a a (omega (arith, listed-length n f))))
-      (λ (e : i ≡ k → ⊥). getD-set-other (listed n f) k i a a e ∙ listed-at n f i a j ∙ sym (h i j e))
-      (same-or-not i k)))
-
-  -- a prefix
-  pub listed-take : (m n : ℕ) (f : ℕ → A) → m ≤ n → take m (listed n f) ≡ listed m f
-  unfolding listed
-  listed-take m zero f h = let e : m ≡ 0 = omega arith in rw e
-  listed-take m (suc n) f h = go (eq-or-lt-of-le h) (listed-take m n f)
-    where
-      go : (m ≡ suc n) ⊎ (m < suc n) → (m ≤ n → take m (listed n f) ≡ listed m f) → take m (listed (suc n) f) ≡ listed m f
-      go (inl q) r = rw q (take-all (suc n) (listed (suc n) f) (omega (arith, listed-length (suc n) f)))
-      go (inr q) r = unf ∙ r (omega arith)
-        where
-          unf : take m (listed (suc n) f) ≡ take m (listed n f)
-          unf = take-append-le m (listed n f) (f n ∷ []) (omega (arith, listed-length n f))
 
   -- a part
   pub listed-part : (n : ℕ) (f : ℕ → A) (a e : ℕ) → a ≤ e → e ≤ n → part a e (listed n f) ≡ listed (e - a) (λ j. f (a + j))

@@ -12,7 +12,7 @@ use lib.ListN.{length, getD, take, set, length-append}
 use lib.Seq.{take-append-le, take-all, getD-at, getD-set-same, getD-set-other}
 use borrow.Author.Tests.{ne-eqb, eq-eqb, eqb-true, eqb-false, lt-ltb, le-ltb, ltb-false}
 use Rattle.disp_structs.specs.Listed.{listed}
-use Rattle.disp_structs.proofs.ListedLaws.{listed-length, listed-same, listed-at}
+use Rattle.disp_structs.proofs.ListedLaws.{listed-length, listed-same, listed-at, listed-take}
 use Rattle.disp_structs.specs.Train.{Train}
 use Rattle.disp_structs.specs.Floats.{inReach}
 use Rattle.disp_structs.specs.declared.DispNode.{DispNode}
@@ -21,7 +21,7 @@ use Rattle.image.specs.Image.{estCount, nodePlace, estAt, nodeAt, wholeNode, pu
 use Rattle.free_path.specs.Base.{Res, ok, no, at}
 use Rattle.free_path.proofs.CountLaws.{top}
 use Rattle.free_path.proofs.WalkLaws.{at-in}
-use Rattle.search.proofs.ListedLaws.{listed-take, same-or-not, below-or-not}
+use Rattle.search.proofs.ListedLaws.{same-or-not, below-or-not}
 use Rattle.free_path.proofs.ColumnLaws.{listed-read}
 use Rattle.update_definition.specs.State as State
 use Rattle.update_definition.specs.Look as Look
@@ -42,7 +42,8 @@ use Rattle.search.specs.declared.Effect.{Effect}
 use Rattle.search.specs.declared.Effect.the-variants.{Refused, Push, Pop, Stay, GiveUp}
 use Rattle.search.specs.declared.run.Next.{Next}
 use Rattle.search.proofs.TurnLaws.{turn-done, Answers}
-use Rattle.splice.proofs.NodeLaws.{reach-number, put-kept, put-other, put-same, kept-eq}
+use Rattle.disp_structs.proofs.FloatLaws.{reach-number}
+use Rattle.splice.proofs.NodeLaws.{put-kept, put-other, put-same, kept-eq}
 use Rattle.splice.specs.Parts.{Sound}
 use Rattle.splice.specs.Read.{Kept}
 use Rattle.search.specs.Runs.{endOf, counted, slotOf, Follows, FollowsTurn, Begins, Going, Ran}

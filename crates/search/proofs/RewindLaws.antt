@@ -2,7 +2,7 @@
 use mathlib.Core.Path.{_≡_, refl, sym, ap, _∙_}
 use mathlib.Core.Bool.{Bool, true, false, cond, not, _&&_}
 use mathlib.Core.List.{List, [], _∷_}
-use Prim.Native.Nat.{ℕ, zero, suc, _+_, _-_, _≤_, _<_}
+use Prim.Native.Nat.{ℕ, suc, _+_, _-_, _≤_, _<_}
 use native.Mathlib.Omega.{arith}
 use lib.Dec.{ltb, eqb}
 use lib.Ieee.{lt}
@@ -20,7 +20,7 @@ use Rattle.free_path.specs.Columns.{answer, divAt}
 use Rattle.disp_structs.specs.Listed.{listed}
 use Rattle.free_path.specs.TrainIdxsView.{Pooled, concatTrainIdxViews}
 use Rattle.free_path.proofs.ColumnLaws.{listed-read, listed-out}
-use Rattle.disp_structs.proofs.ListedLaws.{listed-length}
+use Rattle.disp_structs.proofs.ListedLaws.{listed-length, listed-take}
 use Rattle.free_path.proofs.CountLaws.{answer-no}
 use Rattle.update_definition.specs.State as State
 use Rattle.update_definition.specs.State.{viewOf}
@@ -28,7 +28,6 @@ use Rattle.update_definition.specs.Look as Look
 use Rattle.update_definition.specs.Moves as Moves
 use Rattle.update_definition.specs.Moves.{notFake, shiftSave, rewindView, rewindDivs, giveUp, oneBack}
 use Rattle.search.specs.Read.{divsOf}
-use Rattle.search.proofs.ListedLaws.{listed-take}
 use Rattle.search.specs.Effects.{rewindSave}
 
 -- ---- the walk down, over values by number

@@ -7,6 +7,7 @@ use disp_structs::DispNode;
 use disp_structs::EstIdx;
 use disp_structs::EstTime;
 use disp_structs::TrainIdxsView;
+use disp_structs::events;
 use free_path::columns;
 use image::codec;
 use link_rules::link_idx::TrainIdx;
@@ -360,7 +361,7 @@ fn meets_train(occ: &[u32], n: usize, h: Here, free: usize, ends: &[u32]) -> boo
     let ahead = h.est_next;
     let event = ahead.link_event;
     let kind = event.est_type;
-    if !views::is_arrive(kind) {
+    if !events::is_arrive(kind) {
         return false;
     }
     columns::is_occupied(occ, event.link_idx)
@@ -441,7 +442,7 @@ pub(crate) fn move_of(img: &[u8], on: &[u8], r: Round, h: Here, p: Place, ends: 
         };
     }
     let ahead = h.est_next;
-    if views::same_event(
+    if events::same_event(
         ahead.link_event,
         codec::node_link_event(img, p.idx_save as u32),
     ) {

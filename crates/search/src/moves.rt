@@ -13,6 +13,7 @@ use disp_structs::LinkEvent;
 use disp_structs::Metres;
 use disp_structs::Seconds;
 use disp_structs::TrainIdxsView;
+use disp_structs::events;
 use disp_structs::floats;
 use free_path::train_idxs_view::Grown;
 use image::codec;
@@ -139,7 +140,7 @@ fn walk_on(img: &[u8], n: usize, from: usize) -> Index
     while k < n {
         let e = codec::node_link_event(img, k as u32);
         let t = e.est_type;
-        if !views::is_fake(t) {
+        if !events::is_fake(t) {
             return Index { code: 0, index: k };
         }
         k += 1;

@@ -8,6 +8,7 @@ use crate::look::Here;
 use crate::views;
 use disp_structs::EstTime;
 use disp_structs::LinkEvent;
+use disp_structs::events;
 use free_path::columns;
 use free_path::train_idxs_view;
 use free_path::train_idxs_view::Union;
@@ -44,7 +45,7 @@ fn walk_back(img: &[u8], n: usize, from: usize) -> Index
     while 0 < k {
         let e = codec::node_link_event(img, (k - 1) as u32);
         let t = e.est_type;
-        if !views::is_fake(t) {
+        if !events::is_fake(t) {
             return Index {
                 code: 0,
                 index: k - 1,
@@ -69,7 +70,7 @@ fn shift_save(img: &[u8], n: usize, fixed: usize, event: LinkEvent, save: usize)
     if n <= k.index {
         return Index { code: 13, index: 0 };
     }
-    if !views::same_event(event, codec::node_link_event(img, k.index as u32)) {
+    if !events::same_event(event, codec::node_link_event(img, k.index as u32)) {
         return Index { code: 13, index: 0 };
     }
     k
@@ -89,7 +90,7 @@ fn save_of(img: &[u8], r: Round, h: Here, p: Place) -> Index
         };
     }
     let kind = event.est_type;
-    if views::is_fake(kind) {
+    if events::is_fake(kind) {
         return Index {
             code: 0,
             index: p.idx_save,

@@ -1,15 +1,11 @@
-// The views of est_time_statuses in two columns, is_on_path as flags, and events compared.
+// The views of est_time_statuses in two columns, and is_on_path as flags.
 use disp_structs::EstIdx;
-use disp_structs::EstType;
-use disp_structs::LinkEvent;
 use disp_structs::TrainIdxsView;
 use free_path::columns;
 ghost use mathlib.Core.Path.{_≡_};
 ghost use mathlib.Core.List.{List};
 ghost use Prim.Native.Nat.{ℕ, _≤_};
 ghost use lib.ListN.{length, set};
-ghost use Rattle.disp_structs.specs.Values.{isArrive, isFake, sameType, sameEvent};
-ghost use Rattle.disp_structs.specs.declared.EstType.the-variants.{Clear};
 ghost use Rattle.update_definition.specs.State.{viewOf, blocked};
 ghost use Rattle.search.specs.Read.{viewsOf, onFlag};
 
@@ -61,55 +57,4 @@ pub(crate) fn is_on_path(on: &[u8], e: EstIdx) -> bool
         return false;
     }
     on[i] != 0
-}
-
-pub fn is_arrive(t: EstType) -> bool
-    ensures { λ r. ⌜ r ≡ isArrive t ⌝ }
-{
-    match t {
-        EstType::Arrive => true,
-        EstType::Clear => false,
-        EstType::Fake => false,
-    }
-}
-
-pub fn is_fake(t: EstType) -> bool
-    ensures { λ r. ⌜ r ≡ isFake t ⌝ }
-{
-    match t {
-        EstType::Arrive => false,
-        EstType::Clear => false,
-        EstType::Fake => true,
-    }
-}
-
-fn is_clear(t: EstType) -> bool
-    ensures { λ r. ⌜ r ≡ sameType Clear t ⌝ }
-{
-    match t {
-        EstType::Arrive => false,
-        EstType::Clear => true,
-        EstType::Fake => false,
-    }
-}
-
-fn same_type(a: EstType, b: EstType) -> bool
-    ensures { λ r. ⌜ r ≡ sameType a b ⌝ }
-{
-    match a {
-        EstType::Arrive => is_arrive(b),
-        EstType::Clear => is_clear(b),
-        EstType::Fake => is_fake(b),
-    }
-}
-
-pub(crate) fn same_event(a: LinkEvent, b: LinkEvent) -> bool
-    ensures { λ r. ⌜ r ≡ sameEvent a b ⌝ }
-{
-    if a.link_idx.0 != b.link_idx.0 {
-        return false;
-    }
-    let x = a.est_type;
-    let y = b.est_type;
-    same_type(x, y)
 }

@@ -20,7 +20,7 @@ use Rattle.image.specs.declared.codec.PathHeader.{PathHeader}
 use Rattle.free_path.specs.Base.{Res, ok, no, _>>=_, _>>_, need, room, at, part, slice, isEmpty, walkFrom}
 use Rattle.free_path.specs.Columns.{answer, divAt, tr, trains}
 use Rattle.disp_structs.specs.Listed.{listed}
-use Rattle.disp_structs.proofs.ListedLaws.{listed-length, listed-map}
+use Rattle.disp_structs.proofs.ListedLaws.{listed-length, listed-map, listed-same}
 use Rattle.free_path.proofs.CountLaws.{bind-stop, bind-go, part-take, length-part}
 use Rattle.update_definition.specs.State.{Round, Search, Turn, ends, again, withDivNodes, withFree, viewOf, diverging}
 use Rattle.update_definition.specs.Look.{Here}
@@ -28,7 +28,7 @@ use Rattle.update_definition.specs.Moves.{trainsOf, changeDiverge}
 use Rattle.splice.specs.Read.{trainOf, Stands, Changes, atSplit, baseEnd, changeAt}
 use Rattle.splice.specs.Parts.{filled}
 use Rattle.splice.specs.declared.Reached.{Reached}
-use Rattle.splice.proofs.ListLaws.{listed-same, need-and, at-need, paste-in, walk-found}
+use Rattle.splice.proofs.ListLaws.{need-and, at-need, paste-in, walk-found}
 
 -- ---- the new diverge nodes
 

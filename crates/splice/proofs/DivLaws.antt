@@ -13,10 +13,10 @@ use Rattle.free_path.specs.Base.{Res, ok, no, _>>=_, _>>_, need, room, walkFrom
 use Rattle.free_path.specs.Columns.{answer, divAt, tr}
 use Rattle.disp_structs.specs.Listed.{listed}
 use Rattle.free_path.proofs.CountLaws.{bind-stop, answer-no}
-use Rattle.disp_structs.proofs.ListedLaws.{listed-length, listed-at}
+use Rattle.disp_structs.proofs.ListedLaws.{listed-length, listed-at, listed-set}
 use Rattle.update_definition.specs.Join.{Divs, shiftDivs, updateDivNodes}
 use Rattle.splice.specs.Parts.{fromOn, Splices}
-use Rattle.splice.proofs.ListLaws.{listed-set, listed-splice, listed-drop, found-at, from-stopped, from-went, from-turn, from-no, from-end}
+use Rattle.splice.proofs.ListLaws.{listed-splice, listed-drop, found-at, from-stopped, from-went, from-turn, from-no, from-end}
 
 -- ---- a shift
 

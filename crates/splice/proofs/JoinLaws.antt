@@ -27,7 +27,8 @@ use Rattle.splice.specs.Read.{trainOf, Kept, Stands, Joins, finishAt}
 use Rattle.splice.specs.Parts.{fromOn, movesOf}
 use Rattle.splice.specs.Flags.{exchangeLinks}
 use Rattle.splice.specs.declared.Reached.{Reached}
-use Rattle.splice.proofs.ListLaws.{listed-same, read-in}
+use Rattle.disp_structs.proofs.ListedLaws.{listed-same}
+use Rattle.splice.proofs.ListLaws.{read-in}
 use Rattle.splice.proofs.NodeLaws.{kept-le, kept-count, kept-est}
 
 -- ---- answers handed on

@@ -8,26 +8,19 @@ use native.Mathlib.Omega.{arith}
 use native.Mathlib.Nat.{add-zero, add-suc}
 use native.Mathlib.Numerals.{add-one}
 use lib.Dec.{ltb}
-use lib.ListN.{length, getD, take, drop, set, length-set, length-append, length-drop, take-append-drop, drop-of-length-le, List·getD-append}
-use lib.Seq.{take-at, drop-at, ext-getD, getD-set-same, getD-set-other, getD-take, getD-drop, getD-append-add, length-take-le, length-paste-head, paste, paste-suc, length-paste, take-all, drop-cons, drop-set-lt, take-suc-set, append-snoc}
-use borrow.Author.Tests.{ltb-true, ltb-false, eqb-true, eqb-false}
-use lib.Dec.{eqb}
+use lib.ListN.{length, getD, take, drop, set, length-append, length-drop, take-append-drop, drop-of-length-le, List·getD-append}
+use lib.Seq.{take-at, drop-at, getD-take, getD-drop, getD-append-add, length-take-le, length-paste-head, paste, paste-suc, length-paste, take-all, drop-cons, drop-set-lt, take-suc-set, append-snoc}
+use borrow.Author.Tests.{ltb-true, ltb-false}
 use Rattle.free_path.specs.Base.{Res, ok, no, _>>=_, _>>_, need, at, before, stepsTo, walkFrom}
 use Rattle.free_path.specs.Columns.{answer}
 use Rattle.disp_structs.specs.Listed.{listed}
 use Rattle.free_path.proofs.CountLaws.{answer-no}
 use Rattle.splice.specs.Parts.{Splices, fromOn}
 use Rattle.free_path.proofs.ColumnLaws.{listed-read, listed-out}
-use Rattle.disp_structs.proofs.ListedLaws.{listed-length, listed-at}
+use Rattle.disp_structs.proofs.ListedLaws.{listed-length, listed-at, listed-same, listed-take}
 use Rattle.free_path.proofs.WalkLaws.{walk-stop, walk-on, walk-off}
 
 module _ {A : Type 0} where
-  -- only what f reads below n counts
-  pub listed-same : (n : ℕ) (f g : ℕ → A) → ((i : ℕ) → i < n → g i ≡ f i) → listed n g ≡ listed n f
-  unfolding listed
-  listed-same zero f g h = refl
-  listed-same (suc n) f g h = rw (listed-same n f g (λ i k. h i (omega arith)), h n (omega arith))
-
   pub listed-add : (a b : ℕ) (f : ℕ → A) → listed (a + b) f ≡ listed a f ++ listed b (λ i. f (a + i))
   unfolding listed
   listed-add a zero f = rw add-zero (sym (append-nil (listed a f)))
@@ -39,28 +32,15 @@ module _ {A : Type 0} where
   pub listed-parts : (n k : ℕ) (f : ℕ → A) → k ≤ n → listed n f ≡ listed k f ++ listed (n - k) (λ i. f (k + i))
   listed-parts n k f h = let e : n ≡ k + (n - k) = omega arith in ap (λ (m : ℕ). listed m f) e ∙ listed-add k (n - k) f
 
-  pub listed-take : (n k : ℕ) (f : ℕ → A) → k ≤ n → take k (listed n f) ≡ listed k f
-  listed-take n k f h = ap (take k) (listed-parts n k f h) ∙ take-at (listed k f) (listed (n - k) (λ i. f (k + i))) k (listed-length k f)
-
   pub listed-drop : (n k : ℕ) (f : ℕ → A) → k ≤ n → drop k (listed n f) ≡ listed (n - k) (λ i. f (k + i))
   listed-drop n k f h = ap (drop k) (listed-parts n k f h) ∙ drop-at (listed k f) (listed (n - k) (λ i. f (k + i))) k (listed-length k f)
-
-  -- a write inside
-  pub listed-set : (n : ℕ) (f g : ℕ → A) (k : ℕ) (a : A) → k < n → ((i : ℕ) → i < n → (i ≡ k → ⊥) → g i ≡ f i) → g k ≡ a → listed n g ≡ set (listed n f) k a
-  listed-set n f g k a l h q =
-      ext-getD a (listed n g) (set (listed n f) k a) (omega (arith, listed-length n g, listed-length n f, length-set (listed n f) k a))
-      (λ i m. let j : i < n = omega (arith, listed-length n g) in listed-at n g i a j ∙ sym (go i j (eqb i k) refl))
-    where
-      go : (i : ℕ) → i < n → (t : Bool) → eqb i k ≡ t → getD (set (listed n f) k a) i a ≡ g i
-      go i j true e = let z = eqb-true i k e in rw (z, q) (getD-set-same (listed n f) k a a (omega (arith, listed-length n f)))
-      go i j false e = let z = eqb-false i k e in getD-set-other (listed n f) k i a a z ∙ listed-at n f i a j ∙ sym (h i j z)
 
 module _ {A : Type 0} (g f h : ℕ → A) (at c k m : ℕ) where
   pub listed-splice : Splices g f h at c k m → at ≤ m → k ≤ m → listed (at + c + (m - k)) g ≡ take at (listed m f) ++ listed c h ++ drop k (listed m f)
   listed-splice s a b =
       listed-add (at + c) (m - k) g
       ∙ ap₂ (λ (x y : List A). x ++ y)
-      (listed-add at c g ∙ ap₂ (λ (x y : List A). x ++ y) (listed-same at f g (s .first) ∙ sym (listed-take m at f a)) (listed-same c h (λ i. g (at + i)) (s .new)))
+      (listed-add at c g ∙ ap₂ (λ (x y : List A). x ++ y) (listed-same at f g (s .first) ∙ sym (listed-take at m f a)) (listed-same c h (λ i. g (at + i)) (s .new)))
       (listed-same (m - k) (λ i. f (k + i)) (λ i. g (at + c + i)) (s .rest) ∙ sym (listed-drop m k f b))
 
 -- ---- a copy, entry by entry

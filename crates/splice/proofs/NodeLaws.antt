@@ -7,16 +7,16 @@ use Prim.Native.Nat.{ℕ, zero, suc, _+_, _*_, _-_, _≤_, _<_}
 use native.Mathlib.Omega.{arith}
 use native.Mathlib.Nat.{add-zero, add-assoc, eq-or-lt-of-le}
 use lib.Dec.{T, ltb, eqb}
-use lib.Ieee.{Float, nan, inf, fin, binary64, fits, isNan, le}
+use lib.Ieee.{Float, binary64, fits, isNan}
 use lib.Ieee.Fits.{add-fits}
 use lib.ListN.{length, getD, take, drop}
 use lib.Seq.{paste}
 use borrow.Author.Tests.{ltb-true, ltb-false, lt-ltb, le-ltb, eq-eqb, ne-eqb}
 use Rattle.link_rules.specs.Octets.{leAt, putLe}
 use Rattle.link_rules.proofs.OctetLaws.{le-cong, le-add, le-put-same, le-put-other, getD-put, length-put}
-use Rattle.disp_structs.specs.Floats.{bitsOf, inReach}
+use Rattle.disp_structs.specs.Floats.{bitsOf}
 use Rattle.disp_structs.specs.Values.{plus, within, isZero, isNever}
-use Rattle.disp_structs.proofs.FloatLaws.{bits-lt, real-bits}
+use Rattle.disp_structs.proofs.FloatLaws.{bits-lt, real-bits, reach-number}
 use Rattle.disp_structs.specs.declared.Metres.{Metres}
 use Rattle.disp_structs.specs.declared.EstType.{EstType}
 use Rattle.disp_structs.specs.declared.EstType.the-variants.{Arrive, Clear, Fake}
@@ -24,11 +24,11 @@ use Rattle.disp_structs.specs.declared.DispNode.{DispNode}
 use Rattle.image.specs.Image.{estCount, nodePlace, estPlace, estAt, nodeAt, nodeFrom, estFrom, typeOf, typeNumber, putNode}
 use Rattle.free_path.specs.Base.{Res, ok, no, _>>=_, _>>_, need, room, before}
 use Rattle.disp_structs.specs.Listed.{listed}
-use Rattle.disp_structs.proofs.ListedLaws.{listed-length, listed-at}
+use Rattle.disp_structs.proofs.ListedLaws.{listed-length, listed-at, listed-set}
 use Rattle.update_definition.specs.Join.{shiftOffsets, withOffset, freeIsCorrect}
 use Rattle.splice.specs.Read.{Kept}
 use Rattle.splice.specs.Parts.{fromOn, Splices, Sound, putOffset}
-use Rattle.splice.proofs.ListLaws.{listed-set, listed-splice, from-turn, from-no, from-end, at-need, read-before}
+use Rattle.splice.proofs.ListLaws.{listed-splice, from-turn, from-no, from-end, at-need, read-before}
 use Rattle.splice.proofs.MoveLaws.{moved-size, moved-splice}
 
 -- a number is its bytes, wherever they stand
@@ -125,12 +125,6 @@ module _ (bs : List ℕ) (o : Float) (i : ℕ) where
   offset-same l f n =
       ap (λ (e : ℕ). nodeFrom (putOffset o i bs) (nodePlace e i)) (kept-count (putOffset o i bs) bs offset-kept)
       ∙ offset-read bs o (nodePlace (estCount bs) i) (omega arith) f n
-
-pub reach-number : (x : Float) → inReach x ≡ true → T (not (isNan x))
-unfolding inReach isNan le
-reach-number nan h = let z : _≡_ {A = ℕ} 0 1 = cc in absurd (omega arith)
-reach-number (inf s) h = tt
-reach-number (fin s m e) h = tt
 
 module _ (change : Metres) where
   shift-one : DispNode → Res DispNode

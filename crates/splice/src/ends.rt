@@ -2,16 +2,15 @@
 ghost use mathlib.Core.Path.{_≡_};
 ghost use mathlib.Core.Bool.{cond};
 ghost use Prim.Native.Nat.{_+_, _^_, _<_, _≤_};
-ghost use Rattle.disp_structs.specs.Values.{sameEvent};
 ghost use lib.Dec.{leb};
-ghost use Rattle.image.specs.Image.{typeNumber, nodeAt};
+ghost use Rattle.image.specs.Image.{nodeAt};
 ghost use Rattle.free_path.specs.Base.{ok};
 ghost use Rattle.free_path.specs.Columns.{answer};
 ghost use Rattle.disp_structs.specs.Listed.{listed};
 ghost use Rattle.update_definition.specs.Join.{matchNew, matchAt, moveEnds, newEnds};
 use crate::path::Index;
-use disp_structs::EstType;
 use disp_structs::LinkEvent;
+use disp_structs::events;
 use image::codec;
 
 // A refusal's number, or 0; *idx_min and *idx_max.
@@ -21,27 +20,6 @@ pub struct Ends {
     pub high: u32,
 }
 
-fn type_number(t: EstType) -> u8
-    ensures { λ r. ⌜ r ≡ typeNumber t ⌝ }
-{
-    match t {
-        EstType::Arrive => 0,
-        EstType::Clear => 1,
-        EstType::Fake => 2,
-    }
-}
-
-fn same_event(a: LinkEvent, b: LinkEvent) -> bool
-    ensures { λ r. ⌜ r ≡ sameEvent a b ⌝ }
-{
-    if a.link_idx.0 != b.link_idx.0 {
-        return false;
-    }
-    let x = a.est_type;
-    let y = b.est_type;
-    type_number(x) == type_number(y)
-}
-
 // From i on the first of the k nodes of the new path that has the event.
 fn match_new(fresh: &[u8], k: u32, i: u32, e: LinkEvent) -> Index
     ensures { λ r. ⌜ (answer (r .code) (r .at) ≡ matchNew (listed k (nodeAt (now (fresh .entry)))) i e) × (r .at ≤ k) ⌝ }
@@ -49,7 +27,7 @@ fn match_new(fresh: &[u8], k: u32, i: u32, e: LinkEvent) -> Index
     let mut j = i;
     while j < k {
         let x = codec::node_link_event(fresh, j);
-        if same_event(x, e) {
+        if events::same_event(x, e) {
             return Index { code: 0, at: j };
         }
         j += 1;

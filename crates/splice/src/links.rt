@@ -12,8 +12,8 @@ ghost use Rattle.free_path.specs.LinkOptType.{linksOnPath};
 ghost use Rattle.free_path.specs.Columns.{answer};
 ghost use Rattle.disp_structs.specs.Listed.{listed};
 ghost use Rattle.splice.specs.Flags.{bit, linksOf, flagEvent, Holds, Gives, Below, exchanged, exchangeLinks};
-use disp_structs::EstType;
 use disp_structs::LinkEvent;
+use disp_structs::events;
 use image::codec;
 use link_rules::link_idx::LinkIdx;
 
@@ -21,11 +21,7 @@ fn is_arrive(e: LinkEvent) -> bool
     ensures { λ r. ⌜ r ≡ isArrive (e .«est_type») ⌝ }
 {
     let t = e.est_type;
-    match t {
-        EstType::Arrive => true,
-        EstType::Clear => false,
-        EstType::Fake => false,
-    }
+    events::is_arrive(t)
 }
 
 fn flag_at(flags: &[u8], l: LinkIdx) -> u8

@@ -15,6 +15,7 @@ use Rattle.disp_structs.specs.Train.{Train}
 use Rattle.disp_structs.specs.declared.EstTime.{EstTime}
 use Rattle.disp_structs.specs.declared.DispNode.{DispNode}
 use Rattle.disp_structs.specs.declared.DivergeNode.{DivergeNode}
+use Rattle.disp_structs.proofs.FloatLaws.{reach-number}
 use Rattle.est_times.proofs.Counting.{clash}
 use Rattle.free_path.specs.Base.{ok, at}
 use Rattle.image.specs.Fields.{divergeTrainField, fieldBound}
@@ -33,12 +34,6 @@ use Rattle.update_laws.proofs.AcceptedClean.{good-clean}
 use Rattle.update_laws.proofs.StoredGood.{stored-good, decoded-stored}
 
 -- ---- floats that are accepted are no NaN
-
-reach-number : (x : Float) → inReach x ≡ true → T (not (isNan x))
-unfolding inReach isNan le lt eq
-reach-number nan h = clash false h refl
-reach-number (inf s) h = tt
-reach-number (fin s m e) h = tt
 
 time-number : (x : Float) → timeAccepted (record { 0 = x }) ≡ true → T (not (isNan x))
 unfolding inReach isNan le lt eq

@@ -14,9 +14,9 @@ ghost use Rattle.image.specs.Image.{estCount, nodeAt};
 ghost use Rattle.validate.specs.Paths.{estsOf, pathOf};
 use disp_structs::DispNode;
 use disp_structs::EstIdx;
-use disp_structs::EstType;
 use disp_structs::Metres;
 use disp_structs::Seconds;
+use disp_structs::events;
 use disp_structs::floats;
 use free_path::columns;
 use image::codec;
@@ -99,22 +99,12 @@ fn more(k: u64, one: bool) -> u64
     k
 }
 
-fn is_arrive(t: EstType) -> bool
-    ensures { λ r. ⌜ r ≡ isArrive t ⌝ }
-{
-    match t {
-        EstType::Arrive => true,
-        EstType::Clear => false,
-        EstType::Fake => false,
-    }
-}
-
 fn in_conflict(img: &[u8], occ: &[u32], i: u32) -> bool
     ensures { λ r. ⌜ r ≡ inConflict (now (occ .entry)) (nodeAt (now (img .entry)) i) ⌝ }
 {
     let e = codec::node_link_event(img, i);
     let t = e.est_type;
-    if is_arrive(t) {
+    if events::is_arrive(t) {
         return columns::is_occupied(occ, e.link_idx);
     }
     false

@@ -1,3 +1,4 @@
+use Rattle.image_store.specs.Stored.{wordsInto}
 use borrow.Author.Needs.{needs}
 use Rattle.image_store.proofs.put_words.Statement.{statement}
 use Rattle.image_store.proofs.put_words.Tie as tie
@@ -48,6 +49,7 @@ same-length : tie.Need-same-length
 same-length c = search needs
 
 returns : tie.Need-returns
+unfolding wordsInto
 returns c = cc
 
 pub put-words-spec : {M : Type 1} → statement M

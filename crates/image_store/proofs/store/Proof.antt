@@ -26,8 +26,7 @@ same-length c = search needs
 returns : tie.Need-returns
 returns c =
     let a = c .before .before .before .before .before .before .before .before .before .before .before .before .before .before .before .before .before .before .before .before .before .before .before .before .args in
-    let p = c .before .before .before .before .before .before .before .before .before .before .before .before .before .before .before .before .before .before .before .before .before .before .before .before .pre in
-    c .before .before .put-path-header .ensures ∙ stored-is (now (a .img)) (now (a .dt)) (now (a .dn)) (a .h) (now (a .image)) (p .0) (p .1) (c .before .before .before .before .before .before .before .before .before .before .before .before .before .before .before .before .before .before .put-nodes .last .0) (c .before .before .before .before .before .before .before .before .before .before .before .before .before .before .clear-nodes .last .0) (c .before .before .before .before .before .before .before .before .before .before .put-diverges .last .0) (c .before .before .before .before .before .before .clear-diverges .last .0) (c .before .before .before .before .before .before .before .before .before .before .before .before .before .before .before .before .before .before .put-nodes .ensures) (c .before .before .before .before .before .before .before .before .before .before .before .before .before .before .clear-nodes .ensures) (c .before .before .before .before .before .before .before .before .before .before .put-diverges .ensures) (c .before .before .before .before .before .before .clear-diverges .ensures)
+    c .before .before .put-path-header .ensures ∙ stored-is (now (a .img)) (now (a .dt)) (now (a .dn)) (a .h) (now (a .image)) (c .before .before .before .before .before .before .before .before .before .before .before .before .before .before .before .before .before .before .put-nodes .last .0) (c .before .before .before .before .before .before .before .before .before .before .before .before .before .before .clear-nodes .last .0) (c .before .before .before .before .before .before .before .before .before .before .put-diverges .last .0) (c .before .before .before .before .before .before .clear-diverges .last .0) (c .before .before .before .before .before .before .before .before .before .before .before .before .before .before .before .before .before .before .put-nodes .ensures) (c .before .before .before .before .before .before .before .before .before .before .before .before .before .before .clear-nodes .ensures) (c .before .before .before .before .before .before .before .before .before .before .put-diverges .ensures) (c .before .before .before .before .before .before .clear-diverges .ensures)
 
 pub store-spec : {M : Type 1} → statement M
 store-spec =

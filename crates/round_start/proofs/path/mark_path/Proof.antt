@@ -16,13 +16,13 @@ Inv-loop img n on₀ i₀ on i = (length on ≡ length on₀) × (i ≤ n) × Ma
 abbrev μ-loop : tie.MeasureT-loop
 μ-loop img n on₀ i₀ on i = n - i
 
-clear-flags-requires : tie.Need-clear-flags-requires Inv-loop μ-loop
-clear-flags-requires c κs = search needs
+zero-all-requires : tie.Need-zero-all-requires Inv-loop μ-loop
+zero-all-requires c κs = search needs
 
 loop-holds : tie.Need-loop-holds Inv-loop μ-loop
 loop-holds c =
     let a = c .before .before .before .before .before .before .args in
-    (refl, omega arith, mark-none (now (a .img)) (c .before .before .clear-flags .last .0) (length (now (a .on))) (c .before .before .clear-flags .ensures))
+    (refl, omega arith, mark-none (now (a .img)) (c .before .before .zero-all .last .0) (length (now (a .on))) (c .before .before .zero-all .ensures))
 
 node-est-idx-requires : tie.Need-node-est-idx-requires Inv-loop μ-loop
 node-est-idx-requires c κs = search needs
@@ -35,7 +35,7 @@ slice-write-on c =
     let a = c .before .before .before .before .before .before .before .before .before .before .args in
     let l = c .before .before .before .loop in
     let e = ap (λ (x : EstIdx). x .0) (c .before .node-est-idx .ensures) in
-    let size = ap length (c .before .before .before .before .before .before .clear-flags .ensures) ∙ length-replicate {A = ℕ} (length (now (a .on))) 0 in
+    let size = ap length (c .before .before .before .before .before .before .zero-all .ensures) ∙ length-replicate {A = ℕ} (length (now (a .on))) 0 in
     let inside = c .before .before .before .before .before .before .before .before .before .before .pre (l .i) (omega arith) in
     omega (arith, e, size, inside)
 
@@ -50,7 +50,7 @@ loop-again c =
     let a = c .before .before .before .before .before .before .before .before .before .before .args in
     let l = c .before .before .before .loop in
     let e = ap (λ (x : EstIdx). x .0) (c .before .node-est-idx .ensures) in
-    let size = ap length (c .before .before .before .before .before .before .clear-flags .ensures) ∙ length-replicate {A = ℕ} (length (now (a .on))) 0 in
+    let size = ap length (c .before .before .before .before .before .before .zero-all .ensures) ∙ length-replicate {A = ℕ} (length (now (a .on))) 0 in
     let inside = c .before .before .before .before .before .before .before .before .before .before .pre (l .i) (omega arith) in
     (search needs, search needs, mark-turn (now (a .img)) (l .on) (l .i) (c .before .node-est-idx .result .0) e (omega (arith, e, size, inside)) (l .inv .2))
 
@@ -70,7 +70,7 @@ mark-path-spec =
     (tie.spec
     Inv-loop
     μ-loop
-    clear-flags-requires
+    zero-all-requires
     loop-holds
     node-est-idx-requires
     cast-on

@@ -7,7 +7,7 @@ use Rattle.search.proofs.rewind.save_of.Statement.{statement}
 use Rattle.search.proofs.rewind.save_of.Tie as tie
 use Rattle.search.proofs.rewind.save_of.Reads as reads
 use Rattle.search.proofs.rewind.save_of.Lts as lts
-use Rattle.search.proofs.views.is_fake.Reads as is-fake-reads
+use Rattle.disp_structs.proofs.events.is_fake.Reads as is-fake-reads
 use Rattle.search.proofs.rewind.shift_save.Reads as shift-save-reads
 
 -- src/rewind.rt:87:9

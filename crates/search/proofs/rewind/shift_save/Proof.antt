@@ -14,7 +14,7 @@ use Rattle.search.proofs.rewind.shift_save.Tie as tie
 use Rattle.search.proofs.rewind.shift_save.Reads as reads
 use Rattle.search.proofs.rewind.shift_save.Lts as lts
 use Rattle.image.proofs.codec.node_link_event.Reads as node-link-event-reads
-use Rattle.search.proofs.views.same_event.Reads as same-event-reads
+use Rattle.disp_structs.proofs.events.same_event.Reads as same-event-reads
 use Rattle.search.proofs.rewind.walk_back.Reads as walk-back-reads
 
 -- src/rewind.rt:63:9

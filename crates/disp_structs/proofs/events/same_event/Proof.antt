@@ -1,8 +1,8 @@
 use borrow.Author.Tests.{eq-eqb, ne-eqb}
 use Rattle.disp_structs.specs.Values.{sameEvent}
 use borrow.Author.Needs.{needs}
-use Rattle.search.proofs.views.same_event.Statement.{statement}
-use Rattle.search.proofs.views.same_event.Tie as tie
+use Rattle.disp_structs.proofs.events.same_event.Statement.{statement}
+use Rattle.disp_structs.proofs.events.same_event.Tie as tie
 
 returns : tie.Need-returns
 unfolding sameEvent
