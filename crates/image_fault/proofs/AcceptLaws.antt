@@ -18,7 +18,8 @@ use Rattle.image.specs.Codec.{decoded, storedInto, encoded}
 use Rattle.image.proofs.RecordLaws.{Number}
 use Rattle.image.proofs.Parts.{InRoom}
 use Rattle.image.proofs.CodecLaws.{GoodImage, Keeps, encoded-decoded, stored-encoded}
-use Rattle.image_fault.specs.ImageFault.{lengthFault, layoutFault, CountsFit, countsFit, partsFit, trainFits, estTypeFits, nodeTypeFits, zeroWord, unusedZero, recordsFit, imageFits, firstUnfit, floatFits, timeFits, distFits, estLinksFit, eventFits, estFits, nodeFits, headerFits, valueFault, cycleFault, routeFault, imageFault}
+use Rattle.image_fault.specs.ImageFault.{lengthFault, layoutFault, countsFit, partsFit, trainFits, estTypeFits, nodeTypeFits, zeroWord, unusedZero, recordsFit, imageFits, firstUnfit, floatFits, timeFits, distFits, estLinksFit, eventFits, estFits, nodeFits, headerFits, valueFault, cycleFault, routeFault, imageFault}
+use Rattle.image_fault.specs.CodeFacts.{CountsFit}
 use Rattle.link_rules.specs.Refusals.{refusedUnless, orElse}
 use Rattle.link_rules.specs.declared.refusal.Refusal.{Refusal}
 use Rattle.image_fault.proofs.ScanLaws.{both, first-clean}

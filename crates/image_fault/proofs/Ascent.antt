@@ -14,7 +14,8 @@ use Rattle.disp_structs.proofs.ListedLaws.{listed-at}
 use Rattle.est_times.proofs.WalkLaws.{or-cases}
 use Rattle.est_times.proofs.CycleLaws.{rank-none}
 use Rattle.image.specs.Image.{estCount, estAt}
-use Rattle.image_fault.specs.ImageFault.{nexts, alts, cycleRefused, cycleFault, isLater, leadsOn}
+use Rattle.image_fault.specs.ImageFault.{nexts, alts, cycleRefused, cycleFault}
+use Rattle.image_fault.specs.CodeFacts.{isLater, leadsOn}
 use Rattle.link_rules.specs.Refusals.{noRefusal}
 use Rattle.image_fault.proofs.ScanLaws.{both}
 

@@ -26,7 +26,8 @@ use Rattle.image.proofs.CodecLaws.{Keeps, Held}
 use Rattle.image.proofs.MatchEncoded.{encoded-match, renumbered-held}
 use Rattle.image.specs.ImageMatch.{ImagesMatch}
 use Rattle.image.proofs.MatchLaws.{le-before, le-after, header-low, header-high, est-count, path-count, diverge-count, diverge-room, path-header, est-match, node-match, diverge-match, decoded-match}
-use Rattle.image_fault.specs.ImageFault.{lengthFault, firstUnfit, CountsFit, countsFit, partsFit, trainFits, estTypeFits, nodeTypeFits, zeroWord, unusedZero, recordsFit, imageFits, estLinksFit, eventFits, estFits, nodeFits, headerFits, valueFault, nexts, alts, cycleFault, comesFrom, endsAt, arrivesOn, arrived, firstArrival, onRoute, innerFits, divergeFits, routeFault, imageFault}
+use Rattle.image_fault.specs.ImageFault.{lengthFault, firstUnfit, countsFit, partsFit, trainFits, estTypeFits, nodeTypeFits, zeroWord, unusedZero, recordsFit, imageFits, estLinksFit, eventFits, estFits, nodeFits, headerFits, valueFault, nexts, alts, cycleFault, comesFrom, endsAt, arrivesOn, arrived, firstArrival, onRoute, innerFits, divergeFits, routeFault, imageFault}
+use Rattle.image_fault.specs.CodeFacts.{CountsFit}
 use Rattle.link_rules.specs.Refusals.{refusedUnless, orElse}
 use Rattle.link_rules.specs.declared.refusal.Refusal.{Refusal}
 use Rattle.image_fault.proofs.ScanLaws.{step-fit, step-unfit}

@@ -11,7 +11,8 @@ use lib.ListN.{getD}
 use borrow.Author.Tests.{eqb-true, eqb-false, eq-eqb, ne-eqb}
 use Rattle.link_rules.specs.Octets.{leAt}
 use Rattle.link_rules.specs.Network.{allBelow}
-use Rattle.image_fault.specs.ImageFault.{zeroWord, zeroByte}
+use Rattle.image_fault.specs.ImageFault.{zeroWord}
+use Rattle.image_fault.specs.CodeFacts.{zeroByte}
 
 -- n is 0 where a and b are, and nowhere else
 zero-both : (n a b : ℕ) → (n ≡ 0 → (a ≡ 0) × (b ≡ 0)) → (a ≡ 0 → b ≡ 0 → n ≡ 0) → eqb n 0 ≡ (eqb a 0 && eqb b 0)

@@ -1,7 +1,7 @@
 -- One pass over an image: 6 to 9 asked of a record together, by its numbers. Where all pass there is no refusal; where not, ImageFault says which comes
 -- first. Assumes nothing.
 use Prim.Native.Nat.{ℕ, _+_}
-use mathlib.Core.Bool.{Bool, not, _&&_, _||_}
+use mathlib.Core.Bool.{Bool, not, _&&_}
 use mathlib.Core.List.{List}
 use lib.Dec.{leb, ltb, eqb}
 use lib.ListN.{length}
@@ -11,11 +11,11 @@ use Rattle.image.specs.Image.{estCount, pathCount, divergeCount, estPlace, node
 use Rattle.image_fault.specs.ImageFault.{countsFit, partsFit, trainFits, unusedZero, floatFits, timeFits, headerFits, cycleFault, onRoute, divergeFits}
 
 -- an event: the type is at most 2, the link below L, and not 0 at an Arrive
-unfoldable pub eventPasses : ℕ → ℕ → ℕ → Bool
+unfoldable pub eventPasses : (l link kind : ℕ) → Bool
 eventPasses l link kind = leb kind 2 && (ltb link l && not (eqb kind 0 && eqb link 0))
 
 -- an est record lies within the image, and passes 6 and 7
-unfoldable pub estPasses : List ℕ → ℕ → ℕ → Bool
+unfoldable pub estPasses : (bs : List ℕ) (l i : ℕ) → Bool
 estPasses bs l i =
     leb (estPlace i + 32) (length bs)
     && (floatFits (readFirst estDistField bs (estPlace i))
@@ -26,7 +26,7 @@ estPasses bs l i =
     && ltb (readIn estPrevAltField bs (estPlace i)) (estCount bs))))))
 
 -- a path record lies within the image, and passes 6 and 7
-unfoldable pub nodePasses : List ℕ → ℕ → ℕ → Bool
+unfoldable pub nodePasses : (bs : List ℕ) (l i : ℕ) → Bool
 nodePasses bs l i =
     leb (nodePlace (estCount bs) i + 32) (length bs)
     && (floatFits (readFirst nodeOffsetField bs (nodePlace (estCount bs) i))
@@ -36,7 +36,7 @@ nodePasses bs l i =
     && eqb (readIn nodeSpareField bs (nodePlace (estCount bs) i)) 0))))
 
 -- and 9
-unfoldable pub pathPasses : List ℕ → ℕ → ℕ → Bool
+unfoldable pub pathPasses : (bs : List ℕ) (l i : ℕ) → Bool
 pathPasses bs l i = nodePasses bs l i && onRoute bs i
 
 unfoldable pub headPasses : List ℕ → Bool
@@ -46,12 +46,12 @@ headPasses bs = countsFit bs && (partsFit bs && (trainFits bs && (headerFits bs 
 unfoldable pub acyclic : List ℕ → Bool
 acyclic bs = eqb (cycleFault bs .number) 0
 
-unfoldable pub recordsPass : List ℕ → ℕ → Bool
+unfoldable pub recordsPass : (bs : List ℕ) (l : ℕ) → Bool
 recordsPass bs l =
     allBelow (estCount bs) (estPasses bs l)
     && (acyclic bs
     && (allBelow (pathCount bs) (pathPasses bs l)
     && allBelow (divergeCount bs) (divergeFits bs)))
 
-unfoldable pub allFit : List ℕ → ℕ → Bool
+unfoldable pub allFit : (bs : List ℕ) (l : ℕ) → Bool
 allFit bs l = leb 2 l && (leb l 4000 && (headPasses bs && recordsPass bs l))

@@ -1,10 +1,10 @@
 -- Refusals 6 to 9 of an image with their places (document 01, Update). L is the number of links. Assumes nothing.
-use Prim.Native.Nat.{ℕ, zero, suc, _+_, _*_, _-_, _%_, _≤_}
+use Prim.Native.Nat.{ℕ, zero, suc, _+_, _*_, _-_, _%_}
 use mathlib.Core.Bool.{Bool, true, false, cond, not, _&&_, _||_}
 use mathlib.Core.List.{List}
 use lib.Dec.{ltb, leb, eqb}
 use lib.Ieee.{lt}
-use lib.ListN.{length, getD}
+use lib.ListN.{length}
 use Rattle.link_rules.specs.Octets.{leAt}
 use Rattle.link_rules.specs.LinkIdx.{noLink, sameLink}
 use Rattle.link_rules.specs.Network.{allBelow}
@@ -26,7 +26,7 @@ use Rattle.link_rules.specs.declared.refusal.Refusal.{Refusal}
 use Rattle.link_rules.specs.Refusals.{noRefusal, refused, orElse, refusedUnless}
 
 -- refusal n at the first of the k indices from i on that does not fit
-unfoldable pub firstUnfit : ℕ → (ℕ → Bool) → ℕ → ℕ → Refusal
+unfoldable pub firstUnfit : (n : ℕ) (fits : ℕ → Bool) (k i : ℕ) → Refusal
 firstUnfit n fits zero i = noRefusal
 firstUnfit n fits (suc k) i = elim (fits i) [ true ↦ firstUnfit n fits k (i + 1) | false ↦ refused n i ]
 
@@ -43,16 +43,6 @@ countsFit bs =
     leb 1 (estCount bs) && (leb (estCount bs) 512 && (leb 1 (pathCount bs) && (leb (pathCount bs) (estCount bs)
     && (leb 2 (divergeCount bs) && (leb (divergeCount bs) (divergeRoom bs) && leb (divergeRoom bs) 1024)))))
 
--- the same as a fact
-pub record CountsFit (bs : List ℕ) : Type 0 where
-  pub some-est : 1 ≤ estCount bs
-  pub few-est : estCount bs ≤ 512
-  pub some-path : 1 ≤ pathCount bs
-  pub few-path : pathCount bs ≤ estCount bs
-  pub some-diverge : 2 ≤ divergeCount bs
-  pub few-diverge : divergeCount bs ≤ divergeRoom bs
-  pub few-room : divergeRoom bs ≤ 1024
-
 -- the parts follow without gaps, and the size is that of the whole buffer
 unfoldable pub partsFit : List ℕ → Bool
 partsFit bs =
@@ -64,18 +54,15 @@ unfoldable pub trainFits : List ℕ → Bool
 trainFits bs = not (eqb (trainIdx bs .0) 0) && (eqb (readField spareField bs) 0 && eqb (readField spareRestField bs) 0)
 
 -- a type is at most 2, and the spare bytes behind it are 0
-unfoldable pub estTypeFits : List ℕ → ℕ → Bool
+unfoldable pub estTypeFits : (bs : List ℕ) (i : ℕ) → Bool
 estTypeFits bs i = leb (readIn estKindField bs (estPlace i)) 2
 
-unfoldable pub nodeTypeFits : List ℕ → ℕ → Bool
+unfoldable pub nodeTypeFits : (bs : List ℕ) (i : ℕ) → Bool
 nodeTypeFits bs i = leb (readIn nodeKindField bs (nodePlace (estCount bs) i)) 2 && eqb (readIn nodeSpareField bs (nodePlace (estCount bs) i)) 0
 
 -- the four bytes of number j from at are 0
-unfoldable pub zeroWord : List ℕ → ℕ → ℕ → Bool
+unfoldable pub zeroWord : (bs : List ℕ) (at j : ℕ) → Bool
 zeroWord bs at j = eqb (leAt 4 bs (at + 4 * j)) 0
-
-abbrev pub zeroByte : List ℕ → ℕ → Bool
-zeroByte bs i = eqb (getD bs i 0) 0
 
 -- the path records from N on and the diverge records from M on are zero
 unfoldable pub unusedZero : List ℕ → Bool
@@ -114,10 +101,10 @@ eventFits l e = ltb (e .«link_idx» .0) l && not (isArrive (e .«est_type») &&
 unfoldable pub estLinksFit : ℕ → EstTime → Bool
 estLinksFit e x = ltb (x .«idx_next» .0) e && (ltb (x .«idx_next_alt» .0) e && (ltb (x .«idx_prev» .0) e && ltb (x .«idx_prev_alt» .0) e))
 
-unfoldable pub estFits : List ℕ → ℕ → ℕ → Bool
+unfoldable pub estFits : (bs : List ℕ) (l i : ℕ) → Bool
 estFits bs l i = floatFits (readFirst estDistField bs (estPlace i)) && (estLinksFit (estCount bs) (estAt bs i) && eventFits l (estAt bs i .«link_event»))
 
-unfoldable pub nodeFits : List ℕ → ℕ → ℕ → Bool
+unfoldable pub nodeFits : (bs : List ℕ) (l i : ℕ) → Bool
 nodeFits bs l i =
     floatFits (readFirst nodeOffsetField bs (nodePlace (estCount bs) i)) && (timeFits (readIn nodeTimeField bs (nodePlace (estCount bs) i))
     && (ltb (nodeAt bs i .«est_idx» .0) (estCount bs) && eventFits l (nodeAt bs i .«link_event»)))
@@ -130,7 +117,7 @@ unfoldable pub headerFits : List ℕ → Bool
 headerFits bs = distFits (readField searchField bs) && (distFits (readField fixedMaxField bs) && indicesFit (pathHeader bs))
 
 -- est records come first, then path records, then the header
-unfoldable pub valueFault : List ℕ → ℕ → Refusal
+unfoldable pub valueFault : (bs : List ℕ) (l : ℕ) → Refusal
 valueFault bs l =
     orElse (firstUnfit 7 (estFits bs l) (estCount bs) 0)
     (orElse (firstUnfit 7 (nodeFits bs l) (pathCount bs) 0)
@@ -152,14 +139,6 @@ cycleRefused (At i) = refused 8 i
 unfoldable pub cycleFault : List ℕ → Refusal
 cycleFault bs = cycleRefused (firstOnCycle (nexts bs) (alts bs) (estCount bs))
 
--- t is none, or stands after record i
-abbrev pub isLater : ℕ → EstIdx → Bool
-isLater i t = sameEst t noEst || ltb i (t .0)
-
--- record i leads to later ones alone; where every record does, there is no cycle
-unfoldable pub leadsOn : List ℕ → ℕ → Bool
-leadsOn bs i = isLater i (estAt bs i .«idx_next») && isLater i (estAt bs i .«idx_next_alt»)
-
 -- ---- 9: the path, then the diverge nodes
 
 -- a step by next or alt; 0 is none, and never a step
@@ -167,13 +146,13 @@ unfoldable pub stepsTo : EstIdx → EstIdx → EstIdx → Bool
 stepsTo next alt x = not (sameEst x noEst) && (sameEst x next || sameEst x alt)
 
 -- the path starts at est 0, and each node is a step from the node before it
-unfoldable pub comesFrom : List ℕ → ℕ → Bool
+unfoldable pub comesFrom : (bs : List ℕ) (i : ℕ) → Bool
 comesFrom bs i =
     cond (eqb i 0) (sameEst (nodeAt bs i .«est_idx») noEst)
     (let b = nodeAt bs (i - 1) .«est_idx» .0 in stepsTo (estAt bs b .«idx_next») (estAt bs b .«idx_next_alt») (nodeAt bs i .«est_idx»))
 
 -- the last node's est has no next
-unfoldable pub endsAt : List ℕ → ℕ → Bool
+unfoldable pub endsAt : (bs : List ℕ) (i : ℕ) → Bool
 endsAt bs i = not (eqb (i + 1) (pathCount bs)) || sameEst (estAt bs (nodeAt bs i .«est_idx» .0) .«idx_next») noEst
 
 -- an Arrive on link l
@@ -181,15 +160,15 @@ unfoldable pub arrivesOn : LinkIdx → LinkEvent → Bool
 arrivesOn l e = isArrive (e .«est_type») && sameLink (e .«link_idx») l
 
 -- one of the first i nodes is an Arrive on link l
-unfoldable pub arrived : List ℕ → LinkIdx → ℕ → Bool
+unfoldable pub arrived : (bs : List ℕ) (l : LinkIdx) (i : ℕ) → Bool
 arrived bs l zero = false
 arrived bs l (suc i) = arrived bs l i || arrivesOn l (nodeAt bs i .«link_event»)
 
 -- an Arrive whose link no Arrive before it has, or no Arrive
-unfoldable pub firstArrival : List ℕ → ℕ → Bool
+unfoldable pub firstArrival : (bs : List ℕ) (i : ℕ) → Bool
 firstArrival bs i = not (isArrive (nodeAt bs i .«link_event» .«est_type») && arrived bs (nodeAt bs i .«link_event» .«link_idx») i)
 
-unfoldable pub onRoute : List ℕ → ℕ → Bool
+unfoldable pub onRoute : (bs : List ℕ) (i : ℕ) → Bool
 onRoute bs i = comesFrom bs i && (endsAt bs i && firstArrival bs i)
 
 -- between the first and the last: a train, a node from 1 to N - 1, not below the node before it
@@ -198,7 +177,7 @@ innerFits n d b =
     not (eqb (d .«train_idx» .0) 0) && (leb 1 (d .«disp_node_idx») && (ltb (d .«disp_node_idx») n && leb (b .«disp_node_idx») (d .«disp_node_idx»)))
 
 -- first (0, 0), last at N
-unfoldable pub divergeFits : List ℕ → ℕ → Bool
+unfoldable pub divergeFits : (bs : List ℕ) (i : ℕ) → Bool
 divergeFits bs i =
     cond (eqb i 0) (eqb (divergeAt bs i .«train_idx» .0) 0 && eqb (divergeAt bs i .«disp_node_idx») 0)
     (cond (eqb (i + 1) (divergeCount bs)) (eqb (divergeAt bs i .«disp_node_idx») (pathCount bs))
@@ -209,7 +188,7 @@ routeFault bs = orElse (firstUnfit 9 (onRoute bs) (pathCount bs) 0) (firstUnfit 
 
 -- ---- all in order
 
-unfoldable pub imageFault : List ℕ → ℕ → Refusal
+unfoldable pub imageFault : (bs : List ℕ) (l : ℕ) → Refusal
 imageFault bs l =
     orElse (lengthFault l)
     (orElse (layoutFault bs)

@@ -1,2 +1,3 @@
 pub mod ImageFault
 pub mod AllFit
+pub mod CodeFacts

@@ -12,6 +12,7 @@ use est_times::Cycle;
 use image::codec;
 use image::codec::PathHeader;
 use link_rules::octets;
+use link_rules::refusal;
 use link_rules::refusal::Refusal;
 ghost use mathlib.Core.Path.{_≡_};
 ghost use mathlib.Core.Bool.{cond, not, _&&_};
@@ -21,7 +22,8 @@ ghost use Prim.Native.Nat.{ℕ, _+_, _-_, _*_, _^_, _≤_, _<_};
 ghost use Rattle.link_rules.specs.Network.{allBelow};
 ghost use Rattle.disp_structs.specs.Values.{isArrive};
 ghost use Rattle.image.specs.Image.{estCount, pathCount, estAt, nodeAt};
-ghost use Rattle.image_fault.specs.ImageFault.{imageFault, imageFits, valueFault, cycleFault, routeFault, firstUnfit, CountsFit, countsFit, partsFit, trainFits, estTypeFits, nodeTypeFits, zeroWord, zeroByte, unusedZero, recordsFit, floatFits, timeFits, distFits, eventFits, estLinksFit, estFits, nodeFits, indicesFit, headerFits, isLater, leadsOn, stepsTo, comesFrom, endsAt, onRoute, innerFits, divergeFits};
+ghost use Rattle.image_fault.specs.ImageFault.{imageFault, imageFits, valueFault, cycleFault, routeFault, firstUnfit, countsFit, partsFit, trainFits, estTypeFits, nodeTypeFits, zeroWord, unusedZero, recordsFit, floatFits, timeFits, distFits, eventFits, estLinksFit, estFits, nodeFits, indicesFit, headerFits, stepsTo, comesFrom, endsAt, onRoute, innerFits, divergeFits};
+ghost use Rattle.image_fault.specs.CodeFacts.{CountsFit, zeroByte, isLater, leadsOn};
 
 // ---- 6: header, size, types, spare bytes, unused records
 
@@ -375,24 +377,10 @@ fn value_fault(img: &[u8], l: u32) -> Refusal
     requires { ⌜ CountsFit (now img) ⌝ }
     ensures { λ r. ⌜ r ≡ valueFault (now (img .entry)) l ⌝ }
 {
-    let f = est_fault(img, l, codec::est_count(img));
-    if f.number != 0 {
-        return f;
-    }
-    let g = node_fault(img, l, codec::path_count(img));
-    if g.number != 0 {
-        return g;
-    }
-    if header_fits(img) {
-        return Refusal {
-            number: 0,
-            place: 0,
-        };
-    }
-    Refusal {
-        number: 7,
-        place: 0,
-    }
+    let in_ests = est_fault(img, l, codec::est_count(img));
+    let in_path = node_fault(img, l, codec::path_count(img));
+    let in_header = refusal::refused_unless(header_fits(img), 7);
+    refusal::or_else(in_ests, refusal::or_else(in_path, in_header))
 }
 
 // ---- 8: next and alt form a cycle

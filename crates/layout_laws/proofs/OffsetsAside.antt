@@ -14,7 +14,8 @@ use Rattle.disp_structs.proofs.ListedLaws.{listed-same}
 use Rattle.image.specs.Image.{estCount, pathCount, divergeCount, divergeRoom, pathHeader, estPlace, nodePlace, divergePlace, nodeFrom, divergeFrom, estAt, nodeAt, divergeAt}
 use Rattle.image.proofs.Writers.{side}
 use Rattle.image.proofs.RecordLaws.{est-cong, diverge-cong}
-use Rattle.image_fault.specs.ImageFault.{CountsFit, countsFit, partsFit, trainFits, estTypeFits, nodeTypeFits, zeroWord, unusedZero, recordsFit, imageFits, floatFits, estFits, nodeFits, headerFits, valueFault, nexts, alts, cycleFault, comesFrom, endsAt, arrived, firstArrival, onRoute, divergeFits, routeFault, imageFault}
+use Rattle.image_fault.specs.ImageFault.{countsFit, partsFit, trainFits, estTypeFits, nodeTypeFits, zeroWord, unusedZero, recordsFit, imageFits, floatFits, estFits, nodeFits, headerFits, valueFault, nexts, alts, cycleFault, comesFrom, endsAt, arrived, firstArrival, onRoute, divergeFits, routeFault, imageFault}
+use Rattle.image_fault.specs.CodeFacts.{CountsFit}
 use Rattle.image_fault.proofs.AcceptLaws.{Accepted, accepted, fits-counts, clean-node, node-fits}
 use Rattle.image_fault.proofs.MatchLaws.{all-same, first-same}
 

@@ -16,7 +16,8 @@ use Rattle.disp_structs.specs.declared.DispNode.{DispNode}
 use Rattle.disp_structs.specs.declared.EstType.{EstType}
 use Rattle.disp_structs.specs.declared.EstType.the-variants.{Arrive, Clear, Fake}
 use Rattle.image.specs.Image.{estCount, pathCount, nodePlace, nodeFrom, nodeAt}
-use Rattle.image_fault.specs.ImageFault.{imageFault, floatFits, CountsFit}
+use Rattle.image_fault.specs.ImageFault.{imageFault, floatFits}
+use Rattle.image_fault.specs.CodeFacts.{CountsFit}
 use Rattle.link_rules.specs.Refusals.{refused, noRefusal}
 use Rattle.link_rules.specs.declared.refusal.Refusal.{Refusal}
 use Rattle.image_fault.proofs.AcceptLaws.{accepted, fits-counts, node-fits, clean-node, clean-link}

@@ -57,13 +57,13 @@ pageLines t node zero = []
 pageLines t node (suc n) = pageLines t node n ++ lineOf t n (node n)
 
 -- 6 to 9 with their places, then 18
-unfoldable pub pageFault : List ℕ → List ℕ → Refusal
+unfoldable pub pageFault : (img page : List ℕ) → Refusal
 pageFault img page = orElse (imageFault img mostLinks) (cond (ltb (length page) (40 * pathCount img)) (refused 18 0) noRefusal)
 
 -- the lines, and behind them what the page has there
-abbrev pub printed : Ties → (ℕ → DispNode) → ℕ → List ℕ → List ℕ
+abbrev pub printed : (t : Ties) (node : ℕ → DispNode) (n : ℕ) (page : List ℕ) → List ℕ
 printed t node n page = pageLines t node n ++ drop (40 * n) page
 
 -- a refused call leaves the page
-unfoldable pub pageAfter : Ties → List ℕ → List ℕ → List ℕ
+unfoldable pub pageAfter : (t : Ties) (img page : List ℕ) → List ℕ
 pageAfter t img page = let lines = printed t (nodeAt img) (pathCount img) page in elim (eqb (pageFault img page .number) 0) [ true ↦ lines | false ↦ page ]

@@ -19,7 +19,7 @@ abbrev pub digit : ℕ → List ℕ
 digit d = (48 + d) ∷ []
 
 -- the decimal digits of n, for n below the first number
-unfoldable pub decimalFrom : ℕ → ℕ → List ℕ
+unfoldable pub decimalFrom : (k n : ℕ) → List ℕ
 decimalFrom zero n = []
 decimalFrom (suc k) n = let front = decimalFrom k (n / 10) in elim (ltb n 10) [ true ↦ digit n | false ↦ front ++ digit (n % 10) ]
 

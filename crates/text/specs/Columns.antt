@@ -16,11 +16,11 @@ leadIn zero true = []
 leadIn (suc w) true = blanks w ++ (45 ∷ [])
 
 -- n with its sign, to the right in w columns; what finds no room on the left is cut off
-unfoldable pub signedIn : ℕ → Bool → ℕ → List ℕ
+unfoldable pub signedIn : (w : ℕ) (minus : Bool) (n : ℕ) → List ℕ
 signedIn zero minus n = []
 signedIn (suc w) minus n =
     let more = signedIn w minus (n / 10) in
     elim (ltb n 10) [ true ↦ leadIn w minus ++ digit n | false ↦ more ++ digit (n % 10) ]
 
-abbrev pub rightIn : ℕ → ℕ → List ℕ
+abbrev pub rightIn : (w n : ℕ) → List ℕ
 rightIn w n = signedIn w false n

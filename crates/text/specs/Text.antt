@@ -11,7 +11,7 @@ pub record Text : Type 0 where
   pub count : ℕ
   pub buffer : List ℕ
 
-abbrev pub textOf : ℕ → List ℕ → Text
+abbrev pub textOf : (count : ℕ) (buffer : List ℕ) → Text
 textOf count buffer = record { count = count; buffer = buffer }
 
 -- one more byte, where there is room
@@ -27,5 +27,5 @@ pub record Put (bytes : List ℕ) (t u : Text) : Type 0 where
   pub is : u ≡ putBytes bytes t
 
 -- as many of the bytes as there is room for, and behind them what the buffer has there
-unfoldable pub written : List ℕ → List ℕ → Text
+unfoldable pub written : (bytes buffer : List ℕ) → Text
 written bytes buffer = let fitting = take (length buffer) bytes in textOf (length fitting) (fitting ++ drop (length fitting) buffer)

@@ -28,7 +28,8 @@ use Rattle.est_times.proofs.WalkLaws.{or-right}
 use Rattle.free_path.specs.Base.{ok, at}
 use Rattle.image.specs.Image.{estCount, pathCount, divergeCount, divergeRoom, pathHeader, estPlace, nodePlace, divergePlace, largestTrain, estFrom, nodeFrom, divergeFrom, estAt, nodeAt, divergeAt}
 use Rattle.image.specs.Codec.{decoded}
-use Rattle.image_fault.specs.ImageFault.{CountsFit, floatFits, timeFits, distFits, eventFits, estLinksFit, indicesFit, headerFits, imageFault}
+use Rattle.image_fault.specs.ImageFault.{floatFits, timeFits, distFits, eventFits, estLinksFit, indicesFit, headerFits, imageFault}
+use Rattle.image_fault.specs.CodeFacts.{CountsFit}
 use Rattle.image_fault.proofs.ScanLaws.{both}
 use Rattle.image_fault.proofs.AcceptLaws as Clean
 use Rattle.image_fault.proofs.RouteLaws as Route

@@ -6,7 +6,7 @@ use Prim.Native.Nat.{_-_, _≤_}
 use denote.Ref.{now}
 use native.Mathlib.Omega.{arith}
 use borrow.Author.Needs.{needs}
-use Rattle.image_fault.specs.ImageFault.{leadsOn}
+use Rattle.image_fault.specs.CodeFacts.{leadsOn}
 use Rattle.image_fault.proofs.ascends.Statement.{statement}
 use Rattle.image_fault.proofs.ascends.Tie as tie
 

@@ -5,7 +5,7 @@ use native.Mathlib.Omega.{arith}
 use lib.Dec.{eqb}
 use lib.ListN.{length}
 use Rattle.link_rules.specs.Network.{allBelow}
-use Rattle.image_fault.specs.ImageFault.{zeroByte}
+use Rattle.image_fault.specs.CodeFacts.{zeroByte}
 use Rattle.image_fault.proofs.ZeroLaws.{zero-turn}
 use borrow.Author.Needs.{needs}
 use Rattle.image_fault.proofs.bytes_zero.Statement.{statement}

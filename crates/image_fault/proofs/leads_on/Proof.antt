@@ -1,4 +1,4 @@
-use Rattle.image_fault.specs.ImageFault.{leadsOn}
+use Rattle.image_fault.specs.CodeFacts.{leadsOn}
 use borrow.Author.Needs.{needs}
 use Rattle.image_fault.proofs.leads_on.Statement.{statement}
 use Rattle.image_fault.proofs.leads_on.Tie as tie
