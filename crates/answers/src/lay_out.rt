@@ -6,7 +6,7 @@ use disp_structs::floats;
 use link_rules::link_idx::NarrowTrainIdx;
 use link_rules::refusal::Answer;
 use link_rules::refusal::Refusal;
-use train_disp::Order;
+use train_disp::Settings;
 
 pub(crate) fn answer(head: &[u8], body: &[u8], sums: bool) -> bool {
     let mut room = case::no_bytes();
@@ -19,14 +19,14 @@ pub(crate) fn answer(head: &[u8], body: &[u8], sums: bool) -> bool {
 
 fn answer_in(head: &[u8], body: &[u8], image: &mut [u8], sums: bool) -> bool {
     case::copy(image, case::second_input(head, body));
-    let order = Order {
+    let settings = Settings {
         train_idx: NarrowTrainIdx((case::argument(head, 0) % 65536) as u16),
         dist_disp_path_search: Metres(setting(case::argument(head, 3), case::argument(head, 4))),
         dist_fixed_max: Metres(setting(case::argument(head, 5), case::argument(head, 6))),
         diverge_room: case::argument(head, 1),
         links: case::argument(head, 2),
     };
-    match train_disp::lay_out(case::first_input(head, body), order, image) {
+    match train_disp::lay_out(case::first_input(head, body), settings, image) {
         Answer::Done => print_laid(
             Refusal {
                 number: 0,

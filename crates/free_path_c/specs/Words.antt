@@ -9,7 +9,7 @@ use lib.Ieee.{Float}
 use Rattle.link_rules.specs.declared.refusal.Answer.{Answer}
 use Rattle.link_rules.specs.declared.refusal.Answer.the-variants.{Done, Refused}
 use Rattle.link_rules.specs.declared.refusal.Refusal.{Refusal}
-use Rattle.train_disp.specs.declared.Order.{Order}
+use Rattle.train_disp.specs.declared.Settings.{Settings}
 use Rattle.update_definition.specs.Update.{Status, Success, Blocked, Faulty, Refused as RefusedBy}
 use Rattle.update_definition.specs.UpdateImage.{UpdatedImage}
 use Rattle.yard_check.specs.Check as Check
@@ -24,8 +24,8 @@ answerWord Done = 0
 answerWord (Refused r) = faultWord r
 
 -- what a layout is told, from plain numbers
-abbrev pub orderOf : ℕ → Float → Float → ℕ → ℕ → Order
-orderOf train search fixed room links =
+abbrev pub settingsOf : ℕ → Float → Float → ℕ → ℕ → Settings
+settingsOf train search fixed room links =
     record {
       «train_idx» = record { 0 = train };
       «dist_disp_path_search» = record { 0 = search };

@@ -15,7 +15,7 @@ ghost use Rattle.yard_check.specs.Checks.{answeredOf};
 ghost use Rattle.yard_check.specs.Sheet.{sheetText};
 ghost use Rattle.text.specs.Text.{textOf, written};
 ghost use Rattle.path_page.specs.Page.{drawingRule, pageFault, pageAfter};
-ghost use Rattle.free_path_c.specs.Words.{answerWord, faultWord, orderOf, flagOf, statusWord, codeOf, errorsOf, Told, checkWord, bitOf, threeWords, checkWords, ToldCheck};
+ghost use Rattle.free_path_c.specs.Words.{answerWord, faultWord, settingsOf, flagOf, statusWord, codeOf, errorsOf, Told, checkWord, bitOf, threeWords, checkWords, ToldCheck};
 use disp_structs::Metres;
 use image_fault;
 use link_rules::advance_rewind;
@@ -24,7 +24,7 @@ use link_rules::link_idx::NarrowTrainIdx;
 use link_rules::refusal::Answer;
 use link_rules::refusal::Refusal;
 use path_page;
-use train_disp::Order;
+use train_disp::Settings;
 use update_free_path;
 use update_free_path::answer::Status;
 use yard_check::check;
@@ -81,17 +81,17 @@ pub extern "C" fn lavtoeu_lay_out(
     links: u32,
     image: &mut [u8],
 ) -> u32
-    ensures { λ r. ⌜ (r ≡ answerWord (laidOut (now (est .entry)) (orderOf train search fixed room links) (now (image .entry)) .answer))
-        × (now (image .exit) ≡ laidOut (now (est .entry)) (orderOf train search fixed room links) (now (image .entry)) .image) ⌝ }
+    ensures { λ r. ⌜ (r ≡ answerWord (laidOut (now (est .entry)) (settingsOf train search fixed room links) (now (image .entry)) .answer))
+        × (now (image .exit) ≡ laidOut (now (est .entry)) (settingsOf train search fixed room links) (now (image .entry)) .image) ⌝ }
 {
-    let order = Order {
+    let settings = Settings {
         train_idx: NarrowTrainIdx(train),
         dist_disp_path_search: Metres(search),
         dist_fixed_max: Metres(fixed),
         diverge_room: room,
         links: links,
     };
-    answer_word(train_disp::lay_out(est, order, image))
+    answer_word(train_disp::lay_out(est, settings, image))
 }
 
 // Updates the train of an image. Answers 0, or the refusal's number with its place in the upper 16 bits, and puts into the first four words of `answer`

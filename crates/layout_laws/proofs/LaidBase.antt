@@ -11,8 +11,8 @@ use Rattle.link_rules.proofs.OctetLaws.{length-put, getD-put, le-put-same, le-p
 use Rattle.image.proofs.Writers.{side, put-writes}
 use Rattle.image.proofs.Parts.{keep}
 use Rattle.train_disp.specs.TrainDisp.{settingBits, withHeader, withEst}
-use Rattle.train_disp.specs.declared.Order.{Order}
-use Rattle.layout_laws.specs.LayOutMatch.{rOrder}
+use Rattle.train_disp.specs.declared.Settings.{Settings}
+use Rattle.layout_laws.specs.LayOutMatch.{rSettings}
 
 -- ---- bytes of a copy
 
@@ -42,7 +42,7 @@ module _ (d s : List ℕ) (at : ℕ) (h : at + length s ≤ length d) where
 
 -- ---- the header
 
-module _ (e : ℕ) (o : Order) (bs : List ℕ) where
+module _ (e : ℕ) (o : Settings) (bs : List ℕ) where
   -- behind it nothing is written
   head-after : (i : ℕ) → 64 ≤ i → getD (withHeader e o bs) i 0 ≡ getD bs i 0
   unfolding withHeader
@@ -61,7 +61,7 @@ module _ (e : ℕ) (o : Order) (bs : List ℕ) where
       ∙ le-put-same 2 (o .«train_idx» .0) 32 _ (rw (length-put, length-put, length-put, length-put, length-put, length-put) (omega arith)) h
 
   -- another train changes no byte beside its number
-  pub head-beside : (q : ℕ → ℕ) (i : ℕ) → (i < 32) ⊎ (34 ≤ i) → i < length bs → getD (withHeader e o bs) i 0 ≡ getD (withHeader e (rOrder q o) bs) i 0
+  pub head-beside : (q : ℕ → ℕ) (i : ℕ) → (i < 32) ⊎ (34 ≤ i) → i < length bs → getD (withHeader e o bs) i 0 ≡ getD (withHeader e (rSettings q o) bs) i 0
   unfolding withHeader
   head-beside q i h l =
       keep (put-writes 4 e 4) _ _ (simp length-put) i (rw (length-put, length-put, length-put, length-put, length-put, length-put, length-put, length-put, length-put) l)
@@ -71,14 +71,14 @@ module _ (e : ℕ) (o : Order) (bs : List ℕ) where
 
 -- ---- both
 
-abbrev pub based : ℕ → Order → List ℕ → ℕ → List ℕ
+abbrev pub based : ℕ → Settings → List ℕ → ℕ → List ℕ
 based e o est size = withEst est (withHeader e o (replicate size 0))
 
-zero-all : (size i : ℕ) → _≡_ {A = ℕ} (getD (replicate size 0) i 0) 0
+pub zero-all : (size i : ℕ) → _≡_ {A = ℕ} (getD (replicate size 0) i 0) 0
 zero-all size i =
     ⊎-elim (λ (l : i < size). getD-replicate size i 0 0 l) (λ (l : size ≤ i). List·getD-eq-default (replicate size 0) 0 (rw length-replicate l)) (side i size)
 
-module _ (e : ℕ) (o : Order) (est : List ℕ) (size : ℕ) (h : 64 + length est ≤ size) where
+module _ (e : ℕ) (o : Settings) (est : List ℕ) (size : ℕ) (h : 64 + length est ≤ size) where
   abbrev head : List ℕ
   head = withHeader e o (replicate size 0)
 

@@ -1,17 +1,17 @@
 -- The bytes of a laid out image: its counts, and what the two ways of laying the path out have in common. Assumes nothing.
 use mathlib.Core.Path.{_≡_, refl, sym, ap, _∙_}
 use mathlib.Core.Logic.{_⊎_, inl, inr, ⊎-elim}
-use mathlib.Core.Bool.{Bool, true, false, cond, not}
+use mathlib.Core.Bool.{Bool, true, false, cond}
 use mathlib.Core.List.{List, [], _∷_, map}
-use Prim.Native.Nat.{ℕ, zero, suc, _+_, _*_, _/_, _%_, _≤_, _<_}
+use Prim.Native.Nat.{ℕ, zero, suc, _+_, _*_, _%_, _≤_, _<_}
 use native.Mathlib.Nat.{lt-of-le-of-lt}
 use native.Mathlib.Omega.{arith}
-use lib.Dec.{T, eqb, leb, lit<}
-use lib.Ieee.{Float, nan, inf, fin, binary64, fits, isNan, le, lt, eq}
+use lib.Dec.{T, lit<}
+use lib.Ieee.{Float, binary64, fits}
 use lib.Ieee.Bits.{ofBits-fits}
 use lib.Ieee.Fits.{add-fits}
 use lib.ListN.{length, getD, replicate, length-replicate, length-map, List·getD-eq-default}
-use borrow.Author.Tests.{le-leb, leb-true, eqb-true}
+use borrow.Author.Tests.{le-leb}
 use Rattle.link_rules.specs.Octets.{leAt, putLe}
 use Rattle.link_rules.proofs.OctetLaws.{length-put, le-put-same, le-put-other}
 use Rattle.disp_structs.specs.Floats.{bitsOf, inReach}
@@ -19,17 +19,16 @@ use Rattle.disp_structs.specs.Values.{noEst, sameEst, zeroMetres, within}
 use Rattle.disp_structs.specs.declared.Metres.{Metres}
 use Rattle.disp_structs.specs.declared.EstTime.{EstTime}
 use Rattle.disp_structs.specs.declared.DispNode.{DispNode}
-use Rattle.disp_structs.proofs.FloatLaws.{bits-lt, bits-number, real-bits}
-use Rattle.image.specs.Image.{estCount, pathCount, nodePlace, divergePlace, imageSize, typeNumber, estFrom, nodeFrom, putNode}
+use Rattle.disp_structs.proofs.FloatLaws.{bits-lt, bits-number, real-bits, reach-number}
+use Rattle.image.specs.Image.{estCount, pathCount, nodePlace, divergePlace, typeNumber, estFrom, nodeFrom, putNode}
 use Rattle.image.specs.Codec.{putEach}
 use Rattle.image.proofs.Writers.{Writes, side, then, put-to, put-writes, each-writes, le-outside}
 use Rattle.image.proofs.RecordLaws.{Real, node-writes}
 use Rattle.image.proofs.Parts.{keep}
 use Rattle.image_fault.specs.ImageFault.{floatFits}
-use Rattle.image_fault.proofs.ScanLaws.{both}
-use Rattle.train_disp.specs.TrainDisp.{newNode, offsetBehind, walkNext, estLength, newPath, putNodes, withEnds, laidImage, sizesFit, allWithin}
-use Rattle.train_disp.specs.declared.Order.{Order}
-use Rattle.train_disp.proofs.LayOutLaws.{count-written, walk-few}
+use Rattle.train_disp.specs.TrainDisp.{newNode, offsetBehind, walkNext, estLength, newPath, putNodes, withEnds, laidImage, allWithin}
+use Rattle.train_disp.specs.declared.Settings.{Settings}
+use Rattle.train_disp.proofs.LayOutLaws.{count-written, walk-few, SizesFit}
 use Rattle.layout_laws.proofs.LaidBase.{based, based-long}
 use Rattle.layout_laws.proofs.OffsetsAside.{Aside, SameAside}
 
@@ -151,12 +150,6 @@ split : (a b : Bool) → cond a b false ≡ true → (a ≡ true) × (b ≡ true
 split true b h = (refl, h)
 split false b h = let z : _≡_ {A = ℕ} 0 1 = cc in absurd (omega arith)
 
-pub reach-number : (x : Float) → inReach x ≡ true → T (not (isNan x))
-unfolding inReach le lt eq isNan
-reach-number nan h = let z : _≡_ {A = ℕ} 0 1 = cc in absurd (omega arith)
-reach-number (inf s) h = tt
-reach-number (fin s m e) h = tt
-
 float-fits : (x : Float) → Real x → inReach x ≡ true → floatFits (bitsOf x) ≡ true
 unfolding floatFits
 float-fits x r h = rw (le-leb (bitsOf x % 0x8000_0000_0000_0000) 0x7ff0_0000_0000_0000 (bits-number x (r .holds) (r .number)), real-bits x (r .holds) (r .number), h)
@@ -172,37 +165,7 @@ all-within (x ∷ xs) w (suc i) l = all-within xs (split (within (x .offset)) (a
 
 -- ---- the whole image
 
--- 6 of the sizes
-pub record SizesFit (n : ℕ) (o : Order) (size : ℕ) : Type 0 where
-  pub whole : n % 32 ≡ 0
-  pub some-est : 1 ≤ n / 32
-  pub few-est : n / 32 ≤ 512
-  pub some-room : 2 ≤ o .«diverge_room»
-  pub few-room : o .«diverge_room» ≤ 1024
-  pub few-links : o .links ≤ 4000
-  pub size-is : size ≡ imageSize (n / 32) (o .«diverge_room»)
-
-pub sizes-fit : (n : ℕ) (o : Order) (size : ℕ) → sizesFit n o size ≡ true → SizesFit n o size
-unfolding sizesFit
-sizes-fit n o size h =
-    let a = both (eqb (n % 32) 0) _ h in
-    let b = both (leb 1 (n / 32)) _ (a .1) in
-    let c = both (leb (n / 32) 512) _ (b .1) in
-    let d = both (leb 2 (o .«diverge_room»)) _ (c .1) in
-    let f = both (leb (o .«diverge_room») 1024) _ (d .1) in
-    let g = both (leb 2 (o .links)) _ (f .1) in
-    let k = both (leb (o .links) 4000) _ (g .1) in
-    record {
-      whole = eqb-true (n % 32) 0 (a .0);
-      some-est = leb-true 1 (n / 32) (b .0);
-      few-est = leb-true (n / 32) 512 (c .0);
-      some-room = leb-true 2 (o .«diverge_room») (d .0);
-      few-room = leb-true (o .«diverge_room») 1024 (f .0);
-      few-links = leb-true (o .links) 4000 (k .0);
-      size-is = eqb-true size (imageSize (n / 32) (o .«diverge_room»)) (k .1);
-    }
-
-module _ (est : List ℕ) (o : Order) (size : ℕ) (z : SizesFit (length est) o size) where
+module _ (est : List ℕ) (o : Settings) (size : ℕ) (z : SizesFit (length est) o size) where
   abbrev e : ℕ
   e = estLength est
 

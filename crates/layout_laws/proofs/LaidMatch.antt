@@ -19,7 +19,7 @@ use Rattle.disp_structs.specs.Values.{noEst, sameEst, zeroMetres}
 use Rattle.disp_structs.specs.Renumbered.{rEst, rNode}
 use Rattle.disp_structs.specs.declared.Metres.{Metres}
 use Rattle.disp_structs.specs.declared.DispNode.{DispNode}
-use Rattle.disp_structs.proofs.FloatLaws.{real-number}
+use Rattle.disp_structs.proofs.FloatLaws.{real-number, reach-number}
 use Rattle.image.specs.Image.{divergeRoom, estPlace, nodePlace, divergePlace, estFrom, nodeFrom, putNode}
 use Rattle.image.specs.ImageMatch.{Renumbered, ImagesMatch}
 use Rattle.image.proofs.Writers.{Writes, side, put-writes, each-writes, le-outside}
@@ -28,15 +28,16 @@ use Rattle.image.proofs.Parts.{keep}
 use Rattle.image.proofs.MatchLaws.{est-renumbered}
 use Rattle.image.proofs.MatchEncoded.{match-outside, node-one, each-match, width}
 use Rattle.train_disp.specs.TrainDisp.{newNode, offsetBehind, walkNext, estLength, newPath, withHeader, putNodes, withEnds, laidImage, allWithin}
-use Rattle.train_disp.specs.declared.Order.{Order}
-use Rattle.layout_laws.specs.LayOutMatch.{EstsMatch, rOrder}
+use Rattle.train_disp.specs.declared.Settings.{Settings}
+use Rattle.layout_laws.specs.LayOutMatch.{EstsMatch, rSettings}
 use Rattle.layout_laws.proofs.LaidBase.{head-train, head-beside, based, based-long, based-head, based-est, based-zero}
-use Rattle.layout_laws.proofs.LaidBytes.{SizesFit, read, later, walk-all, reach-number, all-within, laid-est-count, few}
+use Rattle.train_disp.proofs.LayOutLaws.{SizesFit}
+use Rattle.layout_laws.proofs.LaidBytes.{read, later, walk-all, all-within, laid-est-count, few}
 
 -- ---- numbers
 
 -- the same bytes elsewhere
-le-shift : (v : ℕ) (bs cs : List ℕ) (j k : ℕ) → ((i : ℕ) → i < v → getD bs (j + i) 0 ≡ getD cs (k + i) 0) → leAt v bs j ≡ leAt v cs k
+pub le-shift : (v : ℕ) (bs cs : List ℕ) (j k : ℕ) → ((i : ℕ) → i < v → getD bs (j + i) 0 ≡ getD cs (k + i) 0) → leAt v bs j ≡ leAt v cs k
 unfolding leAt
 le-shift zero bs cs j k h = refl
 le-shift (suc v) bs cs j k h =
@@ -45,7 +46,7 @@ le-shift (suc v) bs cs j k h =
     ap₂ (λ (x y : ℕ). x + 256 * y) (rw (a, b) at (h 0 (omega arith)))
     (le-shift v bs cs (j + 1) (k + 1) (λ i l. let c : j + 1 + i ≡ j + suc i = omega arith in let e : k + 1 + i ≡ k + suc i = omega arith in rw (c, e) (h (suc i) (omega arith))))
 
-le-zero : (v : ℕ) (bs : List ℕ) (j : ℕ) → ((i : ℕ) → j ≤ i → i < j + v → getD bs i 0 ≡ 0) → leAt v bs j ≡ 0
+pub le-zero : (v : ℕ) (bs : List ℕ) (j : ℕ) → ((i : ℕ) → j ≤ i → i < j + v → getD bs i 0 ≡ 0) → leAt v bs j ≡ 0
 le-zero v bs j h = le-cong v bs [] j h ∙ le-past v [] j (omega arith)
 
 zeros-match : (p : ℕ → ℕ) → p 0 ≡ 0 → (bs bs′ : List ℕ) (at w k v : ℕ) → k + v ≤ w → ((i : ℕ) → at ≤ i → getD bs i 0 ≡ 0) → ((i : ℕ) → at ≤ i → getD bs′ i 0 ≡ 0)
@@ -129,7 +130,7 @@ module _ (est : List ℕ) (b : Bytes est) where
   abbrev pub Numbers : Bool → Type 0
   Numbers sums = (i : ℕ) → i < length (newPath sums est) → T (not (isNan (getD (newPath sums est) i (nodeFrom [] 0) .offset .0)))
 
-  held : (sums : Bool) → Numbers sums → (i : ℕ) → i < length (newPath sums est) → NodeHeld (getD (newPath sums est) i (nodeFrom [] 0))
+  pub held : (sums : Bool) → Numbers sums → (i : ℕ) → i < length (newPath sums est) → NodeHeld (getD (newPath sums est) i (nodeFrom [] 0))
   held sums r i l =
       walk-all sums est (λ x. T (not (isNan (x .offset .0))) → NodeHeld x) (λ e o. (e < 2 ^ 32) × T (fits binary64 (o .0)))
       (λ e o h n. held-node e o (h .0) (h .1) n) (λ e o h. (next-low e, behind-holds sums e o (h .1))) (estLength est) 0 zeroMetres (lit< tt, ofBits-fits binary64 0) i l (r i l)
@@ -143,7 +144,7 @@ module _ (est : List ℕ) (b : Bytes est) where
 
 -- ---- the images
 
-module _ (p q : ℕ → ℕ) (top : ℕ) (est est′ : List ℕ) (o : Order) (size : ℕ) (rp : Renumbering (o .links - 1) p) (rq : Renumbering top q) (few-trains : top < 2 ^ 16)
+module _ (p q : ℕ → ℕ) (top : ℕ) (est est′ : List ℕ) (o : Settings) (size : ℕ) (rp : Renumbering (o .links - 1) p) (rq : Renumbering top q) (few-trains : top < 2 ^ 16)
     (b : Bytes est) (t : o .«train_idx» .0 < 2 ^ 16) (m : EstsMatch p est est′) (z : SizesFit (length est) o size) (sums : Bool) (r : Numbers est b sums) where
   abbrev e : ℕ
   e = estLength est
@@ -158,7 +159,7 @@ module _ (p q : ℕ → ℕ) (top : ℕ) (est est′ : List ℕ) (o : Order) (si
   base = based e o est size
 
   abbrev base′ : List ℕ
-  base′ = based e (rOrder q o) est′ size
+  base′ = based e (rSettings q o) est′ size
 
   abbrev nodes : List ℕ → List ℕ
   nodes = putNodes path (nodePlace e 0)
@@ -173,7 +174,7 @@ module _ (p q : ℕ → ℕ) (top : ℕ) (est est′ : List ℕ) (o : Order) (si
   unfolding laidImage withEnds
   first-is = refl
 
-  second-is : laidImage sums est′ (rOrder q o) size ≡ ends (nodes′ base′)
+  second-is : laidImage sums est′ (rSettings q o) size ≡ ends (nodes′ base′)
   unfolding laidImage withEnds
   second-is = rw (path-match p (rp .zero-stays) est est′ m (z .whole) sums, m .long, length-map path (rNode p))
 
@@ -190,7 +191,7 @@ module _ (p q : ℕ → ℕ) (top : ℕ) (est est′ : List ℕ) (o : Order) (si
   long = based-long e o est size room
 
   long′ : length base′ ≡ size
-  long′ = based-long e (rOrder q o) est′ size room′
+  long′ = based-long e (rSettings q o) est′ size room′
 
   writes : Writes (nodePlace e 0) (nodePlace e 0 + 32 * n) nodes
   writes = each-writes putNode 32 node-writes path (nodePlace e 0)
@@ -226,7 +227,7 @@ module _ (p q : ℕ → ℕ) (top : ℕ) (est est′ : List ℕ) (o : Order) (si
   head-same : (i : ℕ) → (i < 32) ⊎ (34 ≤ i) → i < 64 → getD (ends (nodes′ base′)) i 0 ≡ getD (ends (nodes base)) i 0
   head-same i h l =
       outer i (inl (omega arith)) (omega (arith, room))
-      (based-head e (rOrder q o) est′ size room′ i l
+      (based-head e (rSettings q o) est′ size room′ i l
       ∙ (sym (head-beside e o (replicate size 0) q i h (rw length-replicate (omega (arith, room)))) ∙ sym (based-head e o est size room i l)))
 
   train-is : leAt 2 (ends (nodes base)) 32 ≡ o .«train_idx» .0
@@ -240,8 +241,8 @@ module _ (p q : ℕ → ℕ) (top : ℕ) (est est′ : List ℕ) (o : Order) (si
   train-is′ =
       ends-number 2 32 (nodes′ base′) (omega arith) (inl (omega arith))
       ∙ (le-outside writes′ 2 32 base′ (inl (omega arith))
-      ∙ (le-cong 2 base′ (withHeader e (rOrder q o) (replicate size 0)) 32 (λ i x y. based-head e (rOrder q o) est′ size room′ i (omega arith))
-      ∙ head-train e (rOrder q o) (replicate size 0) (rw length-replicate (omega (arith, room))) (width top (2 ^ 16) q rq few-trains (o .«train_idx» .0) t)))
+      ∙ (le-cong 2 base′ (withHeader e (rSettings q o) (replicate size 0)) 32 (λ i x y. based-head e (rSettings q o) est′ size room′ i (omega arith))
+      ∙ head-train e (rSettings q o) (replicate size 0) (rw length-replicate (omega (arith, room))) (width top (2 ^ 16) q rq few-trains (o .«train_idx» .0) t)))
 
   header-match : Renumbered q (ends (nodes base)) (ends (nodes′ base′)) 0 64 32 2
   header-match =
@@ -259,7 +260,7 @@ module _ (p q : ℕ → ℕ) (top : ℕ) (est est′ : List ℕ) (o : Order) (si
       (match-outside writes writes′ p base base′ (estPlace i) 32 24 4 (omega arith) (inl (omega arith)) (inl (omega arith))
       (record {
         before = λ y a c. byte′ y (omega arith) (omega arith) ∙ (x .before (y - 64) (omega arith) (omega arith) ∙ sym (byte y (omega arith) (omega arith)));
-        number = number est′ (rOrder q o) room′ (omega (arith, m .long)) ∙ (x .number ∙ ap p (sym (number est o room (omega arith))));
+        number = number est′ (rSettings q o) room′ (omega (arith, m .long)) ∙ (x .number ∙ ap p (sym (number est o room (omega arith))));
         after = λ y a c. byte′ y (omega arith) (omega arith) ∙ (x .after (y - 64) (omega arith) (omega arith) ∙ sym (byte y (omega arith) (omega arith)));
       }))
     where
@@ -270,9 +271,9 @@ module _ (p q : ℕ → ℕ) (top : ℕ) (est est′ : List ℕ) (o : Order) (si
       byte y a c = let k : 64 + (y - 64) ≡ y = omega arith in rw k at (based-est e o est size room (y - 64) (omega arith))
 
       byte′ : (y : ℕ) → 64 ≤ y → y < 64 + length est → getD base′ y 0 ≡ getD est′ (y - 64) 0
-      byte′ y a c = let k : 64 + (y - 64) ≡ y = omega arith in rw k at (based-est e (rOrder q o) est′ size room′ (y - 64) (omega (arith, m .long)))
+      byte′ y a c = let k : 64 + (y - 64) ≡ y = omega arith in rw k at (based-est e (rSettings q o) est′ size room′ (y - 64) (omega (arith, m .long)))
 
-      number : (s : List ℕ) (u : Order) (h : 64 + length s ≤ size) → 32 * i + 32 ≤ length s → leAt 4 (based e u s size) (estPlace i + 24) ≡ leAt 4 s (32 * i + 24)
+      number : (s : List ℕ) (u : Settings) (h : 64 + length s ≤ size) → 32 * i + 32 ≤ length s → leAt 4 (based e u s size) (estPlace i + 24) ≡ leAt 4 s (32 * i + 24)
       number s u h k =
           le-shift 4 (based e u s size) s (estPlace i + 24) (32 * i + 24)
           (λ j c. let g : estPlace i + 24 + j ≡ 64 + (32 * i + 24 + j) = omega arith in rw g (based-est e u s size h (32 * i + 24 + j) (omega arith)))
@@ -306,11 +307,11 @@ module _ (p q : ℕ → ℕ) (top : ℕ) (est est′ : List ℕ) (o : Order) (si
       unused h =
           match-outside writes writes′ p base base′ (nodePlace e i) 32 16 4 (omega arith) (inr (omega arith)) (inr (omega arith))
           (zeros-match p (rp .zero-stays) base base′ (nodePlace e i) 32 16 4 (omega arith) (λ y k. based-zero e o est size room y (omega (arith, z .whole)))
-          (λ y k. based-zero e (rOrder q o) est′ size room′ y (omega (arith, z .whole, m .long))))
+          (λ y k. based-zero e (rSettings q o) est′ size room′ y (omega (arith, z .whole, m .long))))
 
   -- ---- diverge records
 
-  diverge-train : (s : List ℕ) (u : Order) (h : 64 + length s ≤ size) → length s ≡ length est → (f : List ℕ → List ℕ) → Writes (nodePlace e 0) (nodePlace e 0 + 32 * n) f
+  diverge-train : (s : List ℕ) (u : Settings) (h : 64 + length s ≤ size) → length s ≡ length est → (f : List ℕ → List ℕ) → Writes (nodePlace e 0) (nodePlace e 0 + 32 * n) f
       → (i : ℕ) → leAt 2 (ends (f (based e u s size))) (divergePlace e i) ≡ 0
   diverge-train s u h g f w i =
       ends-number 2 (divergePlace e i) (f (based e u s size)) (omega arith) (⊎-elim (λ (c : i < 2). inl (omega arith)) (λ (c : 2 ≤ i). inr (omega arith)) (side i 2))
@@ -322,9 +323,9 @@ module _ (p q : ℕ → ℕ) (top : ℕ) (est est′ : List ℕ) (o : Order) (si
       let k : divergePlace e i + 0 ≡ divergePlace e i = omega arith in
       record {
         before = λ y a c. absurd (omega arith);
-        number = rw k (diverge-train est′ (rOrder q o) room′ (m .long) nodes′ writes′ i ∙ (sym (rq .zero-stays) ∙ ap q (sym (diverge-train est o room refl nodes writes i))));
+        number = rw k (diverge-train est′ (rSettings q o) room′ (m .long) nodes′ writes′ i ∙ (sym (rq .zero-stays) ∙ ap q (sym (diverge-train est o room refl nodes writes i))));
         after = λ y a c. outer y (inr (omega (arith, few-nodes))) (omega (arith, z .size-is))
-            (based-zero e (rOrder q o) est′ size room′ y (omega (arith, z .whole, m .long)) ∙ sym (based-zero e o est size room y (omega (arith, z .whole))));
+            (based-zero e (rSettings q o) est′ size room′ y (omega (arith, z .whole, m .long)) ∙ sym (based-zero e o est size room y (omega (arith, z .whole))));
       }
 
   -- ---- all
@@ -340,7 +341,7 @@ module _ (p q : ℕ → ℕ) (top : ℕ) (est est′ : List ℕ) (o : Order) (si
       ∙ le-put-other 4 4 _ 28 _ 16 (inl (omega arith)) ∙ le-put-other 4 4 _ 24 _ 16 (inl (omega arith)) ∙ le-put-other 4 4 _ 20 _ 16 (inl (omega arith))
       ∙ le-put-same 4 (o .«diverge_room») 16 _ (rw (length-put, length-put, length-replicate) (omega (arith, room))) (lt-of-le-of-lt (z .few-room) (lit< tt))))))
 
-  pub laid-match : ImagesMatch p q (laidImage sums est o size) (laidImage sums est′ (rOrder q o) size)
+  pub laid-match : ImagesMatch p q (laidImage sums est o size) (laidImage sums est′ (rSettings q o) size)
   laid-match =
       record {
         long = rw (first-is, second-is) (same-long);

@@ -15,13 +15,13 @@ use Rattle.disp_structs.specs.Renumbered.{rNode}
 use Rattle.disp_structs.specs.declared.DispNode.{DispNode}
 use Rattle.image.specs.ImageMatch.{ImagesMatch}
 use Rattle.image_fault.specs.ImageFault.{imageFault}
-use Rattle.link_rules.specs.Refusals.{refused}
 use Rattle.link_rules.specs.declared.refusal.Refusal.{Refusal}
 use Rattle.image_fault.proofs.MatchLaws.{image-fault-match}
-use Rattle.train_disp.specs.TrainDisp.{newPath, laidImage, sizesFit, allWithin, refusedBy, judged, laidOut}
-use Rattle.train_disp.specs.declared.Order.{Order}
-use Rattle.layout_laws.specs.LayOutMatch.{EstsMatch, rOrder}
-use Rattle.layout_laws.proofs.LaidBytes.{SizesFit, sizes-fit}
+use Rattle.train_disp.specs.TrainDisp.{newPath, laidImage, trainFault, sizesFit, recordsFault, allWithin, reachFault, layOutFault, laid, laidBy, laidOut}
+use Rattle.link_rules.specs.Refusals.{orElse, refusedUnless}
+use Rattle.train_disp.specs.declared.Settings.{Settings}
+use Rattle.layout_laws.specs.LayOutMatch.{EstsMatch, rSettings}
+use Rattle.train_disp.proofs.LayOutLaws.{SizesFit, sizes-fit}
 use Rattle.layout_laws.proofs.LaidOut.{passed, laid-image, laid-refused}
 use Rattle.layout_laws.proofs.LaidMatch.{path-match, numbers-plain, numbers-within, laid-match}
 
@@ -32,62 +32,58 @@ within-match p [] = refl
 within-match p (x ∷ xs) = ap (λ (t : Bool). cond (within (x .offset)) t false) (within-match p xs)
 
 -- the answer does not depend on the images
-answer-same : (t s w : Bool) (f : Refusal) (was new was′ new′ : List ℕ)
-    → cond t (refusedBy (refused 5 0) was′) (cond s (judged f w was′ new′) (refusedBy (refused 6 0) was′)) .answer ≡ cond t (refusedBy (refused 5 0) was) (cond s (judged f w was new) (refusedBy (refused 6 0) was)) .answer
-answer-same true s w f was new was′ new′ = refl
-answer-same false false w f was new was′ new′ = refl
-answer-same false true w f was new was′ new′ = go (eqb (f .number) 0) w
+answer-same : (f : Refusal) (was new was′ new′ : List ℕ) → laidBy f was′ new′ .answer ≡ laidBy f was new .answer
+answer-same f was new was′ new′ = go (eqb (f .number) 0)
   where
-    go : (c d : Bool)
-        → cond c (cond d (record { answer = Done; image = new′ }) (refusedBy (refused 11 0) was′)) (refusedBy f was′) .answer
-        ≡ cond c (cond d (record { answer = Done; image = new }) (refusedBy (refused 11 0) was)) (refusedBy f was) .answer
-    go true true = refl
-    go true false = refl
-    go false d = refl
+    go : (t : Bool) → cond t (laid Done new′) (laid (Refused f) was′) .answer ≡ cond t (laid Done new) (laid (Refused f) was) .answer
+    go true = refl
+    go false = refl
 
-module _ (p q : ℕ → ℕ) (top : ℕ) (o : Order) (rp : Renumbering (o .links - 1) p) (rq : Renumbering top q) (few : top < 2 ^ 16) (t : o .«train_idx» .0 < 2 ^ 16)
+module _ (p q : ℕ → ℕ) (top : ℕ) (o : Settings) (rp : Renumbering (o .links - 1) p) (rq : Renumbering top q) (few : top < 2 ^ 16) (t : o .«train_idx» .0 < 2 ^ 16)
     (est est′ : List ℕ) (b : Bytes est) (m : EstsMatch p est est′) (img img′ : List ℕ) (l : length img′ ≡ length img) where
   module _ (z : SizesFit (length est) o (length img)) where
     -- the images that are judged are refused alike
-    fault-same : imageFault (laidImage false est′ (rOrder q o) (length img)) (o .links) ≡ imageFault (laidImage false est o (length img)) (o .links)
+    fault-same : imageFault (laidImage false est′ (rSettings q o) (length img)) (o .links) ≡ imageFault (laidImage false est o (length img)) (o .links)
     fault-same =
-        image-fault-match p q (o .links) top rp rq (laidImage false est o (length img)) (laidImage false est′ (rOrder q o) (length img))
+        image-fault-match p q (o .links) top rp rq (laidImage false est o (length img)) (laidImage false est′ (rSettings q o) (length img))
         (laid-match p q top est est′ o (length img) rp rq few b t m z false (numbers-plain est b))
 
     reach-same : allWithin (newPath true est′) ≡ allWithin (newPath true est)
     reach-same = ap allWithin (path-match p (rp .zero-stays) est est′ m (z .whole) true) ∙ within-match p (newPath true est)
 
-  sizes-same : sizesFit (length est′) (rOrder q o) (length img′) ≡ sizesFit (length est) o (length img)
+  sizes-same : sizesFit (length est′) (rSettings q o) (length img′) ≡ sizesFit (length est) o (length img)
   unfolding sizesFit
   sizes-same = rw (m .long, l)
 
-  -- the same answer, with the same number and place
-  pub laid-answer : laidOut est′ (rOrder q o) img′ .answer ≡ laidOut est o img .answer
-  unfolding laidOut
-  laid-answer = rw (eqb-renumbered-0 top q rq (o .«train_idx» .0), sizes-same, l) (go (sizesFit (length est) o (length img)) refl)
+  -- the same refusal, with the same number and place
+  chain-same : layOutFault est′ (rSettings q o) (length img′) ≡ layOutFault est o (length img)
+  unfolding layOutFault
+  chain-same = rw (eqb-renumbered-0 top q rq (o .«train_idx» .0), sizes-same, l) (go (sizesFit (length est) o (length img)) refl)
     where
       go : (s : Bool) → sizesFit (length est) o (length img) ≡ s
-          → cond (eqb (o .«train_idx» .0) 0) (refusedBy (refused 5 0) img′) (cond s (judged (imageFault (laidImage false est′ (rOrder q o) (length img)) (o .links)) (allWithin (newPath true est′)) img′ (laidImage true est′ (rOrder q o) (length img))) (refusedBy (refused 6 0) img′)) .answer
-          ≡ cond (eqb (o .«train_idx» .0) 0) (refusedBy (refused 5 0) img) (cond s (judged (imageFault (laidImage false est o (length img)) (o .links)) (allWithin (newPath true est)) img (laidImage true est o (length img))) (refusedBy (refused 6 0) img)) .answer
-      go true e =
-          let z = sizes-fit (length est) o (length img) e in
-          rw (fault-same z, reach-same z)
-          (answer-same (eqb (o .«train_idx» .0) 0) true (allWithin (newPath true est)) (imageFault (laidImage false est o (length img)) (o .links)) img (laidImage true est o (length img)) img′ (laidImage true est′ (rOrder q o) (length img)))
-      go false e =
-          answer-same (eqb (o .«train_idx» .0) 0) false (allWithin (newPath true est)) (imageFault (laidImage false est o (length img)) (o .links)) img (laidImage true est o (length img)) img′ (laidImage true est′ (rOrder q o) (length img))
+          → orElse (trainFault o) (orElse (refusedUnless s 6) (orElse (imageFault (laidImage false est′ (rSettings q o) (length img)) (o .links)) (reachFault est′)))
+          ≡ orElse (trainFault o) (orElse (refusedUnless s 6) (orElse (recordsFault est o (length img)) (reachFault est)))
+      go true e = let z = sizes-fit (length est) o (length img) e in rw (fault-same z, reach-same z)
+      go false e = refl
+
+  pub laid-answer : laidOut est′ (rSettings q o) img′ .answer ≡ laidOut est o img .answer
+  unfolding laidOut
+  laid-answer =
+      ap (λ (f : Refusal). laidBy f img′ (laidImage true est′ (rSettings q o) (length img′)) .answer) chain-same
+      ∙ answer-same (layOutFault est o (length img)) img (laidImage true est o (length img)) img′ (laidImage true est′ (rSettings q o) (length img′))
 
   -- what is written matches
-  pub laid-written : laidOut est o img .answer ≡ Done → ImagesMatch p q (laidOut est o img .image) (laidOut est′ (rOrder q o) img′ .image)
+  pub laid-written : laidOut est o img .answer ≡ Done → ImagesMatch p q (laidOut est o img .image) (laidOut est′ (rSettings q o) img′ .image)
   laid-written h =
       let d = passed est o img h in
       let z = sizes-fit (length est) o (length img) (d .sizes) in
-      rw (laid-image est o img d, laid-image est′ (rOrder q o) img′ (passed est′ (rOrder q o) img′ (laid-answer ∙ h)), l)
+      rw (laid-image est o img h, laid-image est′ (rSettings q o) img′ (laid-answer ∙ h), l)
       (laid-match p q top est est′ o (length img) rp rq few b t m z true (numbers-within est b (d .reach)))
 
   -- images that match do so after a lay out, refused or not
-  pub laid-renumbered : ImagesMatch p q img img′ → ImagesMatch p q (laidOut est o img .image) (laidOut est′ (rOrder q o) img′ .image)
+  pub laid-renumbered : ImagesMatch p q img img′ → ImagesMatch p q (laidOut est o img .image) (laidOut est′ (rSettings q o) img′ .image)
   laid-renumbered x = go (laidOut est o img .answer) refl
     where
-      go : (r : Answer) → laidOut est o img .answer ≡ r → ImagesMatch p q (laidOut est o img .image) (laidOut est′ (rOrder q o) img′ .image)
+      go : (r : Answer) → laidOut est o img .answer ≡ r → ImagesMatch p q (laidOut est o img .image) (laidOut est′ (rSettings q o) img′ .image)
       go Done h = laid-written h
-      go (Refused r) h = rw (laid-refused est o img r h, laid-refused est′ (rOrder q o) img′ r (laid-answer ∙ h)) x
+      go (Refused r) h = rw (laid-refused est o img r h, laid-refused est′ (rSettings q o) img′ r (laid-answer ∙ h)) x

@@ -1,14 +1,14 @@
 -- Laws of a layout: the walk along next a turn at a time, bytes that a write leaves, and what the sizes give. Assumes nothing.
 use mathlib.Core.Path.{_≡_, refl, sym, ap, ap₂, _∙_}
-use mathlib.Core.Bool.{Bool, true, false, cond, _&&_}
+use mathlib.Core.Bool.{Bool, true, false, cond}
 use mathlib.Core.List.{List, [], _∷_, _++_, append-assoc}
 use mathlib.Core.Logic.{inl}
 use Prim.Native.Nat.{ℕ, zero, suc, _+_, _-_, _*_, _/_, _%_, _≤_, _<_}
 use native.Mathlib.Omega.{arith}
 use native.Mathlib.Nat.{lt-of-le-of-lt}
 use lib.Dec.{leb, eqb, lit<}
-use lib.ListN.{length, getD, take, drop, set, replicate, length-replicate, getD-replicate, List·getD-append}
-use lib.Seq.{paste, ext-getD, getD-take, length-take-le, getD-set-same, getD-set-other}
+use lib.ListN.{length, getD, take, drop, List·getD-append}
+use lib.Seq.{paste, getD-take, length-take-le}
 use borrow.Author.Tests.{eq-eqb, ne-eqb, leb-true, eqb-true}
 use Rattle.link_rules.specs.Octets.{putLe}
 use Rattle.link_rules.proofs.OctetLaws.{le-put-same, le-put-other, le-cong, length-put}
@@ -18,8 +18,14 @@ use Rattle.disp_structs.specs.declared.EstTime.{EstTime}
 use Rattle.disp_structs.specs.declared.DispNode.{DispNode}
 use Rattle.image.specs.Image.{estCount, nodePlace, imageSize, estFrom, putNode}
 use Rattle.image.specs.Codec.{putEach}
-use Rattle.train_disp.specs.TrainDisp.{newNode, offsetBehind, walkNext, withHeader, withEst, putNodes, sizesFit, Sized, allWithin}
-use Rattle.train_disp.specs.declared.Order.{Order}
+use Rattle.train_disp.specs.TrainDisp.{newNode, offsetBehind, walkNext, withHeader, withEst, putNodes, sizesFit, allWithin, trainFault, sizeFault, layOutFault, laid, laidBy}
+use Rattle.train_disp.specs.CodeFacts.{Sized}
+use Rattle.link_rules.specs.Refusals.{orElse, refusedUnless}
+use Rattle.link_rules.specs.declared.refusal.Refusal.{Refusal}
+use Rattle.link_rules.specs.declared.refusal.Answer.the-variants.{Done, Refused}
+use Rattle.image_fault.proofs.ScanLaws.{both}
+use Rattle.image_fault.proofs.AcceptLaws.{or-else-clean, refused-clean}
+use Rattle.train_disp.specs.declared.Settings.{Settings}
 
 -- ---- the walk along next: i of n records are done
 
@@ -102,7 +108,7 @@ module _ (sums : Bool) (est : List ℕ) (e i at : ℕ) (o : Metres) (img img′ 
     count-last = ap length last
 
 -- the header's E, once header and est records are written
-pub count-written : (est : List ℕ) (e : ℕ) (o : Order) (bs : List ℕ) → 64 ≤ length bs → e ≤ 512 → estCount (withEst est (withHeader e o bs)) ≡ e
+pub count-written : (est : List ℕ) (e : ℕ) (o : Settings) (bs : List ℕ) → 64 ≤ length bs → e ≤ 512 → estCount (withEst est (withHeader e o bs)) ≡ e
 unfolding withEst withHeader
 count-written est e o bs l h = pasted _ (rw (length-put, length-put, length-put, length-put, length-put, length-put, length-put, length-put, length-put, length-put) l) ∙ le-put-same 4 e 4 _ (rw (length-put, length-put, length-put, length-put, length-put, length-put, length-put, length-put, length-put) (omega arith)) (lt-of-le-of-lt h (lit< tt))
   where
@@ -124,46 +130,47 @@ walk-few sums est (suc k) e o = go (sameEst (estFrom est (32 * e) .«idx_next»)
     go true h = omega arith
     go false h = omega arith
 
--- ---- zero bytes
-
-pub zero-more : (n i : ℕ) (xs : List ℕ) → length xs ≡ n → i < n → ((k : ℕ) → k < i → getD xs k 0 ≡ 0) → (k : ℕ) → k < i + 1 → getD (set xs i 0) k 0 ≡ 0
-zero-more n i xs l h z k m = go (eqb k i) refl
-  where
-    go : (t : Bool) → eqb k i ≡ t → getD (set xs i 0) k 0 ≡ 0
-    go true e = let q : k ≡ i = eqb-true k i e in rw q (getD-set-same xs i 0 0 (omega arith))
-    go false e = getD-set-other xs i k 0 0 (λ q. let t : _≡_ {A = Bool} true false = sym (eq-eqb k i q) ∙ e in let u : _≡_ {A = ℕ} 0 1 = cc in omega arith) ∙ z k (omega (arith, ne k i e))
-      where
-        ne : (a b : ℕ) → eqb a b ≡ false → a ≡ b → ⊥
-        ne a b f q = let t : _≡_ {A = Bool} true false = sym (eq-eqb a b q) ∙ f in let u : _≡_ {A = ℕ} 0 1 = cc in omega arith
-
-pub all-zero : (xs : List ℕ) → ((k : ℕ) → k < length xs → getD xs k 0 ≡ 0) → xs ≡ replicate (length xs) 0
-all-zero xs z = ext-getD 0 xs (replicate (length xs) 0) (sym (length-replicate (length xs) 0)) (λ k h. z k h ∙ sym (getD-replicate (length xs) k 0 0 h))
-
 -- ---- what the sizes give
 
-and-left : (a b : Bool) → (a && b) ≡ true → a ≡ true
-and-left true b h = refl
-and-left false b h = h
+-- 6 of the sizes
+pub record SizesFit (n : ℕ) (o : Settings) (size : ℕ) : Type 0 where
+  pub whole : n % 32 ≡ 0
+  pub some-est : 1 ≤ n / 32
+  pub few-est : n / 32 ≤ 512
+  pub some-room : 2 ≤ o .«diverge_room»
+  pub few-room : o .«diverge_room» ≤ 1024
+  pub few-links : o .links ≤ 4000
+  pub size-is : size ≡ imageSize (n / 32) (o .«diverge_room»)
 
-and-right : (a b : Bool) → (a && b) ≡ true → b ≡ true
-and-right true b h = h
-and-right false b h = let z : _≡_ {A = ℕ} 0 1 = cc in absurd (omega arith)
-
-pub sizes-give : (n : ℕ) (o : Order) (size : ℕ) → sizesFit n o size ≡ true → Sized n o size
+pub sizes-fit : (n : ℕ) (o : Settings) (size : ℕ) → sizesFit n o size ≡ true → SizesFit n o size
 unfolding sizesFit
+sizes-fit n o size h =
+    let a = both (eqb (n % 32) 0) _ h in
+    let b = both (leb 1 (n / 32)) _ (a .1) in
+    let c = both (leb (n / 32) 512) _ (b .1) in
+    let d = both (leb 2 (o .«diverge_room»)) _ (c .1) in
+    let f = both (leb (o .«diverge_room») 1024) _ (d .1) in
+    let g = both (leb 2 (o .links)) _ (f .1) in
+    let k = both (leb (o .links) 4000) _ (g .1) in
+    record {
+      whole = eqb-true (n % 32) 0 (a .0);
+      some-est = leb-true 1 (n / 32) (b .0);
+      few-est = leb-true (n / 32) 512 (c .0);
+      some-room = leb-true 2 (o .«diverge_room») (d .0);
+      few-room = leb-true (o .«diverge_room») 1024 (f .0);
+      few-links = leb-true (o .links) 4000 (k .0);
+      size-is = eqb-true size (imageSize (n / 32) (o .«diverge_room»)) (k .1);
+    }
+
+pub sizes-give : (n : ℕ) (o : Settings) (size : ℕ) → sizesFit n o size ≡ true → Sized n o size
 sizes-give n o size h =
-    let whole = eqb-true (n % 32) 0 (and-left (eqb (n % 32) 0) _ h) in
-    let r1 = and-right (eqb (n % 32) 0) _ h in
-    let r2 = and-right (leb 1 (n / 32)) _ r1 in
-    let few = leb-true (n / 32) 512 (and-left (leb (n / 32) 512) _ r2) in
-    let r3 = and-right (leb (n / 32) 512) _ r2 in
-    let r4 = and-right (leb 2 (o .«diverge_room»)) _ r3 in
-    let room = leb-true (o .«diverge_room») 1024 (and-left (leb (o .«diverge_room») 1024) _ r4) in
-    let r5 = and-right (leb (o .«diverge_room») 1024) _ r4 in
-    let r6 = and-right (leb 2 (o .links)) _ r5 in
-    let r7 = and-right (leb (o .links) 4000) _ r6 in
-    let size-is = eqb-true size (imageSize (n / 32) (o .«diverge_room»)) r7 in
-    record { few-est = omega arith; few-room = room; room = omega arith; small = omega arith }
+    let z = sizes-fit n o size h in
+    record {
+      few-est = omega (arith, z .whole, z .few-est);
+      few-room = z .few-room;
+      room = omega (arith, z .whole, z .size-is);
+      small = omega (arith, z .few-est, z .few-room, z .size-is);
+    }
 
 -- ---- offsets along the walk
 
@@ -180,3 +187,33 @@ module _ (est : List ℕ) (n i at : ℕ) (o : Metres) (h : i < n) where
     pub scan-on : (r .«idx_next» .0 ≡ 0 → ⊥) → allWithin (walkNext true est (n - i) at o) ≡ allWithin (walkNext true est (n - (i + 1)) (r .«idx_next» .0) (offsetBehind true o r))
     unfolding allWithin
     scan-on z = rw er (ap allWithin (walk-on true est n i at o h (λ q. z (ap (λ (y : EstTime). y .«idx_next» .0) er ∙ q))) ∙ rw w)
+
+-- ---- the chain of refusals
+
+-- where one of the first two is met, it is the first of all
+pub or-stop : (a b f : Refusal) → (orElse a b .number ≡ 0 → ⊥) → orElse a (orElse b f) ≡ orElse a b
+or-stop a b f h = go (eqb (a .number) 0) (eqb (b .number) 0) refl h
+  where
+    go : (t u : Bool) → eqb (b .number) 0 ≡ u → (cond t b a .number ≡ 0 → ⊥) → cond t (cond u f b) a ≡ cond t b a
+    go true true e k = absurd (k (eqb-true (b .number) 0 e))
+    go true false e k = refl
+    go false u e k = refl
+
+-- where neither is, the rest decides
+pub or-on : (a b f : Refusal) → orElse a b .number ≡ 0 → orElse a (orElse b f) ≡ f
+or-on a b f h = let c = or-else-clean a b h in rw (eq-eqb (a .number) 0 (c .0), eq-eqb (b .number) 0 (c .1))
+
+pub sizes-clean : (a : Refusal) (fits : Bool) → orElse a (refusedUnless fits 6) .number ≡ 0 → fits ≡ true
+sizes-clean a fits h = refused-clean fits 6 (omega arith) (or-else-clean a (refusedUnless fits 6) h .1)
+
+pub fault-sizes : (est : List ℕ) (o : Settings) (size : ℕ) → layOutFault est o size .number ≡ 0 → sizesFit (length est) o size ≡ true
+unfolding layOutFault
+fault-sizes est o size h = refused-clean (sizesFit (length est) o size) 6 (omega arith) (or-else-clean (sizeFault est o size) _ (or-else-clean (trainFault o) _ h .1) .0)
+
+-- ---- what is left
+
+pub laid-refused : (f : Refusal) (was new : List ℕ) → (f .number ≡ 0 → ⊥) → laidBy f was new ≡ laid (Refused f) was
+laid-refused f was new h = rw (ne-eqb (f .number) 0 h)
+
+pub laid-done : (f : Refusal) (was new : List ℕ) → f .number ≡ 0 → laidBy f was new ≡ laid Done new
+laid-done f was new h = rw (eq-eqb (f .number) 0 h)

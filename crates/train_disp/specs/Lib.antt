@@ -1,1 +1,2 @@
 pub mod TrainDisp
+pub mod CodeFacts

@@ -1,6 +1,6 @@
 -- Laying out a new train: TrainDisp::new (train_disp/mod.rs 105-215), with refusals 5 to 9 and 11. Assumes nothing.
-use Prim.Native.Nat.{ℕ, zero, suc, _+_, _*_, _/_, _%_, _≤_}
-use mathlib.Core.Bool.{Bool, true, false, cond, _&&_}
+use Prim.Native.Nat.{ℕ, zero, suc, _+_, _*_, _/_, _%_}
+use mathlib.Core.Bool.{Bool, true, false, cond, not, _&&_}
 use mathlib.Core.List.{List, [], _∷_}
 use lib.Dec.{leb, eqb}
 use lib.Ieee.{Float, ne}
@@ -11,13 +11,17 @@ use Rattle.disp_structs.specs.Values.{noEst, sameEst, plus, zeroMetres, within,
 use Rattle.disp_structs.specs.declared.Metres.{Metres}
 use Rattle.disp_structs.specs.declared.EstTime.{EstTime}
 use Rattle.disp_structs.specs.declared.DispNode.{DispNode}
+use Rattle.disp_structs.specs.declared.DivergeNode.{DivergeNode}
+use Rattle.disp_structs.specs.Listed.{listed}
+use Rattle.disp_structs.specs.Train.{Train}
+use Rattle.link_rules.specs.LinkIdx.{noTrain, wideTrain}
 use Rattle.image.specs.Image.{nodePlace, divergePlace, imageSize, estFrom, putNode}
 use Rattle.image.specs.Fields.{sizeField, estCountField, pathCountField, divergeCountField, divergeRoomField, estOffsetField, pathOffsetField, divergeOffsetField, trainField, searchField, fixedMaxField, divergeNodeField, putField, putIn}
 use Rattle.image.specs.Codec.{putEach}
 use Rattle.image_fault.specs.ImageFault.{imageFault}
-use Rattle.link_rules.specs.Refusals.{refused}
+use Rattle.link_rules.specs.Refusals.{orElse, refusedUnless}
 use Rattle.link_rules.specs.declared.refusal.Refusal.{Refusal}
-use Rattle.train_disp.specs.declared.Order.{Order}
+use Rattle.train_disp.specs.declared.Settings.{Settings}
 use Rattle.link_rules.specs.declared.refusal.Answer.{Answer}
 use Rattle.link_rules.specs.declared.refusal.Answer.the-variants.{Done, Refused}
 
@@ -39,7 +43,7 @@ unfoldable pub offsetBehind : Bool → Metres → EstTime → Metres
 offsetBehind sums o x = cond sums (plus o (x .«dist_to_next»)) o
 
 -- at most k nodes, from record e at offset o on
-unfoldable pub walkNext : Bool → List ℕ → ℕ → ℕ → Metres → List DispNode
+unfoldable pub walkNext : (sums : Bool) (est : List ℕ) (k e : ℕ) (o : Metres) → List DispNode
 walkNext sums est zero e o = []
 walkNext sums est (suc k) e o =
     let x = estFrom est (32 * e) in
@@ -53,6 +57,29 @@ estLength est = length est / 32
 abbrev pub newPath : Bool → List ℕ → List DispNode
 newPath sums est = walkNext sums est (estLength est) 0 zeroMetres
 
+-- ---- TrainDisp::new (105-215)
+
+abbrev pub divergeNode : (node : ℕ) → DivergeNode
+divergeNode node = record { «train_idx» = noTrain; «disp_node_idx» = node }
+
+-- the new train: its path from its est records, the diverge nodes (0, 0) and (0, N), nothing of the path fixed or free.
+-- What is laid out is its image: LaidTrain.laid-encoded of layout_laws
+unfoldable pub newTrain : (est : List ℕ) (o : Settings) → Train
+newTrain est o =
+    record {
+      «est_times» = listed (estLength est) (λ i. estFrom est (32 * i));
+      «disp_path» = newPath true est;
+      «div_nodes» = divergeNode 0 ∷ (divergeNode (length (newPath true est)) ∷ []);
+      «disp_node_idx_fixed» = 0;
+      «disp_node_idx_free» = 0;
+      «disp_node_idx_front» = 0;
+      «disp_node_idx_back» = 0;
+      «dist_disp_path_search» = o .«dist_disp_path_search»;
+      «dist_fixed_max» = o .«dist_fixed_max»;
+      «train_idx» = wideTrain (o .«train_idx»);
+      divergeRoom = o .«diverge_room»;
+    }
+
 -- ---- the image over zero bytes
 
 -- a distance setting's pattern; of a NaN a NaN's, which 7 refuses
@@ -60,7 +87,7 @@ unfoldable pub settingBits : Float → ℕ
 settingBits x = cond (ne x x) 0x7ff8_0000_0000_0000 (bitsOf x)
 
 -- the header but N; M is 2, and fixed, free, front and back are 0
-unfoldable pub withHeader : ℕ → Order → List ℕ → List ℕ
+unfoldable pub withHeader : (e : ℕ) (o : Settings) (bs : List ℕ) → List ℕ
 withHeader e o bs =
     putField estCountField e
     (putField fixedMaxField (settingBits (o .«dist_fixed_max» .0))
@@ -74,7 +101,7 @@ withHeader e o bs =
     (putField sizeField (imageSize e (o .«diverge_room»)) bs)))))))))
 
 -- the est records as they are
-unfoldable pub withEst : List ℕ → List ℕ → List ℕ
+unfoldable pub withEst : (est bs : List ℕ) → List ℕ
 withEst est bs = paste bs 64 est (length est)
 
 -- path nodes in records from at on
@@ -82,55 +109,61 @@ abbrev pub putNodes : List DispNode → ℕ → List ℕ → List ℕ
 putNodes = putEach putNode 32
 
 -- N, and the ending diverge node (0, N) behind the starting one (0, 0) (168-173)
-unfoldable pub withEnds : ℕ → ℕ → List ℕ → List ℕ
+unfoldable pub withEnds : (e n : ℕ) (bs : List ℕ) → List ℕ
 withEnds e n bs = putIn divergeNodeField n (divergePlace e 1) (putField pathCountField n bs)
 
 -- size bytes
-unfoldable pub laidImage : Bool → List ℕ → Order → ℕ → List ℕ
+unfoldable pub laidImage : (sums : Bool) (est : List ℕ) (o : Settings) (size : ℕ) → List ℕ
 laidImage sums est o size =
     let e = estLength est in
     let path = newPath sums est in
     withEnds e (length path) (putNodes path (nodePlace e 0) (withEst est (withHeader e o (replicate size 0))))
 
--- ---- refusals
+-- ---- refusals (document 01, Lay out)
 
--- E, Q, L and the size of the buffer (6)
-unfoldable pub sizesFit : ℕ → Order → ℕ → Bool
+-- 5: train 0
+abbrev pub trainFault : (o : Settings) → Refusal
+trainFault o = refusedUnless (not (eqb (o .«train_idx» .0) 0)) 5
+
+-- 6: E, Q, L or the size of the buffer, over n bytes of est records
+unfoldable pub sizesFit : (n : ℕ) (o : Settings) (size : ℕ) → Bool
 sizesFit n o size =
     eqb (n % 32) 0 && (leb 1 (n / 32) && (leb (n / 32) 512
     && (leb 2 (o .«diverge_room») && (leb (o .«diverge_room») 1024
     && (leb 2 (o .links) && (leb (o .links) 4000 && eqb size (imageSize (n / 32) (o .«diverge_room»))))))))
 
--- what of it the buffers rest on
-pub record Sized (n : ℕ) (o : Order) (size : ℕ) : Type 0 where
-  pub few-est : n ≤ 16384
-  pub few-room : o .«diverge_room» ≤ 1024
-  pub room : 64 + n ≤ size
-  pub small : size ≤ 36928
+abbrev pub sizeFault : (est : List ℕ) (o : Settings) (size : ℕ) → Refusal
+sizeFault est o size = refusedUnless (sizesFit (length est) o size) 6
 
--- no stored offset is beyond 1e12 (11)
+-- 6 of a type or a spare byte, 7, 8 and 9 are those of the image with all offsets 0: an offset is judged after them
+abbrev pub recordsFault : (est : List ℕ) (o : Settings) (size : ℕ) → Refusal
+recordsFault est o size = imageFault (laidImage false est o size) (o .links)
+
+-- 11: a stored offset is beyond 1e12
 unfoldable pub allWithin : List DispNode → Bool
 allWithin [] = true
 allWithin (x ∷ xs) = let rest = allWithin xs in cond (within (x .offset)) rest false
+
+abbrev pub reachFault : (est : List ℕ) → Refusal
+reachFault est = refusedUnless (allWithin (newPath true est)) 11
+
+-- the first of them, for a buffer of size bytes
+unfoldable pub layOutFault : (est : List ℕ) (o : Settings) (size : ℕ) → Refusal
+layOutFault est o size = orElse (trainFault o) (orElse (sizeFault est o size) (orElse (recordsFault est o size) (reachFault est)))
+
+-- ---- lay out
 
 -- the answer, and the image that is left
 pub record Laid : Type 0 where
   pub answer : Answer
   pub image : List ℕ
 
-abbrev pub laid : Answer → List ℕ → Laid
+abbrev pub laid : (r : Answer) (bs : List ℕ) → Laid
 laid r bs = record { answer = r; image = bs }
 
-abbrev pub refusedBy : Refusal → List ℕ → Laid
-refusedBy f bs = laid (Refused f) bs
+-- a refusal leaves the image
+abbrev pub laidBy : (f : Refusal) (was new : List ℕ) → Laid
+laidBy f was new = cond (eqb (f .number) 0) (laid Done new) (laid (Refused f) was)
 
--- lay out (document 01): 5; 6; then 6 to 9 as the image with all offsets 0 has them, in the same order; then 11
-abbrev pub judged : Refusal → Bool → List ℕ → List ℕ → Laid
-judged f fits was new = cond (eqb (f .number) 0) (cond fits (laid Done new) (refusedBy (refused 11 0) was)) (refusedBy f was)
-
-unfoldable pub laidOut : List ℕ → Order → List ℕ → Laid
-laidOut est o img =
-    let f = imageFault (laidImage false est o (length img)) (o .links) in
-    let r = judged f (allWithin (newPath true est)) img (laidImage true est o (length img)) in
-    cond (eqb (o .«train_idx» .0) 0) (refusedBy (refused 5 0) img)
-    (cond (sizesFit (length est) o (length img)) r (refusedBy (refused 6 0) img))
+unfoldable pub laidOut : (est : List ℕ) (o : Settings) (img : List ℕ) → Laid
+laidOut est o img = laidBy (layOutFault est o (length img)) img (laidImage true est o (length img))

@@ -8,7 +8,8 @@ ghost use Rattle.disp_structs.specs.Values;
 ghost use Rattle.disp_structs.specs.Values.{zeroMetres};
 ghost use Rattle.image.specs.Image.{estCount, nodePlace};
 ghost use Rattle.image_fault.specs.ImageFault.{imageFault};
-ghost use Rattle.train_disp.specs.TrainDisp.{newNode, offsetBehind, walkNext, estLength, newPath, settingBits, withHeader, withEst, putNodes, withEnds, laidImage, sizesFit, Sized, allWithin, laid, laidOut};
+ghost use Rattle.train_disp.specs.TrainDisp.{newNode, offsetBehind, walkNext, estLength, newPath, settingBits, withHeader, withEst, putNodes, withEnds, laidImage, sizesFit, allWithin, layOutFault, laid, laidOut};
+ghost use Rattle.train_disp.specs.CodeFacts.{Sized};
 use disp_structs::DispNode;
 use disp_structs::EstIdx;
 use disp_structs::EstTime;
@@ -18,11 +19,12 @@ use disp_structs::floats;
 use image::codec;
 use link_rules::link_idx::NarrowTrainIdx;
 use link_rules::octets;
+use link_rules::refusal;
 use link_rules::refusal::Answer;
 use link_rules::refusal::Refusal;
 
 // What a layout is told besides the est records: the train, the two distance settings, and document 01's Q and L.
-pub struct Order {
+pub struct Settings {
     pub train_idx: NarrowTrainIdx,
     pub dist_disp_path_search: Metres,
     pub dist_fixed_max: Metres,
@@ -31,40 +33,36 @@ pub struct Order {
 }
 
 // Writes the image of a new train, its path along next from est 0. Refused by 5 to 9 and 11: then nothing is changed.
-pub fn lay_out(est: &[u8], order: Order, image: &mut [u8]) -> Answer
-    ensures { λ r. ⌜ laid r (now (image .exit)) ≡ laidOut (now (est .entry)) order (now (image .entry)) ⌝ }
+pub fn lay_out(est: &[u8], settings: Settings, image: &mut [u8]) -> Answer
+    ensures { λ r. ⌜ laid r (now (image .exit)) ≡ laidOut (now (est .entry)) settings (now (image .entry)) ⌝ }
 {
-    if order.train_idx.0 == 0 {
-        return refused(5);
-    }
-    if !sizes_fit(est.len(), order, image.len()) {
-        return refused(6);
-    }
-    let f = judge(est, order, image.len());
+    let f = lay_out_fault(est, settings, image.len());
     if f.number != 0 {
         return Answer::Refused(f);
     }
-    if !offsets_fit(est) {
-        return refused(11);
-    }
-    build(image, est, order, true);
+    build(image, est, settings, true);
     Answer::Done
 }
 
-// With place 0.
-fn refused(number: u16) -> Answer
-    ensures { λ r. ⌜ r ≡ Answer.Refused (record { number = number; place = 0 }) ⌝ }
+// The first refusal, in document 01's order. The records are judged once train and sizes are good.
+fn lay_out_fault(est: &[u8], settings: Settings, size: usize) -> Refusal
+    ensures { λ r. ⌜ r ≡ layOutFault (now (est .entry)) settings size ⌝ }
 {
-    Answer::Refused(Refusal {
-        number: number,
-        place: 0,
-    })
+    let bad_train = refusal::refused_unless(settings.train_idx.0 != 0, 5);
+    let bad_size = refusal::refused_unless(sizes_fit(est.len(), settings, size), 6);
+    let first = refusal::or_else(bad_train, bad_size);
+    if first.number != 0 {
+        return first;
+    }
+    let bad_records = judge(est, settings, size);
+    let beyond = refusal::refused_unless(offsets_fit(est), 11);
+    refusal::or_else(bad_records, beyond)
 }
 
-fn sizes_fit(n: usize, order: Order, size: usize) -> bool
-    ensures { λ r. ⌜ r ≡ sizesFit n order size ⌝ }
+fn sizes_fit(n: usize, settings: Settings, size: usize) -> bool
+    ensures { λ r. ⌜ r ≡ sizesFit n settings size ⌝ }
 {
-    let q = order.diverge_room as usize;
+    let q = settings.diverge_room as usize;
     if n % 32 != 0 {
         return false;
     }
@@ -81,33 +79,33 @@ fn sizes_fit(n: usize, order: Order, size: usize) -> bool
     if 1024 < q {
         return false;
     }
-    if order.links < 2 {
+    if settings.links < 2 {
         return false;
     }
-    if 4000 < order.links {
+    if 4000 < settings.links {
         return false;
     }
     size == 64 + 64 * e + 4 * q
 }
 
 // 6 to 9 of the image with all offsets 0. A small image is judged in a small buffer, which takes less time to clear.
-fn judge(est: &[u8], order: Order, size: usize) -> Refusal
-    requires { ⌜ Sized (length (now est)) order size ⌝ }
-    ensures { λ r. ⌜ r ≡ imageFault (laidImage false (now (est .entry)) order size) (order .links) ⌝ }
+fn judge(est: &[u8], settings: Settings, size: usize) -> Refusal
+    requires { ⌜ Sized (length (now est)) settings size ⌝ }
+    ensures { λ r. ⌜ r ≡ imageFault (laidImage false (now (est .entry)) settings size) (settings .links) ⌝ }
 {
     if size <= 4096 {
-        return judge_small(est, order, size);
+        return judge_small(est, settings, size);
     }
     let mut room = scratch();
-    judge_in(est, order, &mut room[..size])
+    judge_in(est, settings, &mut room[..size])
 }
 
-fn judge_small(est: &[u8], order: Order, size: usize) -> Refusal
-    requires { ⌜ (Sized (length (now est)) order size) × (size ≤ 4096) ⌝ }
-    ensures { λ r. ⌜ r ≡ imageFault (laidImage false (now (est .entry)) order size) (order .links) ⌝ }
+fn judge_small(est: &[u8], settings: Settings, size: usize) -> Refusal
+    requires { ⌜ (Sized (length (now est)) settings size) × (size ≤ 4096) ⌝ }
+    ensures { λ r. ⌜ r ≡ imageFault (laidImage false (now (est .entry)) settings size) (settings .links) ⌝ }
 {
     let mut room = small_scratch();
-    judge_in(est, order, &mut room[..size])
+    judge_in(est, settings, &mut room[..size])
 }
 
 fn small_scratch() -> [u8; 4096]
@@ -123,34 +121,24 @@ fn scratch() -> [u8; 36928]
     [0u8; 36928]
 }
 
-fn judge_in(est: &[u8], order: Order, img: &mut [u8]) -> Refusal
-    requires { ⌜ Sized (length (now est)) order (length (now img)) ⌝ }
-    ensures { λ r. ⌜ r ≡ imageFault (laidImage false (now (est .entry)) order (length (now (img .entry)))) (order .links) ⌝ }
+fn judge_in(est: &[u8], settings: Settings, img: &mut [u8]) -> Refusal
+    requires { ⌜ Sized (length (now est)) settings (length (now img)) ⌝ }
+    ensures { λ r. ⌜ r ≡ imageFault (laidImage false (now (est .entry)) settings (length (now (img .entry)))) (settings .links) ⌝ }
 {
-    build(img, est, order, false);
-    image_fault::image_fault(img, order.links)
+    build(img, est, settings, false);
+    image_fault::image_fault(img, settings.links)
 }
 
-fn build(img: &mut [u8], est: &[u8], order: Order, sums: bool)
-    requires { ⌜ Sized (length (now est)) order (length (now img)) ⌝ }
-    ensures { λ _. ⌜ now (img .exit) ≡ laidImage sums (now (est .entry)) order (length (now (img .entry))) ⌝ }
+fn build(img: &mut [u8], est: &[u8], settings: Settings, sums: bool)
+    requires { ⌜ Sized (length (now est)) settings (length (now img)) ⌝ }
+    ensures { λ _. ⌜ now (img .exit) ≡ laidImage sums (now (est .entry)) settings (length (now (img .entry))) ⌝ }
 {
     let e = (est.len() / 32) as u32;
-    clear(img);
-    put_header(img, e, order);
+    codec::zero_all(img);
+    put_header(img, e, settings);
     put_est(img, est);
     let n = put_path(img, est, e, sums);
     put_ends(img, e, n);
-}
-
-fn clear(img: &mut [u8])
-    ensures { λ _. ⌜ now (img .exit) ≡ replicate (length (now (img .entry))) 0 ⌝ }
-{
-    let mut i = 0;
-    while i < img.len() {
-        img[i] = 0;
-        i += 1;
-    }
 }
 
 fn setting_bits(x: f64) -> u64
@@ -162,20 +150,20 @@ fn setting_bits(x: f64) -> u64
     floats::bits_of(x)
 }
 
-fn put_header(img: &mut [u8], e: u32, order: Order)
-    requires { ⌜ (e ≤ 512) × (order .«diverge_room» ≤ 1024) ⌝ }
-    ensures { λ _. ⌜ now (img .exit) ≡ withHeader e order (now (img .entry)) ⌝ }
+fn put_header(img: &mut [u8], e: u32, settings: Settings)
+    requires { ⌜ (e ≤ 512) × (settings .«diverge_room» ≤ 1024) ⌝ }
+    ensures { λ _. ⌜ now (img .exit) ≡ withHeader e settings (now (img .entry)) ⌝ }
 {
-    let q = order.diverge_room;
+    let q = settings.diverge_room;
     octets::put_u32(img, 0, 64 + 64 * e + 4 * q);
     octets::put_u32(img, 12, 2);
     octets::put_u32(img, 16, q);
     octets::put_u32(img, 20, 64);
     octets::put_u32(img, 24, 64 + 32 * e);
     octets::put_u32(img, 28, 64 + 64 * e);
-    octets::put_u16(img, 32, order.train_idx.0);
-    octets::put_u64(img, 48, setting_bits(order.dist_disp_path_search.0));
-    octets::put_u64(img, 56, setting_bits(order.dist_fixed_max.0));
+    octets::put_u16(img, 32, settings.train_idx.0);
+    octets::put_u64(img, 48, setting_bits(settings.dist_disp_path_search.0));
+    octets::put_u64(img, 56, setting_bits(settings.dist_fixed_max.0));
     octets::put_u32(img, 4, e);
 }
 

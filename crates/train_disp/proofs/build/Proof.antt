@@ -16,8 +16,8 @@ use Rattle.train_disp.proofs.build.Tie as tie
 cast-e : tie.Need-cast-e
 cast-e c = search needs
 
-clear-requires : tie.Need-clear-requires
-clear-requires c κs = search needs
+zero-all-requires : tie.Need-zero-all-requires
+zero-all-requires c κs = search needs
 
 put-header-requires : tie.Need-put-header-requires
 put-header-requires c κs = search needs
@@ -30,10 +30,10 @@ put-path-requires c κs =
     let a = c .before .before .before .before .before .before .before .before .before .before .before .before .before .before .before .args in
     let e = length (now (a .est)) / 32 in
     let p = c .before .before .before .before .before .before .before .before .before .before .before .before .before .before .before .pre in
-    let zeros = c .before .before .before .before .before .before .before .before .before .before .before .clear .ensures in (
+    let zeros = c .before .before .before .before .before .before .before .before .before .before .before .zero-all .ensures in (
       omega (arith, p .few-est),
-      ap (λ (bs : List ℕ). estCount bs) (c .before .before .before .put-est .ensures ∙ ap (withEst (now (a .est))) (c .before .before .before .before .before .before .before .put-header .ensures ∙ ap (withHeader e (a .order)) zeros))
-          ∙ count-written (now (a .est)) e (a .order) (replicate (length (now (a .img))) 0) (omega (arith, p .room, length-replicate {A = ℕ} (length (now (a .img))) 0)) (omega (arith, p .few-est)),
+      ap (λ (bs : List ℕ). estCount bs) (c .before .before .before .put-est .ensures ∙ ap (withEst (now (a .est))) (c .before .before .before .before .before .before .before .put-header .ensures ∙ ap (withHeader e (a .settings)) zeros))
+          ∙ count-written (now (a .est)) e (a .settings) (replicate (length (now (a .img))) 0) (omega (arith, p .room, length-replicate {A = ℕ} (length (now (a .img))) 0)) (omega (arith, p .few-est)),
     )
 
 put-ends-requires : tie.Need-put-ends-requires
@@ -48,14 +48,14 @@ same-length c = search needs
 
 returns : tie.Need-returns
 unfolding laidImage
-returns c = rw (c .before .before .put-ends .ensures, c .before .before .before .before .before .before .put-path .ensures .0, c .before .before .before .before .before .before .put-path .ensures .1, c .before .before .before .before .before .before .before .before .before .before .put-est .ensures, c .before .before .before .before .before .before .before .before .before .before .before .before .before .before .put-header .ensures, c .before .before .before .before .before .before .before .before .before .before .before .before .before .before .before .before .before .before .clear .ensures)
+returns c = rw (c .before .before .put-ends .ensures, c .before .before .before .before .before .before .put-path .ensures .0, c .before .before .before .before .before .before .put-path .ensures .1, c .before .before .before .before .before .before .before .before .before .before .put-est .ensures, c .before .before .before .before .before .before .before .before .before .before .before .before .before .before .put-header .ensures, c .before .before .before .before .before .before .before .before .before .before .before .before .before .before .before .before .before .before .zero-all .ensures)
 
 pub build-spec : {M : Type 1} → statement M
 build-spec =
     tie.close
     (tie.spec
     cast-e
-    clear-requires
+    zero-all-requires
     put-header-requires
     put-est-requires
     put-path-requires

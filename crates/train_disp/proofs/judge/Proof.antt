@@ -34,7 +34,7 @@ returns-2 : tie.Need-returns-2
 returns-2 c =
     let p = c .before .before .before .before .before .before .pre in
     let a = c .before .before .before .before .before .before .args in
-    c .before .judge-in .ensures ∙ ap (λ (n : ℕ). imageFault (laidImage false (now (a .est)) (a .order) n) (a .order .links)) (length-take-le (a .size) (c .before .before .before .scratch .result) (omega (arith, p .small, c .before .before .before .scratch .ensures)))
+    c .before .judge-in .ensures ∙ ap (λ (n : ℕ). imageFault (laidImage false (now (a .est)) (a .settings) n) (a .settings .links)) (length-take-le (a .size) (c .before .before .before .scratch .result) (omega (arith, p .small, c .before .before .before .scratch .ensures)))
 
 pub judge-spec : {M : Type 1} → statement M
 judge-spec =

@@ -16,7 +16,7 @@ same-length : tie.Need-same-length
 same-length c = search needs
 
 returns : tie.Need-returns
-returns c = c .image-fault .ensures ∙ ap (λ (bs : List ℕ). imageFault bs (c .before .before .before .before .before .before .before .before .args .order .links)) (c .before .before .before .before .build .ensures)
+returns c = c .image-fault .ensures ∙ ap (λ (bs : List ℕ). imageFault bs (c .before .before .before .before .before .before .before .before .args .settings .links)) (c .before .before .before .before .build .ensures)
 
 pub judge-in-spec : {M : Type 1} → statement M
 judge-in-spec = tie.close (tie.spec build-requires image-fault-requires same-length returns)

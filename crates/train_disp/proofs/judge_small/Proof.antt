@@ -28,7 +28,7 @@ returns : tie.Need-returns
 returns c =
     let p = c .before .before .before .before .before .pre in
     let a = c .before .before .before .before .before .args in
-    c .before .judge-in .ensures ∙ ap (λ (n : ℕ). imageFault (laidImage false (now (a .est)) (a .order) n) (a .order .links)) (length-take-le (a .size) (c .before .before .before .small-scratch .result) (omega (arith, p .1, c .before .before .before .small-scratch .ensures)))
+    c .before .judge-in .ensures ∙ ap (λ (n : ℕ). imageFault (laidImage false (now (a .est)) (a .settings) n) (a .settings .links)) (length-take-le (a .size) (c .before .before .before .small-scratch .result) (omega (arith, p .1, c .before .before .before .small-scratch .ensures)))
 
 pub judge-small-spec : {M : Type 1} → statement M
 judge-small-spec =

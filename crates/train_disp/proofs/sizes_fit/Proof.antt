@@ -31,25 +31,25 @@ returns-4 : tie.Need-returns-4
 unfolding sizesFit
 returns-4 c =
     let a = c .before .before .before .before .before .args in
-    rw (eq-eqb (a .n % 32) 0 (omega arith), le-leb 1 (a .n / 32) (omega arith), le-leb (a .n / 32) 512 (omega arith), lt-leb 2 (a .order .«diverge_room») (omega arith))
+    rw (eq-eqb (a .n % 32) 0 (omega arith), le-leb 1 (a .n / 32) (omega arith), le-leb (a .n / 32) 512 (omega arith), lt-leb 2 (a .settings .«diverge_room») (omega arith))
 
 returns-5 : tie.Need-returns-5
 unfolding sizesFit
 returns-5 c =
     let a = c .before .before .before .before .before .before .args in
-    rw (eq-eqb (a .n % 32) 0 (omega arith), le-leb 1 (a .n / 32) (omega arith), le-leb (a .n / 32) 512 (omega arith), le-leb 2 (a .order .«diverge_room») (omega arith), lt-leb (a .order .«diverge_room») 1024 (omega arith))
+    rw (eq-eqb (a .n % 32) 0 (omega arith), le-leb 1 (a .n / 32) (omega arith), le-leb (a .n / 32) 512 (omega arith), le-leb 2 (a .settings .«diverge_room») (omega arith), lt-leb (a .settings .«diverge_room») 1024 (omega arith))
 
 returns-6 : tie.Need-returns-6
 unfolding sizesFit
 returns-6 c =
     let a = c .before .before .before .before .before .before .before .before .args in
-    rw (eq-eqb (a .n % 32) 0 (omega arith), le-leb 1 (a .n / 32) (omega arith), le-leb (a .n / 32) 512 (omega arith), le-leb 2 (a .order .«diverge_room») (omega arith), le-leb (a .order .«diverge_room») 1024 (omega arith), lt-leb 2 (a .order .links) (omega arith))
+    rw (eq-eqb (a .n % 32) 0 (omega arith), le-leb 1 (a .n / 32) (omega arith), le-leb (a .n / 32) 512 (omega arith), le-leb 2 (a .settings .«diverge_room») (omega arith), le-leb (a .settings .«diverge_room») 1024 (omega arith), lt-leb 2 (a .settings .links) (omega arith))
 
 returns-7 : tie.Need-returns-7
 unfolding sizesFit
 returns-7 c =
     let a = c .before .before .before .before .before .before .before .before .before .before .args in
-    rw (eq-eqb (a .n % 32) 0 (omega arith), le-leb 1 (a .n / 32) (omega arith), le-leb (a .n / 32) 512 (omega arith), le-leb 2 (a .order .«diverge_room») (omega arith), le-leb (a .order .«diverge_room») 1024 (omega arith), le-leb 2 (a .order .links) (omega arith), lt-leb (a .order .links) 4000 (omega arith))
+    rw (eq-eqb (a .n % 32) 0 (omega arith), le-leb 1 (a .n / 32) (omega arith), le-leb (a .n / 32) 512 (omega arith), le-leb 2 (a .settings .«diverge_room») (omega arith), le-leb (a .settings .«diverge_room») 1024 (omega arith), le-leb 2 (a .settings .links) (omega arith), lt-leb (a .settings .links) 4000 (omega arith))
 
 mul-result : tie.Need-mul-result
 mul-result c = search needs
@@ -67,7 +67,7 @@ returns-8 : tie.Need-returns-8
 unfolding sizesFit
 returns-8 c =
     let a = c .before .before .before .before .before .before .before .before .before .before .args in
-    rw (eq-eqb (a .n % 32) 0 (omega arith), le-leb 1 (a .n / 32) (omega arith), le-leb (a .n / 32) 512 (omega arith), le-leb 2 (a .order .«diverge_room») (omega arith), le-leb (a .order .«diverge_room») 1024 (omega arith), le-leb 2 (a .order .links) (omega arith), le-leb (a .order .links) 4000 (omega arith))
+    rw (eq-eqb (a .n % 32) 0 (omega arith), le-leb 1 (a .n / 32) (omega arith), le-leb (a .n / 32) 512 (omega arith), le-leb 2 (a .settings .«diverge_room») (omega arith), le-leb (a .settings .«diverge_room») 1024 (omega arith), le-leb 2 (a .settings .links) (omega arith), le-leb (a .settings .links) 4000 (omega arith))
 
 pub sizes-fit-spec : {M : Type 1} → statement M
 sizes-fit-spec =
