@@ -4,6 +4,7 @@
 //! `model` holds one function for each operation; other programs may link it.
 
 pub mod calls;
+pub mod candidate;
 pub mod cases;
 pub mod demand3;
 pub mod figures;

@@ -1,5 +1,6 @@
 //! Trials at scale of what the change requests claim, over random calls: what was met is counted, and each claim that fails.
 
+mod candidate;
 mod game;
 mod holder;
 mod index;
@@ -24,6 +25,7 @@ const TRIALS: &[(&str, fn(u64, u64) -> bool)] = &[
     ("Q-6", wide::run),
     ("Q-9", steps::run),
     ("Q-10", index::run),
+    ("Q-11", candidate::run),
     ("Q-12", game::run),
     ("Q-14", met::run),
 ];
