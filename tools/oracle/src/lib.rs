@@ -5,6 +5,7 @@
 
 pub mod calls;
 pub mod candidate;
+pub mod carry;
 pub mod cases;
 pub mod demand3;
 pub mod figures;

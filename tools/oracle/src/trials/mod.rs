@@ -1,6 +1,7 @@
 //! Trials at scale of what the change requests claim, over random calls: what was met is counted, and each claim that fails.
 
 mod candidate;
+mod carry;
 mod game;
 mod holder;
 mod index;
@@ -23,6 +24,7 @@ const TRIALS: &[(&str, fn(u64, u64) -> bool)] = &[
     ("Q-3", holder::run),
     ("Q-5", undo::run),
     ("Q-6", wide::run),
+    ("Q-7", carry::run),
     ("Q-9", steps::run),
     ("Q-10", index::run),
     ("Q-11", candidate::run),
