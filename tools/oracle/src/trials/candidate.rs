@@ -23,7 +23,7 @@ struct Candidates {
 }
 
 /// The Arrive links of an image, if it is accepted.
-fn arrive_links(image: &[u8], l: usize) -> Vec<u32> {
+pub fn arrive_links(image: &[u8], l: usize) -> Vec<u32> {
     let path = read_any(image, l).map_or(vec![], |t| t.path);
     path.iter().filter(|x| x.kind == ARRIVE).map(|x| x.link).collect()
 }
@@ -33,7 +33,7 @@ fn images(yard: &[u8]) -> Vec<Vec<u8>> {
 }
 
 /// Another yard that agrees with this one on the slot's image and on which of its links are taken.
-fn other(rng: &mut Rng, y: &WideYard, slot: usize) -> WideYard {
+pub fn other(rng: &mut Rng, y: &WideYard, slot: usize) -> WideYard {
     let mine = &images(&y.yard)[slot - 1];
     let mut theirs = images(&wide_start(rng).yard);
     while theirs.len() < slot || rng.chance(30) && theirs.len() < 60 {

@@ -37,7 +37,7 @@ fn narrowed(image: &[u8]) -> Vec<u8> {
 }
 
 /// The size of the second buffer, from the images.
-fn wide_size(yard: &[u8]) -> usize {
+pub fn wide_size(yard: &[u8]) -> usize {
     let parts = read_yard(yard).expect("a yard");
     let images = parts.iter().map(|p| p.len() + 4 * u32_at(yard, p.start + 16) as usize);
     8 + 4 * parts.len() + images.sum::<usize>()

@@ -1,15 +1,15 @@
 //! Trials at scale of what the change requests claim, over random calls: what was met is counted, and each claim that fails.
 
-mod candidate;
-mod carry;
+pub mod candidate;
+pub mod carry;
 mod game;
 mod holder;
 mod index;
 mod met;
-mod replay;
+pub mod replay;
 mod steps;
 mod undo;
-mod wide;
+pub mod wide;
 
 use crate::calls;
 use crate::gen::*;

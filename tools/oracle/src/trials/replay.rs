@@ -59,24 +59,7 @@ impl Replays {
 
     /// A damaged recording is played just where it is the recording of what is read in it, but for where links lie.
     fn damage(&mut self, rng: &mut Rng, recording: &[u8], y: &Yard, n: usize) {
-        let mut b = recording.to_vec();
-        let mut room = n;
-        match rng.below(5) {
-            0 => put_u32(&mut b, 4 * rng.below(3), rng.pick(&[0, 1, n as u32 + 1, u32::MAX, 1 << 30])),
-            1 => b.truncate(rng.below(b.len())),
-            2 if n > 0 => {
-                let at = 12 + 20 * rng.below(n);
-                let field = rng.below(7);
-                let value = rng.pick(&[0, 1, 2, 65_535]);
-                if field < 3 {
-                    put_u32(&mut b, at + 4 * field, rng.pick(&[value, u32::MAX]));
-                } else {
-                    put_u16(&mut b, at + 12 + 2 * (field - 3), value as u16);
-                }
-            }
-            3 => room += rng.pick(&[1, 2]),
-            _ => b.push(0),
-        }
+        let (b, room) = damaged(rng, recording, n);
         let (mut yard, mut occ, mut list) = (y.yard.clone(), y.occ.clone(), vec![0xA5A5; room]);
         let done = replay(&b, &y.table, &mut yard, &mut occ, &mut list);
         self.damaged += 1;
@@ -96,6 +79,46 @@ impl Replays {
             self.failed.unless("written anew", same, String::new);
         }
     }
+}
+
+/// A recording of n steps damaged, and how long a list is lent to it.
+fn damaged(rng: &mut Rng, recording: &[u8], n: usize) -> (Vec<u8>, usize) {
+    let mut b = recording.to_vec();
+    let mut room = n;
+    match rng.below(5) {
+        0 => put_u32(&mut b, 4 * rng.below(3), rng.pick(&[0, 1, n as u32 + 1, u32::MAX, 1 << 30])),
+        1 => b.truncate(rng.below(b.len())),
+        2 if n > 0 => {
+            let at = 12 + 20 * rng.below(n);
+            let field = rng.below(7);
+            let value = rng.pick(&[0, 1, 2, 65_535]);
+            if field < 3 {
+                put_u32(&mut b, at + 4 * field, rng.pick(&[value, u32::MAX]));
+            } else {
+                put_u16(&mut b, at + 12 + 2 * (field - 3), value as u16);
+            }
+        }
+        3 => room += rng.pick(&[1, 2]),
+        _ => b.push(0),
+    }
+    (b, room)
+}
+
+/// A yard, a recording for it, some of them damaged, and how long a list is lent to it.
+pub fn some_recording(rng: &mut Rng) -> (Yard, Vec<u8>, usize) {
+    let start = damaged_start(rng);
+    let (mut now, mut steps) = (start.clone(), vec![]);
+    for _ in 0..rng.below(9) {
+        let s = if rng.chance(97) { step_of(&call_for(rng, &now)) } else { odd(rng) };
+        call(&s, &now.table, &mut now.yard, &mut now.occ);
+        steps.push(s);
+    }
+    let recording = recording_of(&steps);
+    if rng.chance(33) {
+        let (b, room) = damaged(rng, &recording, steps.len());
+        return (start, b, room);
+    }
+    (start, recording, steps.len())
 }
 
 /// A yard, some with a header, a table or an occupancy that is refused.

@@ -131,12 +131,12 @@ impl Wide {
 // ---- demand 3 over lists of wide calls
 
 #[derive(Debug, PartialEq)]
-pub(super) enum Answer {
+pub enum Answer {
     Marked(Result<(), Refusal>),
     Checked(Checked, Vec<Visit>),
 }
 
-pub(super) fn wide_start(rng: &mut Rng) -> WideYard {
+pub fn wide_start(rng: &mut Rng) -> WideYard {
     let mut y = demand3::start(rng);
     if rng.chance(98) {
         y.occ[0] = 0;
@@ -146,7 +146,7 @@ pub(super) fn wide_start(rng: &mut Rng) -> WideYard {
 }
 
 /// A call of the narrow lists, its trains above the slots up to six digits or somewhat above.
-pub(super) fn wide_call(rng: &mut Rng, y: &WideYard) -> (Call, u32) {
+pub fn wide_call(rng: &mut Rng, y: &WideYard) -> (Call, u32) {
     let slots = read_yard(&y.yard).expect("a yard that is accepted").len() as u32;
     let about = demand3::About { l: y.occ.len(), s: slots as usize, held: &|i| y.occ[i] != 0 };
     let call = demand3::call_about(rng, &about);
@@ -161,7 +161,7 @@ pub(super) fn wide_call(rng: &mut Rng, y: &WideYard) -> (Call, u32) {
     (call, train)
 }
 
-pub(super) fn run_wide(y: &mut WideYard, c: &Call, train: u32) -> Answer {
+pub fn run_wide(y: &mut WideYard, c: &Call, train: u32) -> Answer {
     match c {
         Call::Mark { link, .. } => Answer::Marked(wide::mark(&y.table, &mut y.occ, *link, train)),
         Call::Check { blocking, begin, local, limit, .. } => {
@@ -174,7 +174,7 @@ pub(super) fn run_wide(y: &mut WideYard, c: &Call, train: u32) -> Answer {
     }
 }
 
-pub(super) fn renumbered(rng: &mut Rng, r: &Renumbering, c: &Call) -> Call {
+pub fn renumbered(rng: &mut Rng, r: &Renumbering, c: &Call) -> Call {
     match c {
         Call::Mark { link, .. } => Call::Mark { link: r.link(*link), train: 0 },
         Call::Check { blocking, begin, local, limit, report, .. } => {
@@ -185,7 +185,7 @@ pub(super) fn renumbered(rng: &mut Rng, r: &Renumbering, c: &Call) -> Call {
     }
 }
 
-pub(super) fn match_answers(r: &Renumbering, a: &Answer, b: &Answer) -> bool {
+pub fn match_answers(r: &Renumbering, a: &Answer, b: &Answer) -> bool {
     let (Answer::Checked(x, visits), Answer::Checked(y, others)) = (a, b) else { return a == b };
     let same = match (x, y) {
         (Checked::Done { deadlock: p, .. }, Checked::Done { deadlock: q, .. }) => p == q,
@@ -198,20 +198,20 @@ pub(super) fn match_answers(r: &Renumbering, a: &Answer, b: &Answer) -> bool {
     })
 }
 
-pub(super) fn match_states(r: &Renumbering, a: &WideYard, b: &WideYard) -> bool {
+pub fn match_states(r: &Renumbering, a: &WideYard, b: &WideYard) -> bool {
     let mut occ = vec![0; a.occ.len()];
     a.occ.iter().enumerate().for_each(|(i, &t)| occ[r.link(i as u32) as usize] = r.train(t));
     occ == b.occ && yard_of(&r.images(&a.yard, a.occ.len())) == b.yard
 }
 
-pub(super) fn renumbered_yard(r: &Renumbering, y: &WideYard) -> WideYard {
+pub fn renumbered_yard(r: &Renumbering, y: &WideYard) -> WideYard {
     let mut occ = vec![0; y.occ.len()];
     y.occ.iter().enumerate().for_each(|(i, &t)| occ[r.link(i as u32) as usize] = r.train(t));
     WideYard { table: r.table(&y.table), occ, yard: yard_of(&r.images(&y.yard, y.occ.len())) }
 }
 
 /// Begin 1, entry 0 empty, no strays, as in demand 3.
-pub(super) fn premises_met(c: &Call, a: &Answer, occ: &[u32]) -> bool {
+pub fn premises_met(c: &Call, a: &Answer, occ: &[u32]) -> bool {
     let (Call::Check { begin, .. }, Answer::Checked(x, visits)) = (c, a) else { return true };
     let strays = visits.iter().any(|v| v.row.strays != 0);
     matches!(x, Checked::Refused(_)) || *begin == 1 && occ[0] == 0 && !strays
