@@ -9,7 +9,7 @@ use Rattle.link_rules.specs.declared.link_idx.LinkIdx.{LinkIdx}
 use Rattle.free_path.specs.Base.{any}
 use Rattle.free_path.specs.LinkOptType.{contains, classMore, classWalk, classEnd, linkOptType, plainly}
 use Rattle.free_path.specs.Validate.{known}
-use Rattle.free_path.specs.Order.{Perm, done, keep, swap, chain}
+use Rattle.free_path.specs.AnyOrder.{Perm, done, keep, swap, chain}
 use Rattle.free_path.specs.declared.link_opt_type.LinkOptType.{LinkOptType}
 use Rattle.free_path.specs.declared.link_opt_type.LinkOptType.the-variants.{None, Single, Range, Check}
 

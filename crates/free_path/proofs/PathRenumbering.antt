@@ -19,7 +19,7 @@ use Rattle.disp_structs.specs.declared.DivergeNode.{DivergeNode}
 use Rattle.free_path.specs.Base.{ok, at, last, part, passes, walkFrom, count}
 use Rattle.free_path.specs.LinkOptType.{linksOnPath, contains, linkIdxPath, classMore, classWalk, classEnd, linkOptType, afterSentinel, calcIdxSentinels, stops, isNone, intersect, findTrainIntersect, plainly}
 use Rattle.free_path.specs.Validate.{known, isStray, strays, badStep, badSteps, badPath, inConflict, stepsNext, stepsAlt, validateFreePath}
-use Rattle.free_path.specs.Order.{Perm}
+use Rattle.free_path.specs.AnyOrder.{Perm}
 use Rattle.free_path.specs.Renumbered.{rClass}
 use Rattle.free_path.specs.declared.link_opt_type.LinkOptType.{LinkOptType}
 use Rattle.free_path.specs.declared.link_opt_type.LinkOptType.the-variants.{None, Single, Range, Check}

@@ -5,5 +5,5 @@ pub mod Validate
 pub mod SearchLimit
 pub mod Columns
 pub mod Examples
-pub mod Order
+pub mod AnyOrder
 pub mod Renumbered

@@ -37,7 +37,7 @@ use Rattle.update_laws.proofs.Rounds.{start-good, save-low}
 use Rattle.search.specs.Read.{viewAt, viewsOf, divsOf, pathOf, roundOf, searchOf}
 use Rattle.search.specs.declared.Round.{Round}
 use Rattle.search.specs.declared.Place.{Place}
-use Rattle.search.specs.Runs.{Begins}
+use Rattle.search.specs.Runs.{SearchBegins}
 use Rattle.splice.specs.Read.{trainOf}
 use Rattle.round_start.specs.Start.{partedAt, dividedAt, withLimit}
 use Rattle.round_start.proofs.LimitLaws.{same-limit}
@@ -160,7 +160,7 @@ module _ (occ img on dt dn : List ℕ) (h : PathHeader) (g : Held occ img on dt 
       unfolding trainOf
       save-few = omega (arith, save-low (length occ) (givenOf gv occ [] []) train (g .accepted) split (sym save-is), path-long occ img on dt dn h g r m, listed-length (h .«path_count») (nodeAt img))
 
-      start-begins : Begins (length occ) round (searchAt (round .train) split d save)
+      start-begins : SearchBegins (length occ) round (searchAt (round .train) split d save)
       unfolding at
       start-begins = record {
         few = g .links;
@@ -181,7 +181,7 @@ module _ (occ img on dt dn : List ℕ) (h : PathHeader) (g : Held occ img on dt 
         save = omega (arith, same, high, path-long occ img on dt dn h g r m, round-accepted occ img on dt dn h g r m .path .few, round-accepted occ img on dt dn h g r m .ests .few);
         none = refl;
         pooled = omega arith;
-        begun = subst (λ (s : State.Search). Begins (length occ) round s) (sym first-is) start-begins;
+        begun = subst (λ (s : State.Search). SearchBegins (length occ) round s) (sym first-is) start-begins;
       }
 
     -- and so the search is the definition's

@@ -21,7 +21,7 @@ use Rattle.search.specs.Read.{divsOf, pathOf, roundOf, searchIn, Arrays, arrays
 use Rattle.search.specs.declared.Round.{Round}
 use Rattle.search.specs.declared.Place.{Place}
 use Rattle.search.specs.declared.look.Here.{Here}
-use Rattle.search.specs.Runs.{Begins}
+use Rattle.search.specs.Runs.{SearchBegins}
 use Rattle.splice.specs.Read.{trainOf, Kept}
 use Rattle.splice.specs.declared.Reached.{Reached}
 use Rattle.round.specs.declared.Given.{Given}
@@ -67,7 +67,7 @@ pub record Searching (occ img dt dn : List ℕ) (h : PathHeader) (r : Round) (st
   pub save : r .«idx_split_save» < 2 ^ 32
   pub none : start .«new_count» ≡ 0
   pub pooled : start .«pool_count» ≤ 2048
-  pub begun : Begins (length occ) (roundOf (trainOf img dt dn h) occ img dt dn r) (searchIn (r .«est_count») start [] (divsOf (start .«div_count») nt nn) (arrays pool begins ends))
+  pub begun : SearchBegins (length occ) (roundOf (trainOf img dt dn h) occ img dt dn r) (searchIn (r .«est_count») start [] (divsOf (start .«div_count») nt nn) (arrays pool begins ends))
 
 -- what an update does not change; the lists of links that are for the strays alone are any
 abbrev pub givenOf : Given → List ℕ → List LinkIdx → List LinkIdx → Update.Given
@@ -115,11 +115,11 @@ endBy Again t split divSplit = ok (again t split divSplit)
 abbrev pub endedOf : RoundEnd → Train → Res Ended
 endedOf x t = endBy (x .end) t (x .split) (x .«div_split»)
 
-abbrev pub isRefused : End → Bool
-isRefused (Refused c) = true
-isRefused AtEnd = false
-isRefused Blocked = false
-isRefused Again = false
+abbrev pub endRefused : End → Bool
+endRefused (Refused c) = true
+endRefused AtEnd = false
+endRefused Blocked = false
+endRefused Again = false
 
 abbrev pub isAtEnd : End → Bool
 isAtEnd (Refused c) = false
@@ -153,7 +153,7 @@ reachedAt r p h k =
 abbrev pub SearchEnded : List ℕ → List ℕ → List ℕ → List ℕ → PathHeader → Round → State.Search → RoundEnd → List ℕ → List ℕ → List ℕ → Type 0
 SearchEnded occ img dt dn h r s x img₁ dt₁ dn₁ =
     (endedOf x (trainOf img₁ dt₁ dn₁ (x .header)) ≡ Update.searchFrom (Update.turnLimit (roundOf (trainOf img dt dn h) occ img dt dn r .train)) (roundOf (trainOf img dt dn h) occ img dt dn r) s)
-    × (isRefused (x .end) ≡ false → Kept img₁ img)
+    × (endRefused (x .end) ≡ false → Kept img₁ img)
     × (isAtEnd (x .end) ≡ false)
 
 -- a search whose pool, views and new diverge nodes are zeros, in arrays for e est records and q diverge nodes

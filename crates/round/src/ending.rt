@@ -15,7 +15,7 @@ ghost use Rattle.search.specs.Effects.{effectOf, onward};
 ghost use Rattle.search.specs.Read.{hereOf, viewsOf};
 ghost use Rattle.search.specs.Runs.{endOf};
 ghost use Rattle.splice.specs.Read.{trainOf, Kept, Stands, Joins, JoinFits, Changes, ChangeFits};
-ghost use Rattle.round.specs.Rounds.{endedOf, isRefused, isAtEnd, isJoin, reachedAt, withFree};
+ghost use Rattle.round.specs.Rounds.{endedOf, endRefused, isAtEnd, isJoin, reachedAt, withFree};
 use crate::End;
 use crate::RoundEnd;
 use image::codec::PathHeader;
@@ -98,7 +98,7 @@ pub(crate) fn reached(r: Round, s: Searched) -> Reached
 }
 
 fn by_splice(a: Again) -> RoundEnd
-    ensures { λ x. ⌜ ((t : Train) (f : State.Search → Res State.Ended) → endedOf x t ≡ endOf f (answer (a .code) (State.ends (State.again t (a .split) (a .«div_split»))))) × (x .header ≡ a .header) × (isRefused (x .end) ≡ false → a .code ≡ 0) × (isAtEnd (x .end) ≡ false) ⌝ }
+    ensures { λ x. ⌜ ((t : Train) (f : State.Search → Res State.Ended) → endedOf x t ≡ endOf f (answer (a .code) (State.ends (State.again t (a .split) (a .«div_split»))))) × (x .header ≡ a .header) × (endRefused (x .end) ≡ false → a .code ≡ 0) × (isAtEnd (x .end) ≡ false) ⌝ }
 {
     let h = a.header;
     if a.code != 0 {
@@ -125,7 +125,7 @@ pub(crate) fn joined(
     nn: &mut [u32],
 ) -> RoundEnd
     requires { ⌜ JoinFits (now img) (now fresh) (now dt) (now dn) (now nt) (now nn) h q (here .«est_curr» .«idx_next») ⌝ }
-    ensures { λ x. ⌜ ((R : State.Round) (S : State.Search) (f : State.Search → Res State.Ended) → Stands (now (img .entry)) (now (dt .entry)) (now (dn .entry)) h q (here .«est_curr») R (hereOf here) S → Joins (now (fresh .entry)) (now (nt .entry)) (now (nn .entry)) q (here .«disp_node_curr») (hereOf here) S → endedOf x (trainOf (now (img .exit)) (now (dt .exit)) (now (dn .exit)) (x .header)) ≡ endOf f (Joined.join R (hereOf here) S)) × (isRefused (x .end) ≡ false → Kept (now (img .exit)) (now (img .entry))) × (isAtEnd (x .end) ≡ false) ⌝ }
+    ensures { λ x. ⌜ ((R : State.Round) (S : State.Search) (f : State.Search → Res State.Ended) → Stands (now (img .entry)) (now (dt .entry)) (now (dn .entry)) h q (here .«est_curr») R (hereOf here) S → Joins (now (fresh .entry)) (now (nt .entry)) (now (nn .entry)) q (here .«disp_node_curr») (hereOf here) S → endedOf x (trainOf (now (img .exit)) (now (dt .exit)) (now (dn .exit)) (x .header)) ≡ endOf f (Joined.join R (hereOf here) S)) × (endRefused (x .end) ≡ false → Kept (now (img .exit)) (now (img .entry))) × (isAtEnd (x .end) ≡ false) ⌝ }
 {
     let n = here.disp_node_curr;
     let e = here.est_curr;

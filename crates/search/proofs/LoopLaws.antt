@@ -46,7 +46,7 @@ use Rattle.disp_structs.proofs.FloatLaws.{reach-number}
 use Rattle.splice.proofs.NodeLaws.{put-kept, put-other, put-same, kept-eq}
 use Rattle.splice.specs.Parts.{Sound}
 use Rattle.splice.specs.Read.{Kept}
-use Rattle.search.specs.Runs.{endOf, counted, slotOf, Follows, FollowsTurn, Begins, Going, Ran}
+use Rattle.search.specs.Runs.{endOf, counted, slotOf, Follows, FollowsTurn, SearchBegins, Going, Ran}
 
 -- what the rule of an array read gives past the end
 abbrev pub blank : DispNode
@@ -258,7 +258,7 @@ time-number (fin s m e) h = tt
 
 -- ---- turns
 
-module _ (links : ℕ) (r : State.Round) (s₀ : State.Search) (b : Begins links r s₀) where
+module _ (links : ℕ) (r : State.Round) (s₀ : State.Search) (b : SearchBegins links r s₀) where
   -- as it begins
   pub going-first : (n : ℕ) → Going (b .top) links r n s₀ n s₀
   going-first n = record { good = b .good; fits = b .fits; same = refl }
@@ -282,7 +282,7 @@ module _ (links : ℕ) (r : State.Round) (s₀ : State.Search) (b : Begins links
   going-out n₀ s g = sym (g .same)
 
 -- a node of the new path is one that a path record holds
-node-sound : (links : ℕ) (r : State.Round) (s₀ : State.Search) (b : Begins links r s₀) (n₀ n : ℕ) (s : State.Search) (g : Going (b .top) links r n₀ s₀ n s) (i : ℕ) (x : DispNode) → at (s .«disp_path_new») i ≡ ok x → Sound x
+node-sound : (links : ℕ) (r : State.Round) (s₀ : State.Search) (b : SearchBegins links r s₀) (n₀ n : ℕ) (s : State.Search) (g : Going (b .top) links r n₀ s₀ n s) (i : ℕ) (x : DispNode) → at (s .«disp_path_new») i ≡ ok x → Sound x
 node-sound links r s₀ b n₀ n s g i x q =
     let y = g .good .nodes-good i x q in
     let z = g .fits .nodes i x q in
@@ -296,7 +296,7 @@ node-sound links r s₀ b n₀ n s g i x q =
 
 -- ---- the loop's own values: the new path as the buffer has it, and p says how many nodes of it count
 
-module _ (occ img dt dn : List ℕ) (r : Round) (t : Train) (s₀ : State.Search) (b : Begins (length occ) (roundOf t occ img dt dn r) s₀)
+module _ (occ img dt dn : List ℕ) (r : Round) (t : Train) (s₀ : State.Search) (b : SearchBegins (length occ) (roundOf t occ img dt dn r) s₀)
     (n₀ left : ℕ) (p : Place) (fresh nt nn : List ℕ) (a : Arrays)
     (g : Going (b .top) (length occ) (roundOf t occ img dt dn r) n₀ s₀ left (searchIn (r .«est_count») p (listed (p .«new_count») (nodeAt fresh)) (divsOf (p .«div_count») nt nn) a)) where
   abbrev round : State.Round
@@ -354,7 +354,7 @@ module _ (occ img dt dn : List ℕ) (r : Round) (t : Train) (s₀ : State.Search
     }
 
 -- no turn was left
-pub turns-out : (links : ℕ) (r : State.Round) (s₀ s u : State.Search) (b : Begins links r s₀) (h : Look.Here) (n₀ left : ℕ) → Going (b .top) links r n₀ s₀ left s → left ≡ 0 → n₀ ≡ turnLimit (r .train) → Ran links r s₀ Advance (Refused 13) h u
+pub turns-out : (links : ℕ) (r : State.Round) (s₀ s u : State.Search) (b : SearchBegins links r s₀) (h : Look.Here) (n₀ left : ℕ) → Going (b .top) links r n₀ s₀ left s → left ≡ 0 → n₀ ≡ turnLimit (r .train) → Ran links r s₀ Advance (Refused 13) h u
 turns-out links r s₀ s u b h n₀ left g z o = record {
   after = λ v. no 13;
   is = ap (λ (j : ℕ). searchFrom j r s₀) (sym o) ∙ going-out links r s₀ b n₀ s (subst (λ (j : ℕ). Going (b .top) links r n₀ s₀ j s) z g);

@@ -56,7 +56,7 @@ pub record FollowsTurn (go : Move) (effect : Effect) (k : ℕ) (x : Next) : Type
   pub node : x .goes ≡ true → (r : State.Round) (h : Look.Here) (s : State.Search) → length (s .«disp_path_new») ≡ k → turnOf go effect r h s ≡ ok (State.goOn (State.setNew s (take (x .count) (s .«disp_path_new» ++ (x .node ∷ [])))))
 
 -- a search that begins: its train is accepted over so many links, floats and auth have room in their fields, and no train is above some largest one
-pub record Begins (links : ℕ) (r : State.Round) (s : State.Search) : Type 0 where
+pub record SearchBegins (links : ℕ) (r : State.Round) (s : State.Search) : Type 0 where
   pub few : links ≤ 4000
   pub accepted : Accepted links (r .train)
   pub top : ℕ
@@ -77,7 +77,7 @@ pub record Ready (img occ on dt dn : List ℕ) (r : Round) (start : Place) (fres
   pub none : start .«new_count» ≡ 0
   pub pooled : start .«pool_count» ≤ 2048
   pub train : Train
-  pub begins : Begins (length occ) (roundOf train occ img dt dn r) (searchIn (r .«est_count») start [] (divsOf (start .«div_count») nt nn) a)
+  pub begins : SearchBegins (length occ) (roundOf train occ img dt dn r) (searchIn (r .«est_count») start [] (divsOf (start .«div_count») nt nn) a)
 
 -- the search s as it is at the beginning of a turn, top being the largest train, with n of n₀ turns left, when it began as s₀
 pub record Going (top links : ℕ) (r : State.Round) (n₀ : ℕ) (s₀ : State.Search) (n : ℕ) (s : State.Search) : Type 0 where

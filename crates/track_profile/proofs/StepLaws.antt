@@ -28,7 +28,7 @@ use Rattle.image.specs.Image.{estCount, pathCount, largestTrain, estAt, nodeAt}
 use Rattle.image.specs.Codec.{decoded}
 use Rattle.image_fault.specs.ImageFault.{imageFault}
 use Rattle.image_fault.proofs.AcceptLaws as Clean
-use Rattle.update_laws.specs.Ended.{Leaves}
+use Rattle.update_laws.specs.AfterRound.{Leaves}
 use Rattle.update_laws.proofs.Updates.{StaysFit}
 use Rattle.update_definition.specs.UpdateImage.{UpdatedImage, callFault, linkIdxs, answerBy, updateFault, updatedImage}
 use Rattle.update_laws.proofs.PathReads.{listed-read, read-listed}

@@ -10,7 +10,7 @@ use Rattle.link_rules.specs.Matching.{OccupanciesMatch}
 use Rattle.link_rules.specs.declared.link_idx.LinkIdx.{LinkIdx}
 use Rattle.disp_structs.specs.Renumbered.{rTrainDisp}
 use Rattle.free_path.specs.LinkOptType.{contains}
-use Rattle.free_path.specs.Order.{Perm}
+use Rattle.free_path.specs.AnyOrder.{Perm}
 use Rattle.update_definition.specs.Update.{Updated}
 
 -- the occupancy and the blocking list of an update, and those of it over the second numbering; top is the largest train

@@ -5,13 +5,13 @@ use Prim.Native.Nat.{ℕ, _-_}
 use lib.ListN.{length}
 use Rattle.link_rules.specs.Renumbering.{Renumbering}
 use Rattle.link_rules.specs.Matching.{OccupanciesMatch}
-use Rattle.free_path.specs.Order.{Perm}
+use Rattle.free_path.specs.AnyOrder.{Perm}
 use Rattle.image.specs.ImageMatch.{ImagesMatch}
 use Rattle.update_definition.specs.UpdateImage.{UpdatedImage}
 
 -- what two calls are given beside the image: occupancies and blocking lists; the moved train is renumbered, all else is the same
 -- top is the largest train
-pub record CallsMatch (top : ℕ) (p q : ℕ → ℕ) (occ occ′ blocking blocking′ : List ℕ) : Type 0 where
+pub record GivenMatch (top : ℕ) (p q : ℕ → ℕ) (occ occ′ blocking blocking′ : List ℕ) : Type 0 where
   -- 1 to L - 1 are permuted
   pub links : Renumbering (length occ - 1) p
   -- 1 to top are permuted

@@ -14,7 +14,7 @@ use Rattle.tally.specs.declared.Tally.{Tally}
 use Rattle.tally.proofs.TallyLaws.{faulted-within, faulted-none}
 use Rattle.update_definition.specs.Update as Update
 use Rattle.update_definition.specs.UpdateImage.{UpdatedImage, leftImage, storedAnswer}
-use Rattle.update_free_path.specs.Updates.{statusOf, isRefusal, judgedBy, statusBy, ranBy, isRefused}
+use Rattle.update_free_path.specs.Updates.{statusOf, isRefusal, judgedBy, statusBy, ranBy, stopRefused}
 use Rattle.update_free_path.specs.declared.rounds.Stop.{Stop}
 use Rattle.update_free_path.specs.declared.rounds.Stop.the-variants as Stops
 use Rattle.update_free_path.specs.declared.answer.Status.{Status}
@@ -52,7 +52,7 @@ module _ (t : Train) (img : List ℕ) where
   left-done (Refused r) e = absurd (false≢true (sym e))
 
 -- an update that is not refused has ended so
-pub done-stop : (s : Status) (stop : Stop) (f : Res ℕ) → statusOf s ≡ statusBy stop f → isRefusal s ≡ false → isRefused stop ≡ false
+pub done-stop : (s : Status) (stop : Stop) (f : Res ℕ) → statusOf s ≡ statusBy stop f → isRefusal s ≡ false → stopRefused stop ≡ false
 done-stop s (Stops.Refused c) f e q = absurd (false≢true (sym q ∙ told s ∙ ap told-of e))
   where
     told-of : Update.Status → Bool

@@ -20,14 +20,14 @@ use Rattle.update_definition.specs.UpdateImage.{UpdatedImage, callFault, linkId
 use Rattle.update_free_path.proofs.FaultLaws.{call-links}
 use Rattle.splice.specs.Read.{Kept}
 use Rattle.splice.proofs.NodeLaws.{kept-count, kept-le}
-use Rattle.update_free_path.specs.Updates.{Begins, updateOf, Judged}
-use Rattle.update_free_path.specs.declared.start.Order.{Order}
+use Rattle.update_free_path.specs.Updates.{UpdateBegins, updateOf, Judged}
+use Rattle.update_free_path.specs.declared.start.Args.{Args}
 
 -- what a store asks of the image and the copy
 pub kept-sizes : (img was image : List ℕ) → was ≡ image → Kept img was → (estCount image ≡ estCount img) × (divergeRoom image ≡ divergeRoom img)
 kept-sizes img was image e k = (ap estCount (sym e) ∙ sym (kept-count img was k), ap divergeRoom (sym e) ∙ sym (kept-le img was k 4 16 (omega arith)))
 
-module _ (img occ blocking : List ℕ) (o : Order) (f : Refusal) (e : f ≡ updateFault img occ blocking (o .moved .0) (o .limit)) where
+module _ (img occ blocking : List ℕ) (o : Args) (f : Refusal) (e : f ≡ updateFault img occ blocking (o .moved .0) (o .limit)) where
   abbrev whole : UpdatedImage
   whole = updatedImage img occ blocking (o .moved .0) (o .local) (o .limit)
 
@@ -63,11 +63,11 @@ module _ (img occ blocking : List ℕ) (o : Order) (f : Refusal) (e : f ≡ upda
       unfolding updateFault
       clean = or-else-clean (callFault occ blocking (o .moved .0) (o .limit)) (imageFault img (length occ)) (ap (λ (x : Refusal). x .number) (sym e) ∙ q)
 
-      pub begins : h .free < h .«path_count» → Begins img occ h
+      pub begins : h .free < h .«path_count» → UpdateBegins img occ h
       begins l = record { fault = clean .1; few = call-links occ blocking (o .moved .0) (o .limit) (clean .0) .1; header = r; free = l }
 
       pub judged-ten : h .«path_count» ≤ h .free → Judged (refused 10 0) img occ blocking o
       judged-ten l = record { refused = λ _. refused-ten l; begins = λ z. absurd (omega (arith, z)); goes = λ z. absurd (omega (arith, z)) }
 
       pub judged-fine : h .free < h .«path_count» → Judged f img occ blocking o
-      judged-fine l = record { refused = refused-before; begins = λ _. subst (Begins img occ) r (begins l); goes = λ _. not-refused }
+      judged-fine l = record { refused = refused-before; begins = λ _. subst (UpdateBegins img occ) r (begins l); goes = λ _. not-refused }

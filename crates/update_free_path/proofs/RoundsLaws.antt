@@ -28,14 +28,14 @@ use Rattle.update_definition.specs.Accepted.{Accepted}
 use Rattle.update_definition.specs.Fits.{Fits}
 use Rattle.update_laws.proofs.Rounds.{round-good}
 use Rattle.update_laws.proofs.Updates.{round-fits}
-use Rattle.update_laws.specs.Ended.{StaysAccepted, NextRound}
+use Rattle.update_laws.specs.AfterRound.{StaysAccepted, NextRound}
 use Rattle.search.specs.Read.{pathOf, Marked}
 use Rattle.splice.specs.Read.{trainOf, Kept}
 use Rattle.splice.proofs.NodeLaws.{kept-count, kept-then}
 use Rattle.round_start.proofs.StrayLaws.{linked-accepted, count-strays}
 use Rattle.round.specs.Rounds as Rounds
 use Rattle.round.specs.Rounds.{givenOf, endBy, endedOf, isAtEnd}
-use Rattle.update_free_path.specs.Updates.{errorsOf, ranBy, betweenOf, dueAt, isLast, ranOf, stoppedBy, nextOf, closedAt, isRefused, Known, Top, roundsAt, Going, Ended}
+use Rattle.update_free_path.specs.Updates.{errorsOf, ranBy, betweenOf, dueAt, isLast, ranOf, stoppedBy, nextOf, closedAt, stopRefused, Known, Top, roundsAt, Going, RoundsEnded}
 use Rattle.round.specs.declared.Given.{Given}
 use Rattle.round.specs.declared.End.{End}
 use Rattle.round.specs.declared.End.the-variants as Ends
@@ -142,7 +142,7 @@ again-end Ends.AtEnd t i j a = absurd (false≢true (sym a))
 again-end Ends.Blocked t i j a = absurd (false≢true (sym a))
 again-end Ends.Again t i j a = refl
 
-pub kept-goes : (e : End) → isLast e ≡ false → Rounds.isRefused e ≡ false
+pub kept-goes : (e : End) → isLast e ≡ false → Rounds.endRefused e ≡ false
 kept-goes (Ends.Refused c) a = absurd (false≢true (sym a))
 kept-goes Ends.AtEnd a = refl
 kept-goes Ends.Blocked a = refl
@@ -161,7 +161,7 @@ stopped-at occ img dt dn g blocking start was Ends.AtEnd h n s = refl
 stopped-at occ img dt dn g blocking start was Ends.Blocked h n s = refl
 stopped-at occ img dt dn g blocking start was Ends.Again h n s = refl
 
-stop-refused : (e : End) (h : PathHeader) (n : Tally) (s : ℕ) → isRefused (stoppedBy e h n s .stop) ≡ false → Rounds.isRefused e ≡ false
+stop-refused : (e : End) (h : PathHeader) (n : Tally) (s : ℕ) → stopRefused (stoppedBy e h n s .stop) ≡ false → Rounds.endRefused e ≡ false
 stop-refused (Ends.Refused c) h n s q = absurd (false≢true (sym q))
 stop-refused Ends.AtEnd h n s q = refl
 stop-refused Ends.Blocked h n s q = refl
@@ -246,9 +246,9 @@ module _ (occ img col on dt dn flags : List ℕ) (g : Given) (w : Between) (t : 
                 next-same a limit r d blocking start was s (c ∙ strays-are occ img′ dt′ dn′ (x .header) (next-accepted a) (t .held .links) col′ flags q g blocking start f) ∙ v .same blocking start f was;
           }
 
-      pub ended-stopped : isLast (x .end) ≡ true → (isAtEnd (x .end) ≡ true → train′ ≡ train) → (Rounds.isRefused (x .end) ≡ false → Kept img′ img)
+      pub ended-stopped : isLast (x .end) ≡ true → (isAtEnd (x .end) ≡ true → train′ ≡ train) → (Rounds.endRefused (x .end) ≡ false → Kept img′ img)
           → (s : ℕ) → s ≡ count (strayLink occ (flagged flags)) (drop (w .header .free) (listed (w .header .«path_count») (linkAt col)))
-          → Ended occ flags g limit img₀ dt₀ dn₀ w₀ img′ dt′ dn′ (stoppedBy (x .end) (x .header) (w .tally) s)
+          → RoundsEnded occ flags g limit img₀ dt₀ dn₀ w₀ img′ dt′ dn′ (stoppedBy (x .end) (x .header) (w .tally) s)
       ended-stopped a l k s c =
           record {
             kept = λ q. kept-then img′ img img₀ (k (stop-refused (x .end) (x .header) (w .tally) s q)) (v .kept);
@@ -266,7 +266,7 @@ first-false false e = refl
 
 -- no round follows
 pub ended-closed : (occ flags : List ℕ) (g : Given) (limit : ℕ) (img₀ dt₀ dn₀ : List ℕ) (w₀ : Between) (img dt dn : List ℕ) (w : Between)
-    → Going occ flags g limit img₀ dt₀ dn₀ w₀ img dt dn w → w .tally .faults ≡ 0 → (ltb (w .tally .rounds) limit && dueAt w) ≡ false → Ended occ flags g limit img₀ dt₀ dn₀ w₀ img dt dn (closedAt w)
+    → Going occ flags g limit img₀ dt₀ dn₀ w₀ img dt dn w → w .tally .faults ≡ 0 → (ltb (w .tally .rounds) limit && dueAt w) ≡ false → RoundsEnded occ flags g limit img₀ dt₀ dn₀ w₀ img dt dn (closedAt w)
 unfolding trainOf
 ended-closed occ flags g limit img₀ dt₀ dn₀ w₀ img dt dn w v none q =
     record { kept = λ _. v .kept; faultless = faultless-by (dueAt w); is = λ blocking start f was. go (dueAt w) refl blocking start was ∙ v .same blocking start f was }

@@ -35,9 +35,9 @@ use Rattle.round_start.proofs.StrayLaws.{linked-accepted, class-flags, known-li
 use Rattle.search.specs.Read.{pathOf, Marked}
 use Rattle.splice.specs.Read.{trainOf}
 use Rattle.round.specs.Rounds.{givenOf}
-use Rattle.update_free_path.specs.Updates.{errorsOf, statusBy, ranBy, betweenOf, Known, Top, roundsAt, Ended, startAt, givenAt, Begins, updateOf, Finished}
+use Rattle.update_free_path.specs.Updates.{errorsOf, statusBy, ranBy, betweenOf, Known, Top, roundsAt, RoundsEnded, startAt, givenAt, UpdateBegins, updateOf, Finished}
 use Rattle.round.specs.declared.Given.{Given}
-use Rattle.update_free_path.specs.declared.start.Order.{Order}
+use Rattle.update_free_path.specs.declared.start.Args.{Args}
 use Rattle.update_free_path.specs.declared.rounds.Ran.{Ran}
 use Rattle.update_free_path.specs.declared.rounds.Stop.{Stop}
 use Rattle.update_free_path.specs.declared.rounds.Stop.the-variants as Stops
@@ -51,7 +51,7 @@ status-ran Stops.Blocked f tally was t = refl
 status-ran Stops.Ended (ok n) tally was t = refl
 status-ran Stops.Ended (no n) tally was t = refl
 
-module _ (img occ : List ℕ) (h : PathHeader) (b : Begins img occ h) (bytes : Bytes img) where
+module _ (img occ : List ℕ) (h : PathHeader) (b : UpdateBegins img occ h) (bytes : Bytes img) where
   good : Accepted (length occ) (decoded img)
   good = bytes-accepted img (length occ) bytes (b .fault) .0
 
@@ -84,7 +84,7 @@ module _ (img occ : List ℕ) (h : PathHeader) (b : Begins img occ h) (bytes : B
   node-is : ok (nodeAt img (h .free)) ≡ at (decoded img .«disp_path») (decoded img .«disp_node_idx_free»)
   node-is = sym (listed-read (h .«path_count») (nodeAt img) (h .free) (b .free)) ∙ ap₂ (λ (xs : List DispNode) (i : ℕ). at xs i) path-is free-is
 
-  module _ (o : Order) (dt dn : List ℕ) (q : listed (h .«diverge_count») (divAt dt dn) ≡ Update.adjustSentinel (o .moved) (listed (h .«diverge_count») (divergeAt img))) where
+  module _ (o : Args) (dt dn : List ℕ) (q : listed (h .«diverge_count») (divAt dt dn) ≡ Update.adjustSentinel (o .moved) (listed (h .«diverge_count») (divergeAt img))) where
     begin-train : trainOf img dt dn h ≡ withDivNodes (decoded img) (Update.adjustSentinel (o .moved) (decoded img .«div_nodes»))
     unfolding pathHeader
     begin-train =
@@ -155,7 +155,7 @@ module _ (img occ : List ℕ) (h : PathHeader) (b : Begins img occ h) (bytes : B
               ∙ ap₂ (λ (t : Train) (n : ℕ). Update.roundsFrom (o .limit) given (decoded img) (Update.between t 1 1 (started n))) begin-train strays-is
               ∙ ap (λ (x : Res DispNode). Update.updateFrom x occ (linkIdxs blocking) (o .moved) (o .local) (o .limit) (decoded img)) node-is
 
-          pub finished : (img′ dt′ dn′ : List ℕ) (x : Ran) → Ended occ knowing begun (o .limit) img dt dn (startAt h s) img′ dt′ dn′ x → Finished img occ blocking o img′ dt′ dn′ x
+          pub finished : (img′ dt′ dn′ : List ℕ) (x : Ran) → RoundsEnded occ knowing begun (o .limit) img dt dn (startAt h s) img′ dt′ dn′ x → Finished img occ blocking o img′ dt′ dn′ x
           finished img′ dt′ dn′ x v =
               let r = v .is (linkIdxs blocking) first knows (decoded img) in
               record {

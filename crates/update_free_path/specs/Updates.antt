@@ -35,7 +35,7 @@ use Rattle.update_free_path.specs.declared.rounds.Between.{Between}
 use Rattle.update_free_path.specs.declared.rounds.Ran.{Ran}
 use Rattle.update_free_path.specs.declared.rounds.Stop.{Stop}
 use Rattle.update_free_path.specs.declared.rounds.Stop.the-variants as Stops
-use Rattle.update_free_path.specs.declared.start.Order.{Order}
+use Rattle.update_free_path.specs.declared.start.Args.{Args}
 use Rattle.update_free_path.specs.declared.answer.Status.{Status}
 use Rattle.update_free_path.specs.declared.answer.Status.the-variants.{Success, Blocked, Faulty, Refused}
 use Rattle.update_free_path.specs.declared.answer.Updated.{Updated}
@@ -83,10 +83,10 @@ ranBy (Stops.Refused c) f tally was t = Update.refused c tally was
 ranBy Stops.Blocked f tally was t = Update.answered Update.Blocked tally t
 ranBy Stops.Ended f tally was t = Update.finish f tally was t
 
-abbrev pub isRefused : Stop → Bool
-isRefused (Stops.Refused c) = true
-isRefused Stops.Blocked = false
-isRefused Stops.Ended = false
+abbrev pub stopRefused : Stop → Bool
+stopRefused (Stops.Refused c) = true
+stopRefused Stops.Blocked = false
+stopRefused Stops.Ended = false
 
 -- a refusal that it may give has room in its field
 abbrev pub Named : Stop → Res ℕ → Type 0
@@ -168,8 +168,8 @@ pub record Going (occ flags : List ℕ) (g : Given) (limit : ℕ) (img₀ dt₀ 
   pub same : (blocking start : List LinkIdx) → Known flags blocking start → (was : Train) → roundsAt occ g blocking start limit img dt dn was w ≡ roundsAt occ g blocking start limit img₀ dt₀ dn₀ was w₀
 
 -- the loop has ended with x: the answer, and an image in which a train can be stored
-pub record Ended (occ flags : List ℕ) (g : Given) (limit : ℕ) (img₀ dt₀ dn₀ : List ℕ) (w₀ : Between) (img dt dn : List ℕ) (x : Ran) : Type 0 where
-  pub kept : isRefused (x .stop) ≡ false → Kept img img₀
+pub record RoundsEnded (occ flags : List ℕ) (g : Given) (limit : ℕ) (img₀ dt₀ dn₀ : List ℕ) (w₀ : Between) (img dt dn : List ℕ) (x : Ran) : Type 0 where
+  pub kept : stopRefused (x .stop) ≡ false → Kept img img₀
   pub faultless : x .tally .faults ≡ 0
   pub is : (blocking start : List LinkIdx) → Known flags blocking start → (was : Train)
       → ranBy (x .stop) (errorsOf img occ (x .header)) (x .tally) was (trainOf img dt dn (x .header)) ≡ roundsAt occ g blocking start limit img₀ dt₀ dn₀ was w₀
@@ -184,7 +184,7 @@ abbrev pub startAt : PathHeader → ℕ → Between
 startAt h s = record { header = h; split = 1; «div_split» = 1; tally = started s }
 
 -- what an update does not change, flags being those of the links on the path, and free the first node of the free path
-abbrev pub givenAt : List ℕ → List ℕ → List ℕ → Order → ℕ → Given
+abbrev pub givenAt : List ℕ → List ℕ → List ℕ → Args → ℕ → Given
 givenAt img blocking flags o free =
     record {
       «train_idx_moved» = o .moved;
@@ -194,7 +194,7 @@ givenAt img blocking flags o free =
     }
 
 -- a call that is not refused before the first round
-pub record Begins (img occ : List ℕ) (h : PathHeader) : Type 0 where
+pub record UpdateBegins (img occ : List ℕ) (h : PathHeader) : Type 0 where
   pub fault : imageFault img (length occ) .number ≡ 0
   pub few : length occ ≤ 4000
   pub header : h ≡ pathHeader img
@@ -208,18 +208,18 @@ pub record Space (img occ col on flags known dt dn : List ℕ) : Type 0 where
   pub noneKnown : known ≡ replicate (length flags) 0
 
 -- the update of the train of an image
-abbrev pub updateOf : List ℕ → List ℕ → List ℕ → Order → Update.Updated
+abbrev pub updateOf : List ℕ → List ℕ → List ℕ → Args → Update.Updated
 updateOf img occ blocking o = Update.updateFreePath occ (linkIdxs blocking) (o .moved) (o .local) (o .limit) (decoded img)
 
 -- what is asked before the first round: refused as the update is, else an update that begins
-pub record Judged (f : Refusal) (img occ blocking : List ℕ) (o : Order) : Type 0 where
+pub record Judged (f : Refusal) (img occ blocking : List ℕ) (o : Args) : Type 0 where
   pub refused : (f .number ≡ 0 → ⊥) → refusedAnswer f img ≡ updatedImage img occ blocking (o .moved .0) (o .local) (o .limit)
-  pub begins : f .number ≡ 0 → Begins img occ (pathHeader img)
+  pub begins : f .number ≡ 0 → UpdateBegins img occ (pathHeader img)
   pub goes : f .number ≡ 0 → storedAnswer (updateOf img occ blocking o) img ≡ updatedImage img occ blocking (o .moved .0) (o .local) (o .limit)
 
 -- its rounds have ended with x
-pub record Finished (img₀ occ blocking : List ℕ) (o : Order) (img dt dn : List ℕ) (x : Ran) : Type 0 where
-  pub kept : isRefused (x .stop) ≡ false → Kept img img₀
+pub record Finished (img₀ occ blocking : List ℕ) (o : Args) (img dt dn : List ℕ) (x : Ran) : Type 0 where
+  pub kept : stopRefused (x .stop) ≡ false → Kept img img₀
   pub faultless : x .tally .faults ≡ 0
   pub is : ranBy (x .stop) (errorsOf img occ (x .header)) (x .tally) (decoded img₀) (trainOf img dt dn (x .header)) ≡ updateOf img₀ occ blocking o
   pub named : Named (x .stop) (errorsOf img occ (x .header))

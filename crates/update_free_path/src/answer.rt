@@ -20,7 +20,7 @@ ghost use Rattle.link_rules.specs.declared.refusal.Refusal.{Refusal};
 ghost use Rattle.update_definition.specs.Update as Update;
 ghost use Rattle.update_definition.specs.UpdateImage.{leftImage, storedAnswer, refusedAnswer};
 ghost use Rattle.splice.specs.Read.{trainOf};
-ghost use Rattle.update_free_path.specs.Updates.{statusOf, updatedOf, isRefusal, errorsOf, judgedBy, statusBy, ranBy, isRefused, Named};
+ghost use Rattle.update_free_path.specs.Updates.{statusOf, updatedOf, isRefusal, errorsOf, judgedBy, statusBy, ranBy, stopRefused, Named};
 
 pub enum Status {
     Success,
@@ -122,7 +122,7 @@ pub(crate) fn answered(
     dt: &[u32],
     dn: &[u32],
 ) -> Updated
-    requires { ⌜ Named (r .stop) (errorsOf (now img) (now occ) (r .header)) × (r .tally .faults ≡ 0) × (isRefused (r .stop) ≡ false → (estCount (now image) ≡ estCount (now img)) × (divergeRoom (now image) ≡ divergeRoom (now img))) ⌝ }
+    requires { ⌜ Named (r .stop) (errorsOf (now img) (now occ) (r .header)) × (r .tally .faults ≡ 0) × (stopRefused (r .stop) ≡ false → (estCount (now image) ≡ estCount (now img)) × (divergeRoom (now image) ≡ divergeRoom (now img))) ⌝ }
     ensures { λ x. ⌜ ((was : Train) → updatedOf x (now (image .exit)) ≡ storedAnswer (ranBy (r .stop) (errorsOf (now (img .entry)) (now (occ .entry)) (r .header)) (r .tally) was (trainOf (now (img .entry)) (now (dt .entry)) (now (dn .entry)) (r .header))) (now (image .entry))) ⌝ }
 {
     let stop = r.stop;

@@ -12,14 +12,14 @@ use image::codec::PathHeader;
 use link_rules::link_idx::NarrowTrainIdx;
 use link_rules::link_idx::TrainIdx;
 use link_rules::refusal::Refusal;
-use start::Order;
+use start::Args;
 ghost use mathlib.Core.Path.{_≡_};
 ghost use mathlib.Core.List.{List};
 ghost use Prim.Native.Nat.{ℕ, _≤_};
 ghost use lib.ListN.{length};
 ghost use Rattle.image.specs.Image.{estCount, divergeRoom, pathHeader};
 ghost use Rattle.update_definition.specs.UpdateImage.{storedAnswer, updatedImage};
-ghost use Rattle.update_free_path.specs.Updates.{updatedOf, updateOf, Begins, Space, Judged};
+ghost use Rattle.update_free_path.specs.Updates.{updatedOf, updateOf, UpdateBegins, Space, Judged};
 
 // The update runs on a copy of the image; only one that is not refused changes the image.
 fn update_in(
@@ -27,7 +27,7 @@ fn update_in(
     scratch: &mut [u8],
     occ: &[u32],
     blocking: &[u32],
-    o: Order,
+    o: Args,
     h: PathHeader,
     col: &mut [u32],
     on: &mut [u8],
@@ -36,7 +36,7 @@ fn update_in(
     dt: &mut [u32],
     dn: &mut [u32],
 ) -> Updated
-    requires { ⌜ Begins (now image) (now occ) h × (length (now scratch) ≡ length (now image)) × Space (now image) (now occ) (now col) (now on) (now flags) (now known) (now dt) (now dn) ⌝ }
+    requires { ⌜ UpdateBegins (now image) (now occ) h × (length (now scratch) ≡ length (now image)) × Space (now image) (now occ) (now col) (now on) (now flags) (now known) (now dt) (now dn) ⌝ }
     ensures { λ x. ⌜ updatedOf x (now (image .exit)) ≡ storedAnswer (updateOf (now (image .entry)) (now (occ .entry)) (now (blocking .entry)) o) (now (image .entry)) ⌝ }
 {
     call::copy_image(image, scratch);
@@ -45,8 +45,8 @@ fn update_in(
 }
 
 // Room for an update of at most 64 est records and 64 diverge nodes over at most 512 links, which takes less time to clear.
-fn update_small(image: &mut [u8], occ: &[u32], blocking: &[u32], o: Order, h: PathHeader) -> Updated
-    requires { ⌜ Begins (now image) (now occ) h × (estCount (now image) ≤ 64) × (divergeRoom (now image) ≤ 64) × (length (now occ) ≤ 512) ⌝ }
+fn update_small(image: &mut [u8], occ: &[u32], blocking: &[u32], o: Args, h: PathHeader) -> Updated
+    requires { ⌜ UpdateBegins (now image) (now occ) h × (estCount (now image) ≤ 64) × (divergeRoom (now image) ≤ 64) × (length (now occ) ≤ 512) ⌝ }
     ensures { λ x. ⌜ updatedOf x (now (image .exit)) ≡ storedAnswer (updateOf (now (image .entry)) (now (occ .entry)) (now (blocking .entry)) o) (now (image .entry)) ⌝ }
 {
     let mut scratch = [0u8; 4416];
@@ -74,8 +74,8 @@ fn update_small(image: &mut [u8], occ: &[u32], blocking: &[u32], o: Order, h: Pa
 }
 
 // The same with room for every number of diverge nodes.
-fn update_few(image: &mut [u8], occ: &[u32], blocking: &[u32], o: Order, h: PathHeader) -> Updated
-    requires { ⌜ Begins (now image) (now occ) h × (estCount (now image) ≤ 64) × (length (now occ) ≤ 512) ⌝ }
+fn update_few(image: &mut [u8], occ: &[u32], blocking: &[u32], o: Args, h: PathHeader) -> Updated
+    requires { ⌜ UpdateBegins (now image) (now occ) h × (estCount (now image) ≤ 64) × (length (now occ) ≤ 512) ⌝ }
     ensures { λ x. ⌜ updatedOf x (now (image .exit)) ≡ storedAnswer (updateOf (now (image .entry)) (now (occ .entry)) (now (blocking .entry)) o) (now (image .entry)) ⌝ }
 {
     let mut scratch = [0u8; 8256];
@@ -103,8 +103,8 @@ fn update_few(image: &mut [u8], occ: &[u32], blocking: &[u32], o: Order, h: Path
 }
 
 // The same for the largest update.
-fn update_large(image: &mut [u8], occ: &[u32], blocking: &[u32], o: Order, h: PathHeader) -> Updated
-    requires { ⌜ Begins (now image) (now occ) h ⌝ }
+fn update_large(image: &mut [u8], occ: &[u32], blocking: &[u32], o: Args, h: PathHeader) -> Updated
+    requires { ⌜ UpdateBegins (now image) (now occ) h ⌝ }
     ensures { λ x. ⌜ updatedOf x (now (image .exit)) ≡ storedAnswer (updateOf (now (image .entry)) (now (occ .entry)) (now (blocking .entry)) o) (now (image .entry)) ⌝ }
 {
     let mut scratch = [0u8; 36928];
@@ -132,8 +132,8 @@ fn update_large(image: &mut [u8], occ: &[u32], blocking: &[u32], o: Order, h: Pa
 }
 
 // The update in room by its size.
-fn update_begun(image: &mut [u8], occ: &[u32], blocking: &[u32], o: Order, h: PathHeader) -> Updated
-    requires { ⌜ Begins (now image) (now occ) h ⌝ }
+fn update_begun(image: &mut [u8], occ: &[u32], blocking: &[u32], o: Args, h: PathHeader) -> Updated
+    requires { ⌜ UpdateBegins (now image) (now occ) h ⌝ }
     ensures { λ x. ⌜ updatedOf x (now (image .exit)) ≡ storedAnswer (updateOf (now (image .entry)) (now (occ .entry)) (now (blocking .entry)) o) (now (image .entry)) ⌝ }
 {
     if 64 < codec::est_count(image) {
@@ -154,9 +154,9 @@ fn update_widened(
     occ: &[u16],
     wide: &mut [u32],
     blocking: &[u32],
-    o: Order,
+    o: Args,
 ) -> Updated
-    requires { ⌜ Begins (now image) (now occ) (pathHeader (now image)) × (length (now wide) ≡ length (now occ)) ⌝ }
+    requires { ⌜ UpdateBegins (now image) (now occ) (pathHeader (now image)) × (length (now wide) ≡ length (now occ)) ⌝ }
     ensures { λ x. ⌜ updatedOf x (now (image .exit)) ≡ storedAnswer (updateOf (now (image .entry)) (now (occ .entry)) (now (blocking .entry)) o) (now (image .entry)) ⌝ }
 {
     columns::widen(occ, wide);
@@ -165,8 +165,8 @@ fn update_widened(
 }
 
 // Room for at most 512 links.
-fn widen_small(image: &mut [u8], occ: &[u16], blocking: &[u32], o: Order) -> Updated
-    requires { ⌜ Begins (now image) (now occ) (pathHeader (now image)) × (length (now occ) ≤ 512) ⌝ }
+fn widen_small(image: &mut [u8], occ: &[u16], blocking: &[u32], o: Args) -> Updated
+    requires { ⌜ UpdateBegins (now image) (now occ) (pathHeader (now image)) × (length (now occ) ≤ 512) ⌝ }
     ensures { λ x. ⌜ updatedOf x (now (image .exit)) ≡ storedAnswer (updateOf (now (image .entry)) (now (occ .entry)) (now (blocking .entry)) o) (now (image .entry)) ⌝ }
 {
     let mut wide = [0u32; 512];
@@ -174,8 +174,8 @@ fn widen_small(image: &mut [u8], occ: &[u16], blocking: &[u32], o: Order) -> Upd
     update_widened(image, occ, &mut wide[..n], blocking, o)
 }
 
-fn widen_large(image: &mut [u8], occ: &[u16], blocking: &[u32], o: Order) -> Updated
-    requires { ⌜ Begins (now image) (now occ) (pathHeader (now image)) ⌝ }
+fn widen_large(image: &mut [u8], occ: &[u16], blocking: &[u32], o: Args) -> Updated
+    requires { ⌜ UpdateBegins (now image) (now occ) (pathHeader (now image)) ⌝ }
     ensures { λ x. ⌜ updatedOf x (now (image .exit)) ≡ storedAnswer (updateOf (now (image .entry)) (now (occ .entry)) (now (blocking .entry)) o) (now (image .entry)) ⌝ }
 {
     let mut wide = [0u32; 4000];
@@ -184,7 +184,7 @@ fn widen_large(image: &mut [u8], occ: &[u16], blocking: &[u32], o: Order) -> Upd
 }
 
 // Refusals 2 and 4 to 10 over l links, else number 0.
-fn start_fault(image: &[u8], l: usize, blocking: &[u32], o: Order) -> Refusal
+fn start_fault(image: &[u8], l: usize, blocking: &[u32], o: Args) -> Refusal
     ensures { λ r. ⌜ ((occ : List ℕ) → length occ ≡ l → Judged r (now (image .entry)) occ (now (blocking .entry)) o) ⌝ }
 {
     let moved = o.moved;
@@ -213,7 +213,7 @@ pub fn update_over(
 ) -> Updated
     ensures { λ x. ⌜ updatedOf x (now (image .exit)) ≡ updatedImage (now (image .entry)) (now (occ .entry)) (now (blocking .entry)) (moved .0) local limit ⌝ }
 {
-    let o = Order {
+    let o = Args {
         moved: moved,
         local: local,
         limit: limit,
@@ -237,7 +237,7 @@ pub fn update_free_path(
 ) -> Updated
     ensures { λ x. ⌜ updatedOf x (now (image .exit)) ≡ updatedImage (now (image .entry)) (now (occ .entry)) (now (blocking .entry)) (moved .0) local limit ⌝ }
 {
-    let o = Order {
+    let o = Args {
         moved: TrainIdx(moved.0 as u32),
         local: local,
         limit: limit,

@@ -21,7 +21,7 @@ ghost use Rattle.free_path.specs.LinkOptType.{linkIdxPath};
 ghost use Rattle.free_path.specs.Validate.{strayLink};
 ghost use Rattle.search.specs.Read.{pathOf, Marked};
 ghost use Rattle.tally.specs.Tally.{counted};
-ghost use Rattle.update_free_path.specs.Updates.{dueAt, isLast, ranOf, stoppedBy, nextOf, closedAt, Counting, Sizes, Top, Ended};
+ghost use Rattle.update_free_path.specs.Updates.{dueAt, isLast, ranOf, stoppedBy, nextOf, closedAt, Counting, Sizes, Top, RoundsEnded};
 
 // Between two rounds: the header's numbers, idx_split and div_idx_split, and document 01's tally.
 pub struct Between {
@@ -161,7 +161,7 @@ pub(crate) fn rounds(
     dn: &mut [u32],
 ) -> Ran
     requires { ⌜ Sizes (estCount (now img)) (divergeRoom (now img)) (now col) (now on) (now dt) (now dn) × Top (now occ) (now img) (now col) (now on) (now dt) (now dn) start ⌝ }
-    ensures { λ x. ⌜ Ended (now (occ .entry)) (now (known .entry)) g limit (now (img .entry)) (now (dt .entry)) (now (dn .entry)) start (now (img .exit)) (now (dt .exit)) (now (dn .exit)) x ⌝ }
+    ensures { λ x. ⌜ RoundsEnded (now (occ .entry)) (now (known .entry)) g limit (now (img .entry)) (now (dt .entry)) (now (dn .entry)) start (now (img .exit)) (now (dt .exit)) (now (dn .exit)) x ⌝ }
 {
     let mut w = start;
     while goes_on(w, limit) {

@@ -16,10 +16,10 @@ ghost use Rattle.disp_structs.specs.Listed.{listed};
 ghost use Rattle.image.specs.Image.{divergeAt};
 ghost use Rattle.free_path.specs.Columns.{divAt};
 ghost use Rattle.update_definition.specs.Update.{adjustSentinel};
-ghost use Rattle.update_free_path.specs.Updates.{startAt, givenAt, Begins, Space, Finished};
+ghost use Rattle.update_free_path.specs.Updates.{startAt, givenAt, UpdateBegins, Space, Finished};
 
-// What an update is told besides the image and the lists.
-pub struct Order {
+// The arguments of an update besides the image and the lists.
+pub struct Args {
     pub moved: TrainIdx,
     pub local: bool,
     pub limit: u16,
@@ -35,7 +35,7 @@ fn start_diverges(img: &[u8], m: u32, moved: TrainIdx, dt: &mut [u32], dn: &mut 
     call::adjust_sentinel(dt, n, moved);
 }
 
-fn given_of(img: &[u8], blocking: &[u32], flags: &[u8], o: Order, free: u16) -> Given
+fn given_of(img: &[u8], blocking: &[u32], flags: &[u8], o: Args, free: u16) -> Given
     ensures { λ r. ⌜ r ≡ givenAt (now (img .entry)) (now (blocking .entry)) (now (flags .entry)) o free ⌝ }
 {
     let moved = o.moved;
@@ -63,7 +63,7 @@ pub(crate) fn run(
     img: &mut [u8],
     occ: &[u32],
     blocking: &[u32],
-    o: Order,
+    o: Args,
     h: PathHeader,
     col: &mut [u32],
     on: &mut [u8],
@@ -72,7 +72,7 @@ pub(crate) fn run(
     dt: &mut [u32],
     dn: &mut [u32],
 ) -> Ran
-    requires { ⌜ Begins (now img) (now occ) h × Space (now img) (now occ) (now col) (now on) (now flags) (now known) (now dt) (now dn) ⌝ }
+    requires { ⌜ UpdateBegins (now img) (now occ) h × Space (now img) (now occ) (now col) (now on) (now flags) (now known) (now dt) (now dn) ⌝ }
     ensures { λ x. ⌜ Finished (now (img .entry)) (now (occ .entry)) (now (blocking .entry)) o (now (img .exit)) (now (dt .exit)) (now (dn .exit)) x ⌝ }
 {
     let moved = o.moved;

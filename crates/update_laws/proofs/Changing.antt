@@ -17,7 +17,7 @@ use Rattle.update_definition.specs.Moves.{trainsOf, changeDiverge}
 use Rattle.update_definition.specs.Accepted.{Each, Accepted, DivsAccepted}
 use Rattle.update_laws.specs.Turns.{SomeTrain}
 use Rattle.update_laws.specs.Good.{Good, NewDivGood}
-use Rattle.update_laws.specs.Ended.{DivPoint, EndsGood}
+use Rattle.update_laws.specs.AfterRound.{DivPoint, EndsGood}
 use Rattle.update_laws.proofs.Answers.{ok-same, bind-ok, need-ok, room-ok}
 use Rattle.update_laws.proofs.Lists.{walk-ok}
 use Rattle.update_laws.proofs.Pools.{view-trains}

@@ -11,7 +11,7 @@ use Rattle.free_path.specs.Base.{ok, at, before, last}
 use Rattle.update_definition.specs.Accepted.{Each, Sorted, InnerAccepted, DivsAccepted}
 use Rattle.update_laws.specs.Turns.{SomeTrain}
 use Rattle.update_laws.specs.Good.{NewDivGood}
-use Rattle.update_laws.specs.Ended.{DivPoint}
+use Rattle.update_laws.specs.AfterRound.{DivPoint}
 use Rattle.update_laws.proofs.Answers.{before-ok}
 use Rattle.update_laws.proofs.Lists.{at-some, at-left, at-right, at-last, last-append, take-below, at-take, each-append, chain-append, chain-take}
 use Rattle.update_laws.proofs.NewDivs.{below, sorted-upto}

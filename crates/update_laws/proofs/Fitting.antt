@@ -27,7 +27,7 @@ use Rattle.update_laws.specs.Turns.{Met, Stands, Looks, Rewound, Did, Tu
 use Rattle.update_laws.specs.Turns.Looks.{passes, blocks}
 use Rattle.update_laws.specs.Turns.Did.{pops, shortens, givesUp, alternates, changes, saves, empties, advances, joins}
 use Rattle.update_laws.specs.Good.{Good, stack}
-use Rattle.update_laws.specs.Ended.{AtEnd}
+use Rattle.update_laws.specs.AfterRound.{AtEnd}
 use Rattle.update_laws.specs.FitsGood.{TrainFits, DivFits, RoundFits, SearchFits, EndsFit}
 use Rattle.update_laws.proofs.Answers.{ok-same, bind-ok, need-ok, room-ok, cond-cases, before-ok, slice-ok}
 use Rattle.update_laws.proofs.Lists.{at-last, at-map, at-set, each-append, each-one, each-take, each-drop}

@@ -19,7 +19,7 @@ use Rattle.est_times.proofs.Counting.{clash}
 use Rattle.est_times.proofs.WalkLaws.{or-cases}
 use Rattle.free_path.specs.Base.{any}
 use Rattle.free_path.specs.LinkOptType.{contains}
-use Rattle.free_path.specs.Order.{Perm, done, keep, swap, chain}
+use Rattle.free_path.specs.AnyOrder.{Perm, done, keep, swap, chain}
 use Rattle.image.specs.Image.{largestTrain}
 use Rattle.image.specs.Codec.{decoded}
 use Rattle.image.specs.ImageMatch.{ImagesMatch}
@@ -33,10 +33,10 @@ use Rattle.update_definition.specs.Update.{Status, Success, Blocked, Faulty, Re
 use Rattle.update_definition.specs.Fits.{TrainsWithin}
 use Rattle.update_definition.specs.Renumbered.{TwoNumberings, rUpdated}
 use Rattle.update_laws.proofs.UpdateRenumbering.{update-renumbered}
-use Rattle.update_laws.specs.Ended.{Leaves}
+use Rattle.update_laws.specs.AfterRound.{Leaves}
 use Rattle.update_laws.proofs.Updates.{StaysFit}
 use Rattle.update_definition.specs.UpdateImage.{linksBelow, callFault, leftImage, storedAnswer, answerBy, linkIdxs, updateFault, updatedImage}
-use Rattle.update_definition.specs.UpdateMatch.{CallsMatch, UpdatesMatch}
+use Rattle.update_definition.specs.UpdateMatch.{GivenMatch, UpdatesMatch}
 use Rattle.update_laws.proofs.UpdateLeaves.{keeps, fit-held, leaves}
 
 -- ---- lists in another order
@@ -87,7 +87,7 @@ links-below l (y ∷ ys) h x c =
 
 -- ---- the refusals
 
-module _ (top : ℕ) (p q : ℕ → ℕ) (occ occ′ blocking blocking′ : List ℕ) (c : CallsMatch top p q occ occ′ blocking blocking′) (moved limit : ℕ) where
+module _ (top : ℕ) (p q : ℕ → ℕ) (occ occ′ blocking blocking′ : List ℕ) (c : GivenMatch top p q occ occ′ blocking blocking′) (moved limit : ℕ) where
   -- refused by 2, 4 or 5 alike
   pub call-fault-match : callFault occ′ blocking′ (q moved) limit ≡ callFault occ blocking moved limit
   unfolding callFault
@@ -125,7 +125,7 @@ module _ (p q : ℕ → ℕ) (img img′ : List ℕ) (m : ImagesMatch p q img im
   refusals-match zero x u u′ h = absurd (h refl)
   refusals-match (suc k) x u u′ h = record { answer = refl; images = m }
 
-module _ (top : ℕ) (p q : ℕ → ℕ) (occ occ′ blocking blocking′ : List ℕ) (c : CallsMatch top p q occ occ′ blocking blocking′) (moved : ℕ) (local : Bool) (limit : ℕ)
+module _ (top : ℕ) (p q : ℕ → ℕ) (occ occ′ blocking blocking′ : List ℕ) (c : GivenMatch top p q occ occ′ blocking blocking′) (moved : ℕ) (local : Bool) (limit : ℕ)
     (img img′ : List ℕ) (m : ImagesMatch p q img img′) where
   abbrev L : ℕ
   L = length occ

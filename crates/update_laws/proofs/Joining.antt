@@ -20,7 +20,7 @@ use Rattle.update_definition.specs.Join.{Divs, join}
 use Rattle.update_definition.specs.Accepted.{Each, Chain, Distinct, Accepted, NodeAccepted, Leads, EndsPath, PathAccepted, DivsAccepted}
 use Rattle.update_laws.specs.Turns.{Stands}
 use Rattle.update_laws.specs.Good.{Good, stack, NewDivGood}
-use Rattle.update_laws.specs.Ended.{DivPoint, EndsGood}
+use Rattle.update_laws.specs.AfterRound.{DivPoint, EndsGood}
 use Rattle.update_laws.proofs.Answers.{ok-same}
 use Rattle.update_laws.proofs.Lists.{at-below, at-left, at-take, at-drop, at-last, last-at, last-append, each-append, each-take, each-drop, chain-append, chain-drop, walk-ok}
 use Rattle.update_laws.proofs.Stack.{estOf, chain-few, stack-length, stack-last, next-leads}

@@ -38,7 +38,7 @@ pub mod Fitting
 pub mod Updates
 pub mod TopNever
 pub mod Tops
-pub mod Tally
+pub mod TallyBounds
 pub mod Examples
 pub mod PathReads
 pub mod BytesAccepted

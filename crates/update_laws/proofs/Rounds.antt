@@ -29,7 +29,7 @@ use Rattle.update_laws.specs.Turns.{SomeTrain, Stands, Did}
 use Rattle.update_laws.specs.Turns.Did.{pops, shortens, givesUp, alternates, changes, saves, empties, advances, joins}
 use Rattle.update_laws.specs.Good.{Good, PoolGood}
 use Rattle.update_laws.specs.Asserts.{DivStrict, Asserts}
-use Rattle.update_laws.specs.Ended.{EndsGood, AtEnd}
+use Rattle.update_laws.specs.AfterRound.{EndsGood, AtEnd}
 use Rattle.update_laws.proofs.Answers.{no-ok, ok-same, bind-ok, need-ok, cond-cases, before-ok}
 use Rattle.update_laws.proofs.Lists.{at-below, last-at, walk-ok, chain-take}
 use Rattle.update_laws.proofs.NewDivs.{below}

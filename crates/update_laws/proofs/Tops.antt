@@ -19,7 +19,7 @@ use Rattle.update_definition.specs.Accepted.{Accepted}
 use Rattle.update_laws.specs.Turns.{Did}
 use Rattle.update_laws.specs.Turns.Did.{pops, shortens, givesUp, alternates, changes, saves, empties, advances, joins}
 use Rattle.update_laws.specs.Good.{Good}
-use Rattle.update_laws.specs.Ended.{AtEnd}
+use Rattle.update_laws.specs.AfterRound.{AtEnd}
 use Rattle.update_laws.specs.Tops.{RoundTop}
 use Rattle.update_laws.proofs.Answers.{no-ok, ok-same}
 use Rattle.update_laws.proofs.Lists.{at-below, at-drop, at-last, last-at, last-append}

@@ -11,7 +11,7 @@ use Rattle.image_fault.specs.ImageFault.{imageFault}
 use Rattle.link_rules.specs.declared.refusal.Refusal.{Refusal}
 use Rattle.image_fault.proofs.AcceptLaws.{or-else-clean}
 use Rattle.update_definition.specs.Update.{Updated, updateFreePath}
-use Rattle.update_laws.proofs.Tally.{Counts, update-counts}
+use Rattle.update_laws.proofs.TallyBounds.{Counts, update-counts}
 use Rattle.update_definition.specs.UpdateImage.{callFault, answerBy, linkIdxs, updateFault, updatedImage}
 use Rattle.update_laws.proofs.BytesAccepted.{bytes-accepted}
 

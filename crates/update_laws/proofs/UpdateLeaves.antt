@@ -15,7 +15,7 @@ use Rattle.link_rules.specs.declared.refusal.Refusal.{Refusal}
 use Rattle.image_fault.proofs.AcceptLaws as Clean
 use Rattle.update_definition.specs.Update.{Status, Success, Blocked, Faulty, Refused, Updated, updateFreePath}
 use Rattle.update_definition.specs.Fits.{TrainsWithin, Fits}
-use Rattle.update_laws.specs.Ended.{SameTrip, Leaves}
+use Rattle.update_laws.specs.AfterRound.{SameTrip, Leaves}
 use Rattle.update_laws.proofs.Updates.{StaysFit, update-fits}
 use Rattle.update_definition.specs.UpdateImage.{UpdatedImage, callFault, leftImage, answerBy, linkIdxs, updateFault, updatedImage}
 use Rattle.update_laws.proofs.BytesAccepted.{bytes-accepted, within-higher}

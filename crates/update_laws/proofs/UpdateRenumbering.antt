@@ -19,7 +19,7 @@ use Rattle.disp_structs.specs.declared.DivergeNode.{DivergeNode}
 use Rattle.free_path.specs.Base.{Res, ok, no, at, any}
 use Rattle.free_path.specs.LinkOptType.{linksOnPath, contains, linkOptType, plainly}
 use Rattle.free_path.specs.Validate.{known, strays}
-use Rattle.free_path.specs.Order.{Perm, done, keep, swap, chain}
+use Rattle.free_path.specs.AnyOrder.{Perm, done, keep, swap, chain}
 use Rattle.free_path.specs.Renumbered.{rClass}
 use Rattle.free_path.proofs.PathRenumbering.{noLink-r, class-r, known-r}
 use Rattle.free_path.proofs.ListLaws.{All}

@@ -19,7 +19,7 @@ use Rattle.update_definition.specs.State.{Ended, atEnd, blockedAt, again, withD
 use Rattle.update_definition.specs.Update.{Given, Updated, Between, between, refused, straysOf, faultsOf, finish, afterRound, due, roundsFrom, roundOf, adjustSentinel, givenOf, startOf, updateFrom, updateFreePath, turnLimit}
 use Rattle.update_definition.specs.Accepted.{Each, Accepted, DivsAccepted}
 use Rattle.update_definition.specs.Fits.{TrainsUpTo, TrainsWithin, NodeFits, Fits}
-use Rattle.update_laws.specs.Ended.{SameTrip, StaysAccepted, EndsGood, Leaves}
+use Rattle.update_laws.specs.AfterRound.{SameTrip, StaysAccepted, EndsGood, Leaves}
 use Rattle.update_laws.specs.FitsGood.{TrainFits, DivFits, EndsFit}
 use Rattle.update_laws.proofs.Answers.{no-ok, ok-same}
 use Rattle.update_laws.proofs.Lists.{each-one, at-some, at-last, last-at}

@@ -1,6 +1,6 @@
 pub mod Turns
 pub mod Good
-pub mod Ended
+pub mod AfterRound
 pub mod Runs
 pub mod FitsGood
 pub mod Bounds

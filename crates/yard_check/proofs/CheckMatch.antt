@@ -16,7 +16,7 @@ use Rattle.link_rules.specs.declared.refusal.Refusal.{Refusal}
 use Rattle.update_definition.specs.Fits.{TrainsUpTo}
 use Rattle.update_definition.specs.Update.{Status, Success, Blocked, Faulty, Refused}
 use Rattle.update_definition.specs.UpdateImage.{UpdatedImage, updatedImage}
-use Rattle.update_definition.specs.UpdateMatch.{CallsMatch}
+use Rattle.update_definition.specs.UpdateMatch.{GivenMatch}
 use Rattle.update_laws.proofs.UpdateCounts.{image-counts}
 use Rattle.update_laws.proofs.ImageRenumbering.{call-fault-match}
 use Rattle.yard_check.specs.Yard.{slotCount, partOf, yardFits}
@@ -104,7 +104,7 @@ module _ (top : ℕ) (p q : ℕ → ℕ) (yard yard′ occ occ′ : List ℕ) (a
   abbrev f : Refusal
   f = checkFault yard occ a (length report)
 
-  calls : CallsMatch top p q occ occ′ (a .blocking) (a′ .blocking)
+  calls : GivenMatch top p q occ occ′ (a .blocking) (a′ .blocking)
   calls = record { links = links; trains = trains; occupancies = o; order = g .blocking }
 
   -- the same refusal, or none in both

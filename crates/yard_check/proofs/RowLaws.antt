@@ -23,7 +23,7 @@ use Rattle.image.specs.Image.{estCount, pathCount, divergeCount}
 use Rattle.image_fault.proofs.ScanLaws.{step-fit, step-unfit}
 use Rattle.free_path.specs.Base.{Res, ok, no, at}
 use Rattle.update_definition.specs.Update.{Status, Success, Blocked, Faulty, Refused, Updated, givenOf, startOf, updateFrom, updateFreePath}
-use Rattle.update_laws.proofs.Tally.{StatusFew}
+use Rattle.update_laws.proofs.TallyBounds.{StatusFew}
 use Rattle.update_definition.specs.UpdateImage.{UpdatedImage, callFault, answerBy, refusedAnswer, linkIdxs, updateFault, updatedImage}
 use Rattle.update_laws.proofs.UpdateCounts.{image-counts}
 use Rattle.update_laws.proofs.RefusalLaws.{refused-number}

@@ -12,7 +12,7 @@ use Rattle.link_rules.specs.AdvanceRewind.{holdAll, refilled, resetLinkTrainIdx
 use Rattle.link_rules.specs.Renumbering.{Renumbering, rTrain}
 use Rattle.link_rules.specs.Matching.{rRecord}
 use Rattle.link_rules.specs.declared.refusal.Answer.the-variants.{Done as Marked}
-use Rattle.free_path.specs.Order.{swap}
+use Rattle.free_path.specs.AnyOrder.{swap}
 use Rattle.yard_check.specs.Yard.{partOf}
 use Rattle.yard_check.specs.Check.{rowFrom, Done}
 use Rattle.yard_check.specs.Calls.{World, Call, mark, check, marked, checked, run, runAll}

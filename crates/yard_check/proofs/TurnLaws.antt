@@ -17,7 +17,7 @@ use Rattle.yard_check.specs.Yard.{slotCount, partFrom, partUntil, partOf
 use Rattle.yard_check.specs.Check.{CheckArgs, rowSize, checkFault, Row, unvisitedRow, isFinishedRow, isBlockedRow, isErredRow, putRow, Visit, visit, visited, slotVisit, slotRow, slotImage, yardAfter, reportAfter, howMany, firstNot, Refused, Erred, answerBy, answerOf, check, checkDone, checkedBy, checkedWith}
 use Rattle.yard_check.specs.Checks.{rowOf, talliedOf, tallyAfter, NextTurn, Visits, SlotVisited, AllVisited}
 use Rattle.yard_check.specs.declared.check.Row as Columns
-use Rattle.yard_check.specs.declared.check.Tally.{Tally}
+use Rattle.yard_check.specs.declared.check.Counts.{Counts}
 use Rattle.yard_check.proofs.YardLaws.{Fits, fits, left, slots-after, part-later, after-fits}
 use Rattle.yard_check.proofs.VisitLaws.{images-fit, trains-stay}
 use Rattle.yard_check.proofs.ReportLaws.{next-place}
@@ -176,7 +176,7 @@ module _ (yard occ : List ℕ) (a : CheckArgs) (report : List ℕ) (clean : chec
           (ap (λ (x : Row). talliedOf (tallyAfter row (a .begin) n) x (suc n)) row-is ∙ tally-turn row (a .begin) low-rows n)
 
   -- the answer
-  pub visited-all : (x : Tally) (yard′ report′ : List ℕ) → AllVisited yard occ a report x yard′ report′
+  pub visited-all : (x : Counts) (yard′ report′ : List ℕ) → AllVisited yard occ a report x yard′ report′
       → check (answerBy (x .erred) (not (eqb (x .blocked) 0)) (x .next)) yard′ report′ ≡ checkedWith yard occ a report
   unfolding answerOf
   visited-all x yard′ report′ v =

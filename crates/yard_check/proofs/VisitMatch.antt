@@ -19,7 +19,7 @@ use Rattle.image_fault.proofs.MatchLaws.{image-fault-match}
 use Rattle.update_definition.specs.Fits.{TrainsWithin}
 use Rattle.update_definition.specs.Update.{Status, Success, Blocked, Faulty, Refused}
 use Rattle.update_definition.specs.UpdateImage.{UpdatedImage, updatedImage}
-use Rattle.update_definition.specs.UpdateMatch.{CallsMatch, UpdatesMatch}
+use Rattle.update_definition.specs.UpdateMatch.{GivenMatch, UpdatesMatch}
 use Rattle.update_laws.proofs.ImageRenumbering.{update-match}
 use Rattle.yard_check.specs.Yard.{partOf}
 use Rattle.yard_check.specs.Check.{CheckArgs, Row, unvisitedRow, statusRow, isFinished, Visit, visit, visitBy, visited, slotVisit}
@@ -64,7 +64,7 @@ unfolding isFinished
 finished-match p q img img′ m = ap₂ eqb (header-high p q img img′ m 2 36 (omega arith) (omega arith)) (path-count p q img img′ m)
 
 -- top is the largest train; it and the trains of the call are ones that the image holds
-module _ (top : ℕ) (p q : ℕ → ℕ) (occ occ′ : List ℕ) (a a′ : CheckArgs) (g : ArgsMatch p q a a′) (c : CallsMatch top p q occ occ′ (a .blocking) (a′ .blocking)) (empty : occupied occ noLink ≡ false) where
+module _ (top : ℕ) (p q : ℕ → ℕ) (occ occ′ : List ℕ) (a a′ : CheckArgs) (g : ArgsMatch p q a a′) (c : GivenMatch top p q occ occ′ (a .blocking) (a′ .blocking)) (empty : occupied occ noLink ≡ false) where
   module _ (t : ℕ) (img img′ : List ℕ) (m : ImagesMatch p q img img′) (b : Bytes img) (b′ : Bytes img′) (low : top ≤ largestTrain img) (w : TrainsWithin (largestTrain img) occ (a .moved)) where
     abbrev u : UpdatedImage
     u = updatedImage img occ (a .blocking) (a .moved) (a .local) (a .limit)

@@ -13,7 +13,7 @@ use Rattle.yard_check.specs.declared.check.Answer as Code
 use Rattle.yard_check.specs.declared.check.Answer.the-variants as Answers
 use Rattle.yard_check.specs.declared.check.Args.{Args}
 use Rattle.yard_check.specs.declared.check.Row as Columns
-use Rattle.yard_check.specs.declared.check.Tally.{Tally}
+use Rattle.yard_check.specs.declared.check.Counts.{Counts}
 
 -- ---- what is given and answered
 
@@ -52,7 +52,7 @@ ColumnsFit s strays = StatusFits s × (strays < 4294967296)
 -- ---- the loop over the slots
 
 -- one more slot
-abbrev pub talliedOf : Tally → Row → ℕ → Tally
+abbrev pub talliedOf : Counts → Row → ℕ → Counts
 talliedOf y r t =
     record {
       erred = cond (isErredRow r) 1 0 + y .erred;
@@ -61,7 +61,7 @@ talliedOf y r t =
     }
 
 -- of slots 1 to n
-abbrev pub tallyAfter : (ℕ → Row) → ℕ → ℕ → Tally
+abbrev pub tallyAfter : (ℕ → Row) → ℕ → ℕ → Counts
 tallyAfter rows begin n =
     record {
       erred = howMany (λ t. isErredRow (rows t)) n;
@@ -70,7 +70,7 @@ tallyAfter rows begin n =
     }
 
 -- the counts of the slots below t, which is one
-pub record NextTurn (y : Tally) (t : ℕ) : Type 0 where
+pub record NextTurn (y : Counts) (t : ℕ) : Type 0 where
   pub erred : y .erred < t
   pub blocked : y .blocked < t
   pub slot : t ≤ 63
@@ -88,7 +88,7 @@ pub record SlotVisited (yard occ : List ℕ) (a : CheckArgs) (t : ℕ) (r : Colu
   pub yard-left : left ≡ withPart yard t (slotImage yard occ a t)
 
 -- every slot was visited
-pub record AllVisited (yard occ : List ℕ) (a : CheckArgs) (report : List ℕ) (x : Tally) (yard′ report′ : List ℕ) : Type 0 where
+pub record AllVisited (yard occ : List ℕ) (a : CheckArgs) (report : List ℕ) (x : Counts) (yard′ report′ : List ℕ) : Type 0 where
   pub tally : x ≡ tallyAfter (slotRow yard occ a) (a .begin) (slotCount yard)
   pub yard-left : yard′ ≡ yardAfter yard (slotImage yard occ a) (slotCount yard)
   pub report-left : report′ ≡ reportAfter (slotRow yard occ a) report (slotCount yard)

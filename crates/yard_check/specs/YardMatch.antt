@@ -3,7 +3,7 @@ use mathlib.Core.Path.{_≡_}
 use mathlib.Core.List.{List, map}
 use Prim.Native.Nat.{ℕ, _≤_}
 use lib.ListN.{length}
-use Rattle.free_path.specs.Order.{Perm}
+use Rattle.free_path.specs.AnyOrder.{Perm}
 use Rattle.image.specs.Image.{largestTrain}
 use Rattle.image.specs.ImageMatch.{ImagesMatch}
 use Rattle.yard_check.specs.Yard.{slotCount, partOf}

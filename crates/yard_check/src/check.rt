@@ -51,7 +51,7 @@ pub(crate) struct Row {
 }
 
 // The slots that erred, those that are blocked, and the first one that is not finished.
-pub(crate) struct Tally {
+pub(crate) struct Counts {
     pub erred: u32,
     pub blocked: u32,
     pub next: u16,
@@ -241,11 +241,11 @@ fn next_begin(next: u16, finished: bool, t: u16) -> u16
     next
 }
 
-fn tallied(y: Tally, r: Row, t: u16) -> Tally
+fn tallied(y: Counts, r: Row, t: u16) -> Counts
     requires { ⌜ NextTurn y t ⌝ }
     ensures { λ x. ⌜ x ≡ talliedOf y (rowOf r) t ⌝ }
 {
-    Tally {
+    Counts {
         erred: one_if(5 <= r.code) + y.erred,
         blocked: one_if(r.code == 4) + y.blocked,
         next: next_begin(y.next, r.code == 1, t),
@@ -253,12 +253,12 @@ fn tallied(y: Tally, r: Row, t: u16) -> Tally
 }
 
 // Every slot, after a blocked, faulty or refused one too.
-fn visits(yard: &mut [u8], occ: &[u32], blocking: &[u32], a: Args, report: &mut [u8]) -> Tally
+fn visits(yard: &mut [u8], occ: &[u32], blocking: &[u32], a: Args, report: &mut [u8]) -> Counts
     requires { ⌜ Check.checkFault (now yard) (now occ) (argsOf (now blocking) a) (length (now report)) .number ≡ 0 ⌝ }
     ensures { λ x. ⌜ AllVisited (now (yard .entry)) (now (occ .entry)) (argsOf (now (blocking .entry)) a) (now (report .entry)) x (now (yard .exit)) (now (report .exit)) ⌝ }
 {
     let slots = yard::slot_count(yard) as u16;
-    let mut y = Tally {
+    let mut y = Counts {
         erred: 0,
         blocked: 0,
         next: a.begin,
@@ -281,7 +281,7 @@ fn visits_widened(
     blocking: &[u32],
     a: Args,
     report: &mut [u8],
-) -> Tally
+) -> Counts
     requires { ⌜ (Check.checkFault (now yard) (now occ) (argsOf (now blocking) a) (length (now report)) .number ≡ 0) × (length (now wide) ≡ length (now occ)) ⌝ }
     ensures { λ x. ⌜ AllVisited (now (yard .entry)) (now (occ .entry)) (argsOf (now (blocking .entry)) a) (now (report .entry)) x (now (yard .exit)) (now (report .exit)) ⌝ }
 {
@@ -290,7 +290,13 @@ fn visits_widened(
 }
 
 // Room for at most 512 links.
-fn visits_small(yard: &mut [u8], occ: &[u16], blocking: &[u32], a: Args, report: &mut [u8]) -> Tally
+fn visits_small(
+    yard: &mut [u8],
+    occ: &[u16],
+    blocking: &[u32],
+    a: Args,
+    report: &mut [u8],
+) -> Counts
     requires { ⌜ (Check.checkFault (now yard) (now occ) (argsOf (now blocking) a) (length (now report)) .number ≡ 0) × (length (now occ) ≤ 512) ⌝ }
     ensures { λ x. ⌜ AllVisited (now (yard .entry)) (now (occ .entry)) (argsOf (now (blocking .entry)) a) (now (report .entry)) x (now (yard .exit)) (now (report .exit)) ⌝ }
 {
@@ -299,7 +305,13 @@ fn visits_small(yard: &mut [u8], occ: &[u16], blocking: &[u32], a: Args, report:
     visits_widened(yard, occ, &mut wide[..n], blocking, a, report)
 }
 
-fn visits_large(yard: &mut [u8], occ: &[u16], blocking: &[u32], a: Args, report: &mut [u8]) -> Tally
+fn visits_large(
+    yard: &mut [u8],
+    occ: &[u16],
+    blocking: &[u32],
+    a: Args,
+    report: &mut [u8],
+) -> Counts
     requires { ⌜ Check.checkFault (now yard) (now occ) (argsOf (now blocking) a) (length (now report)) .number ≡ 0 ⌝ }
     ensures { λ x. ⌜ AllVisited (now (yard .entry)) (now (occ .entry)) (argsOf (now (blocking .entry)) a) (now (report .entry)) x (now (yard .exit)) (now (report .exit)) ⌝ }
 {
@@ -310,7 +322,7 @@ fn visits_large(yard: &mut [u8], occ: &[u16], blocking: &[u32], a: Args, report:
 
 // ---- the answer
 
-fn answered(y: Tally) -> Answer
+fn answered(y: Counts) -> Answer
     ensures { λ r. ⌜ answeredOf r ≡ Check.answerBy (y .erred) (not (eqb (y .blocked) 0)) (y .next) ⌝ }
 {
     if y.erred != 0 {

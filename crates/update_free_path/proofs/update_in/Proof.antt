@@ -5,7 +5,7 @@ use denote.Ref.{now}
 use Rattle.image.specs.Codec.{decoded}
 use Rattle.update_definition.specs.Update.{Updated}
 use Rattle.update_definition.specs.UpdateImage.{storedAnswer}
-use Rattle.update_free_path.specs.Updates.{Begins, Space, updateOf}
+use Rattle.update_free_path.specs.Updates.{UpdateBegins, Space, updateOf}
 use Rattle.update_free_path.proofs.CallLaws.{kept-sizes}
 use borrow.Author.Needs.{needs}
 use Rattle.update_free_path.proofs.update_in.Statement.{statement}
@@ -19,7 +19,7 @@ run-requires c κs =
     let a = c .before .before .before .before .before .before .before .before .before .before .before .before .before .before .before .before .before .before .before .before .before .before .args in
     let p = c .before .before .before .before .before .before .before .before .before .before .before .before .before .before .before .before .before .before .before .before .before .before .pre in
     let k = c .before .before .before .before .before .before .before .before .before .copy-image in
-    (subst (λ (img : List ℕ). Begins img (now (a .occ)) (a .h)) (sym (k .ensures)) (p .0), subst (λ (img : List ℕ). Space img (now (a .occ)) (now (a .col)) (now (a .on)) (now (a .flags)) (now (a .known)) (now (a .dt)) (now (a .dn))) (sym (k .ensures)) (p .2))
+    (subst (λ (img : List ℕ). UpdateBegins img (now (a .occ)) (a .h)) (sym (k .ensures)) (p .0), subst (λ (img : List ℕ). Space img (now (a .occ)) (now (a .col)) (now (a .on)) (now (a .flags)) (now (a .known)) (now (a .dt)) (now (a .dn))) (sym (k .ensures)) (p .2))
 
 answered-requires : tie.Need-answered-requires
 answered-requires c κs =

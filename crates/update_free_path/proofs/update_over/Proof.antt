@@ -1,6 +1,6 @@
 use mathlib.Core.Path.{refl, sym, subst, _∙_}
 use denote.Ref.{now}
-use Rattle.update_free_path.specs.Updates.{Begins}
+use Rattle.update_free_path.specs.Updates.{UpdateBegins}
 use borrow.Author.Needs.{needs}
 use Rattle.update_free_path.proofs.update_over.Statement.{statement}
 use Rattle.update_free_path.proofs.update_over.Tie as tie
@@ -25,7 +25,7 @@ path-header-requires c κs = search needs
 update-begun-requires : tie.Need-update-begun-requires
 update-begun-requires c κs =
     let a = c .before .before .before .before .before .before .before .before .before .before .args in
-    subst (Begins (now (a .image)) (now (a .occ))) (sym (c .before .path-header .ensures)) (c .before .before .before .before .before .start-fault .ensures (now (a .occ)) refl .begins (c .before .before .before .if1 .left))
+    subst (UpdateBegins (now (a .image)) (now (a .occ))) (sym (c .before .path-header .ensures)) (c .before .before .before .before .before .start-fault .ensures (now (a .occ)) refl .begins (c .before .before .before .if1 .left))
 
 same-length-2 : tie.Need-same-length-2
 same-length-2 c = search needs

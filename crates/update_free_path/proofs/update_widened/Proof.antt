@@ -3,7 +3,7 @@ use mathlib.Core.List.{List}
 use Prim.Native.Nat.{ℕ}
 use denote.Ref.{now}
 use Rattle.update_definition.specs.UpdateImage.{storedAnswer}
-use Rattle.update_free_path.specs.Updates.{Begins, updateOf}
+use Rattle.update_free_path.specs.Updates.{UpdateBegins, updateOf}
 use borrow.Author.Needs.{needs}
 use Rattle.update_free_path.proofs.update_widened.Statement.{statement}
 use Rattle.update_free_path.proofs.update_widened.Tie as tie
@@ -18,8 +18,8 @@ update-begun-requires : tie.Need-update-begun-requires
 update-begun-requires c κs =
     let a = c .before .before .before .before .before .before .before .before .before .before .before .before .args in
     let h = c .before .before .path-header in
-    subst (λ (xs : List ℕ). Begins (now (a .image)) xs (h .result)) (sym (c .before .before .before .before .before .before .widen .ensures (c .before .before .before .before .before .before .before .before .before .before .before .before .pre .1)))
-    (subst (Begins (now (a .image)) (now (a .occ))) (sym (h .ensures)) (c .before .before .before .before .before .before .before .before .before .before .before .before .pre .0))
+    subst (λ (xs : List ℕ). UpdateBegins (now (a .image)) xs (h .result)) (sym (c .before .before .before .before .before .before .widen .ensures (c .before .before .before .before .before .before .before .before .before .before .before .before .pre .1)))
+    (subst (UpdateBegins (now (a .image)) (now (a .occ))) (sym (h .ensures)) (c .before .before .before .before .before .before .before .before .before .before .before .before .pre .0))
 
 same-length : tie.Need-same-length
 same-length c = search needs

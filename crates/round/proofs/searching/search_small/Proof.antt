@@ -5,7 +5,7 @@ use native.Mathlib.Omega.{arith}
 use lib.ListN.{length, length-replicate}
 use Rattle.update_definition.specs.State as State
 use Rattle.search.specs.Read.{roundOf}
-use Rattle.search.specs.Runs.{Begins}
+use Rattle.search.specs.Runs.{SearchBegins}
 use Rattle.splice.specs.Read.{trainOf}
 use Rattle.round.proofs.StartLaws.{zeroed-same}
 use borrow.Author.Needs.{needs}
@@ -51,7 +51,7 @@ search-round-requires c κs =
         save = g .3 .save;
         none = g .3 .none;
         pooled = g .3 .pooled;
-        begun = subst (λ (s : State.Search). Begins (length (now (a .occ))) (roundOf (trainOf (now (a .img)) (now (a .dt)) (now (a .dn)) (a .h)) (now (a .occ)) (now (a .img)) (now (a .dt)) (now (a .dn)) (a .r)) s) (sym (zeroed-same 64 64 (a .r .«est_count») (a .start))) (g .3 .begun);
+        begun = subst (λ (s : State.Search). SearchBegins (length (now (a .occ))) (roundOf (trainOf (now (a .img)) (now (a .dt)) (now (a .dn)) (a .h)) (now (a .occ)) (now (a .img)) (now (a .dt)) (now (a .dn)) (a .r)) s) (sym (zeroed-same 64 64 (a .r .«est_count») (a .start))) (g .3 .begun);
       },
     )
 

@@ -1,7 +1,7 @@
 use borrow.Author.Needs.{needs}
 use mathlib.Core.Path.{_≡_, refl, sym, ap, subst, _∙_}
 use denote.Ref.{now}
-use Rattle.update_free_path.specs.Updates.{Ended}
+use Rattle.update_free_path.specs.Updates.{RoundsEnded}
 use Rattle.update_free_path.specs.declared.rounds.Between.{Between}
 use Rattle.update_free_path.specs.declared.rounds.Ran.{Ran}
 use Rattle.update_free_path.proofs.RoundsLaws.{path-within, path-ests, strays-low, due-turn, kept-goes, next-accepted, next-top, going-start, going-next, ended-stopped, ended-closed}
@@ -121,7 +121,7 @@ returns c =
     let x = c .before .before .before .before .before .before .before .before .before .before .before .before .round in
     let d = due-turn (l .w) (a .limit) (sym (c .before .before .before .before .before .before .before .before .before .before .before .before .before .before .before .before .before .before .before .goes-on .ensures) ∙ c .before .before .before .before .before .before .before .before .before .before .before .before .before .before .before .before .before .before .if1 .taken) in
     let s = c .before .strays-of in
-    subst (λ (r : Ran). Ended (now (a .occ)) (now (a .known)) (a .g) (a .limit) (now (a .img)) (now (a .dt)) (now (a .dn)) (a .start) (x .last .0) (x .last .1 .1 .1 .1 .1 .1 .1 .1 .0) (x .last .1 .1 .1 .1 .1 .1 .1 .1 .1 .0) r) (sym (c .stopped .ensures))
+    subst (λ (r : Ran). RoundsEnded (now (a .occ)) (now (a .known)) (a .g) (a .limit) (now (a .img)) (now (a .dt)) (now (a .dn)) (a .start) (x .last .0) (x .last .1 .1 .1 .1 .1 .1 .1 .1 .0) (x .last .1 .1 .1 .1 .1 .1 .1 .1 .1 .0) r) (sym (c .stopped .ensures))
     (ended-stopped (now (a .occ)) (l .img) (l .col) (l .on) (l .dt) (l .dn) (now (a .known)) (a .g) (l .w) (l .inv .1) (x .last .0) (x .last .1 .1 .1 .1 .1 .1 .1 .1 .0) (x .last .1 .1 .1 .1 .1 .1 .1 .1 .1 .0) (x .result) (x .ensures .0) (a .limit) (now (a .img)) (now (a .dt)) (now (a .dn)) (a .start) (l .inv .2) (d .0) (d .1)
     (sym (c .before .before .before .before .is-last .ensures) ∙ c .before .before .before .if2 .taken) (x .ensures .2) (x .ensures .1) (s .result) (s .ensures))
 
@@ -215,7 +215,7 @@ returns-2 : tie.Need-returns-2 Inv-loop μ-loop
 returns-2 c =
     let a = c .before .before .before .before .before .before .before .before .before .before .before .args in
     let l = c .before .before .before .loop in
-    subst (λ (r : Ran). Ended (now (a .occ)) (now (a .known)) (a .g) (a .limit) (now (a .img)) (now (a .dt)) (now (a .dn)) (a .start) (l .img) (l .dt) (l .dn) r) (sym (c .closed .ensures))
+    subst (λ (r : Ran). RoundsEnded (now (a .occ)) (now (a .known)) (a .g) (a .limit) (now (a .img)) (now (a .dt)) (now (a .dn)) (a .start) (l .img) (l .dt) (l .dn) r) (sym (c .closed .ensures))
     (ended-closed (now (a .occ)) (now (a .known)) (a .g) (a .limit) (now (a .img)) (now (a .dt)) (now (a .dn)) (a .start) (l .img) (l .dt) (l .dn) (l .w) (l .inv .2) (l .inv .1 .faultless) (sym (c .before .before .goes-on .ensures) ∙ c .before .if1 .left))
 
 pub rounds-spec : {M : Type 1} → statement M

@@ -8,7 +8,7 @@ use borrow.Author.Needs.{needs}
 use Rattle.yard_check.specs.Yard.{slotCount}
 use Rattle.yard_check.specs.Check.{rowSize, putRow, slotRow, slotImage, yardAfter, reportAfter}
 use Rattle.yard_check.specs.Checks.{argsOf, rowOf, talliedOf, tallyAfter, NextTurn, Visits, SlotVisited}
-use Rattle.yard_check.specs.declared.check.Tally.{Tally}
+use Rattle.yard_check.specs.declared.check.Counts.{Counts}
 use Rattle.yard_check.proofs.ReportLaws.{report-length}
 use Rattle.yard_check.proofs.TurnLaws.{next-slot, few-slots, turn-start, turn-length, turn-visits, turn-yard, turn-report, turn-tally}
 use Rattle.yard_check.proofs.check.visits.Statement.{statement}
@@ -73,7 +73,7 @@ tallied-requires c κs =
     let A = argsOf (now (a .blocking)) (a .a) in
     let n = c .before .before .before .before .before .before .before .before .before .loop .n in
     let h : n < 63 = omega (arith, c .before .before .before .before .before .before .before .before .before .before .slot-count .ensures, few-slots (now (a .yard)) (now (a .occ)) A (now (a .report)) (c .before .before .before .before .before .before .before .before .before .before .before .before .before .before .before .before .pre), c .before .before .before .before .before .before .before .before .loop-test .taken) in
-    subst (λ (x : Tally). NextTurn x (n + 1)) (sym (c .before .before .before .before .before .before .before .before .before .loop .inv .3)) (next-slot (slotRow (now (a .yard)) (now (a .occ)) A) (A .begin) n h)
+    subst (λ (x : Counts). NextTurn x (n + 1)) (sym (c .before .before .before .before .before .before .before .before .before .loop .inv .3)) (next-slot (slotRow (now (a .yard)) (now (a .occ)) A) (A .begin) n h)
 
 add-n : tie.Need-add-n Inv-loop μ-loop
 add-n c =
@@ -96,7 +96,7 @@ loop-again c =
       omega (arith, c .before .before .before .before .before .before .before .before .before .loop-test .taken),
       turn-yard (now (a .yard)) (now (a .occ)) A (now (a .report)) (c .before .before .before .before .before .before .before .before .before .before .before .before .before .before .before .before .before .pre) n h r left s,
       c .before .before .before .put-row .ensures ∙ (ap (λ (x : List ℕ). putRow (rowOf r) (rowSize * n) x) (i .2) ∙ turn-report (now (a .yard)) (now (a .occ)) A (now (a .report)) (c .before .before .before .before .before .before .before .before .before .before .before .before .before .before .before .before .before .pre) n h r left s),
-      c .tallied .ensures ∙ (ap (λ (x : Tally). talliedOf x (rowOf r) (n + 1)) (i .3) ∙ turn-tally (now (a .yard)) (now (a .occ)) A (now (a .report)) (c .before .before .before .before .before .before .before .before .before .before .before .before .before .before .before .before .before .pre) n h r left s),
+      c .tallied .ensures ∙ (ap (λ (x : Counts). talliedOf x (rowOf r) (n + 1)) (i .3) ∙ turn-tally (now (a .yard)) (now (a .occ)) A (now (a .report)) (c .before .before .before .before .before .before .before .before .before .before .before .before .before .before .before .before .before .pre) n h r left s),
     )
 
 same-length : tie.Need-same-length Inv-loop μ-loop

@@ -19,7 +19,7 @@ use Rattle.free_path.specs.LinkOptType.{contains}
 use Rattle.update_definition.specs.State.{Ended, atEnd, blockedAt, again}
 use Rattle.update_definition.specs.Update.{Given, Status, Success, Blocked, Faulty, Refused, Answer, Updated, Between, between, refused, straysOf, faultsOf, finish, afterRound, due, roundsFrom, roundOf, givenOf, startOf, updateFrom, updateFreePath}
 use Rattle.update_definition.specs.Accepted.{Accepted}
-use Rattle.update_laws.specs.Ended.{EndsGood}
+use Rattle.update_laws.specs.AfterRound.{EndsGood}
 use Rattle.update_laws.proofs.Answers.{ok-same, bind-ok, need-ok}
 use Rattle.update_laws.proofs.Rounds.{round-good}
 use Rattle.update_laws.proofs.Updates.{TopGood, top-hands, top-start}
