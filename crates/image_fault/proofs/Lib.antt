@@ -8,3 +8,4 @@ pub mod Ascent
 pub mod MatchLaws
 pub mod RouteLaws
 pub mod PassLaws
+pub mod NumberLaws

@@ -54,3 +54,4 @@ pub mod Sidings
 pub mod PanicSites
 pub mod FreeAbove
 pub mod RefusalLaws
+pub mod RefusalNumbers

@@ -5,7 +5,8 @@ use denote.Ref.{now}
 use lib.ListN.{length}
 use Rattle.link_rules.specs.declared.refusal.Refusal.{Refusal}
 use Rattle.yard_check.specs.Checks.{staysRow}
-use Rattle.yard_check.proofs.RowLaws.{image-number, stays-refused}
+use Rattle.image_fault.proofs.NumberLaws.{image-number}
+use Rattle.yard_check.proofs.RowLaws.{stays-refused}
 use borrow.Author.Needs.{needs}
 use Rattle.yard_check.proofs.check.stays_row.Statement.{statement}
 use Rattle.yard_check.proofs.check.stays_row.Tie as tie
