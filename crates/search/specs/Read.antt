@@ -25,6 +25,7 @@ use Rattle.search.specs.declared.Place.{Place}
 use Rattle.search.specs.declared.look.Here.{Here}
 use Rattle.search.specs.declared.look.Stored.{Stored}
 use Rattle.search.specs.declared.look.Placed.{Placed}
+use Rattle.search.specs.declared.look.Chosen.{Chosen}
 
 -- ---- lists
 
@@ -182,3 +183,40 @@ settle divs join s = before divs (s .«div_idx_split») >>= λ b. need (ltb (b .
 -- answers of a walk, and then settled
 abbrev pub settled : List DivergeNode → ℕ → ℕ → State.Search → Res State.Search
 settled divs join code s = answer code s >>= λ t. settle divs join t
+
+-- ---- what the functions of a turn up to its move answer; what they bind, they do not read
+
+-- the stored trains from div on block the next est: blockStored
+abbrev pub BlocksStored : (dt : List ℕ) (r : Round) (h : Here) (p : Place) (div : ℕ) (a : Arrays) (x : Placed) (b : Arrays) → Type 0
+BlocksStored dt r h p div a x b =
+    (t : Train) (occ img dn : List ℕ) (met : Bool)
+    → Steps (r .«est_count») p a x b (λ s. Look.blockStored (roundOf t occ img dt dn r) (hereOf h) s (record { «div_idx_split» = div; met = met }))
+
+-- f is takeStored or storedTrains, on the flags of the path
+abbrev pub StepsStored : (f : State.Round → Look.Here → State.Search → Res State.Search) (dt dn on : List ℕ) (r : Round) (h : Here) (p : Place) (a : Arrays) (x : Placed) (b : Arrays) → Type 0
+StepsStored f dt dn on r h p a x b =
+    (t : Train) (occ img : List ℕ) → Marked on (pathOf img (r .«path_count»))
+    → Steps (r .«est_count») p a x b (λ s. f (roundOf t occ img dt dn r) (hereOf h) s)
+
+-- y is x, and refused where the assert after the stored trains does not hold
+abbrev pub Settles : (dn : List ℕ) (m join : ℕ) (x y : Placed) → Type 0
+Settles dn m join x y =
+    (y .place ≡ x .place)
+    × ((t : List ℕ) (new : List DispNode) (divs : List DivergeNode) (pool : List TrainIdx) (views : List TrainIdxsView)
+    → answer (y .code) (searchOf (x .place) new divs pool views) ≡ settled (divsOf m t dn) join (x .code) (searchOf (x .place) new divs pool views))
+
+-- x is meetsTrain of a search with that disp_node_idx_free
+abbrev pub MeetsAt : (occ : List ℕ) (n : ℕ) (h : Here) (free : ℕ) (ends : List ℕ) (x : Bool) → Type 0
+MeetsAt occ n h free ends x =
+    (p : Place) (new : List DispNode) (divs : List DivergeNode) (pool : List TrainIdx) (b : List ℕ) → p .«disp_node_idx_free» ≡ free
+    → x ≡ Look.meetsTrain occ (hereOf h) (searchOf p new divs pool (viewsOf n b ends))
+
+-- occupiedNext
+abbrev pub StepsNext : (occ : List ℕ) (r : Round) (h : Here) (p : Place) (a : Arrays) (x : Placed) (b : Arrays) → Type 0
+StepsNext occ r h p a x b = (t : Train) (img dt dn : List ℕ) → Steps (r .«est_count») p a x b (λ s. Look.occupiedNext (roundOf t occ img dt dn r) (hereOf h) s)
+
+-- x is moveOf, on the flags of the path
+abbrev pub Chooses : (img on : List ℕ) (r : Round) (h : Here) (p : Place) (ends : List ℕ) (x : Chosen) → Type 0
+Chooses img on r h p ends x =
+    (t : Train) (occ dt dn b : List ℕ) (new : List DispNode) (divs : List DivergeNode) (pool : List TrainIdx) → Marked on (pathOf img (r .«path_count»))
+    → answer (x .code) (x .go) ≡ Look.moveOf (roundOf t occ img dt dn r) (hereOf h) (searchOf p new divs pool (viewsOf (r .«est_count») b ends))

@@ -6,7 +6,8 @@ use lib.Dec.{ltb}
 use mathlib.Core.List.{List, [], _∷_, _++_}
 use lib.ListN.{length, take}
 use Rattle.disp_structs.specs.Train.{Train}
-use Rattle.image.specs.Image.{estCount, estPlace, nodePlace}
+use Rattle.disp_structs.specs.Listed.{listed}
+use Rattle.image.specs.Image.{estCount, estPlace, nodeAt, nodePlace}
 use Rattle.free_path.specs.Base.{Res, ok, _>>=_}
 use Rattle.update_definition.specs.State as State
 use Rattle.update_definition.specs.Look as Look
@@ -15,12 +16,13 @@ use Rattle.update_definition.specs.Accepted.{Accepted}
 use Rattle.update_definition.specs.declared.Move.{Move}
 use Rattle.update_laws.specs.Good.{Good}
 use Rattle.update_laws.specs.FitsGood.{RoundFits, SearchFits}
-use Rattle.search.specs.Read.{divsOf, pathOf, roundOf, searchIn, Arrays, Lent, Marked}
+use Rattle.search.specs.Read.{pathOf, roundOf, hereOf, Arrays, Lent, Marked}
 use Rattle.search.specs.declared.Round.{Round}
 use Rattle.search.specs.declared.Place.{Place}
-use Rattle.search.specs.Effects.{Sized, effectOf, leaves, onward, turnOf, Looked}
+use Rattle.search.specs.Effects.{Sized, effectOf, leaves, onward, turnOf, Looked, searchAt}
 use Rattle.search.specs.declared.Effect.{Effect}
 use Rattle.search.specs.declared.run.Next.{Next}
+use Rattle.search.specs.declared.run.Searched.{Searched}
 
 -- the end of the round that a turn gives, and where it goes on what f gives
 abbrev pub endOf : (State.Search → Res State.Ended) → Res State.Turn → Res State.Ended
@@ -77,7 +79,7 @@ pub record Ready (img occ on dt dn : List ℕ) (r : Round) (start : Place) (fres
   pub none : start .«new_count» ≡ 0
   pub pooled : start .«pool_count» ≤ 2048
   pub train : Train
-  pub begins : SearchBegins (length occ) (roundOf train occ img dt dn r) (searchIn (r .«est_count») start [] (divsOf (start .«div_count») nt nn) a)
+  pub begins : SearchBegins (length occ) (roundOf train occ img dt dn r) (searchAt r start [] a nt nn)
 
 -- the search s as it is at the beginning of a turn, top being the largest train, with n of n₀ turns left, when it began as s₀
 pub record Going (top links : ℕ) (r : State.Round) (n₀ : ℕ) (s₀ : State.Search) (n : ℕ) (s : State.Search) : Type 0 where
@@ -97,3 +99,10 @@ pub record Ran (links : ℕ) (r : State.Round) (s : State.Search) (go : Move) (e
   pub is : searchFrom (turnLimit (r .train)) r s ≡ endOf after (turnOf go e r h u)
   pub ended : leaves go ≡ false → onward e ≡ false
   pub left : leaves go ≡ true → Leaves links r h u
+
+-- x is the search from start of each train of which it begins, its new path being that of the buffer fresh
+abbrev pub Searches : (occ img dt dn : List ℕ) (r : Round) (start : Place) (a : Arrays) (nt nn : List ℕ) (x : Searched) (fresh : List ℕ) (b : Arrays) (nt₁ nn₁ : List ℕ) → Type 0
+Searches occ img dt dn r start a nt nn x fresh b nt₁ nn₁ =
+    (t : Train) → SearchBegins (length occ) (roundOf t occ img dt dn r) (searchAt r start [] a nt nn)
+    → Ran (length occ) (roundOf t occ img dt dn r) (searchAt r start [] a nt nn) (x .go) (x .effect) (hereOf (x .here))
+    (searchAt r (x .place) (listed (x .«new_count») (nodeAt fresh)) b nt₁ nn₁)

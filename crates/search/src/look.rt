@@ -16,21 +16,16 @@ ghost use mathlib.Core.Path.{_≡_};
 ghost use mathlib.Core.List.{List};
 ghost use Prim.Native.Nat.{ℕ, _+_, _<_, _≤_, _^_};
 ghost use mathlib.Core.List.{_++_};
-ghost use mathlib.Core.Bool.{Bool, _||_};
+ghost use mathlib.Core.Bool.{_||_};
 ghost use Rattle.link_rules.specs.LinkIdx.{sameTrain};
-ghost use Rattle.link_rules.specs.declared.link_idx.TrainIdx.{TrainIdx};
 ghost use Rattle.disp_structs.specs.Values.{sameEst, noEst};
 ghost use Rattle.update_definition.specs.State.{blocked};
 ghost use lib.ListN.{length, take};
-ghost use Rattle.disp_structs.specs.Train.{Train};
-ghost use Rattle.disp_structs.specs.declared.DispNode.{DispNode};
-ghost use Rattle.disp_structs.specs.declared.DivergeNode.{DivergeNode};
-ghost use Rattle.disp_structs.specs.declared.TrainIdxsView.{TrainIdxsView};
 ghost use Rattle.image.specs.Image.{estPlace, zeroEst};
 ghost use Rattle.free_path.specs.Base.{need};
 ghost use Rattle.free_path.specs.Columns.{answer, tr, trains};
-ghost use Rattle.update_definition.specs.Look.{blockBy, storedFrom, blockStored, takeStored, storedTrains, meetsTrain, occupiedNext, blockedMove, moveOf};
-ghost use Rattle.search.specs.Read.{divsOf, viewsOf, pathOf, trainsFrom, roundOf, hereOf, storedOf, searchOf, rising, nodeBefore, settled, Looks, Steps, Small, Lent, arrays, onFlag, Marked};
+ghost use Rattle.update_definition.specs.Look.{blockBy, storedFrom, takeStored, storedTrains, blockedMove};
+ghost use Rattle.search.specs.Read.{divsOf, viewsOf, trainsFrom, storedOf, rising, nodeBefore, Looks, Steps, Small, Lent, arrays, onFlag, BlocksStored, StepsStored, Settles, MeetsAt, StepsNext, Chooses};
 
 // A refusal's number, or 0; idx_join_new, disp_node_curr, est_curr, and the est record of its idx_next.
 pub struct Here {
@@ -218,7 +213,7 @@ fn block_stored(
     ends: &mut [u32],
 ) -> Placed
     requires { ⌜ Small p × Lent (r .«est_count») (arrays (now pool) (now begins) (now ends)) × (div ≤ p .«div_idx_split») × (p .«div_idx_split» ≤ r .«diverge_count») ⌝ }
-    ensures { λ x. ⌜ ((t : Train) (occ img dn : List ℕ) (met : Bool) → Steps (r .«est_count») p (arrays (now (pool .entry)) (now (begins .entry)) (now (ends .entry))) x (arrays (now (pool .exit)) (now (begins .exit)) (now (ends .exit))) (λ s. blockStored (roundOf t occ img (now (dt .entry)) dn r) (hereOf h) s (record { «div_idx_split» = div; met = met }))) ⌝ }
+    ensures { λ x. ⌜ BlocksStored (now (dt .entry)) r h p div (arrays (now (pool .entry)) (now (begins .entry)) (now (ends .entry))) x (arrays (now (pool .exit)) (now (begins .exit)) (now (ends .exit))) ⌝ }
 {
     let est = h.est_curr;
     if !views::is_blocked(ends, r.est_count, est.idx_next_alt) {
@@ -242,7 +237,8 @@ fn take_stored(
     ends: &mut [u32],
 ) -> Placed
     requires { ⌜ Small p × Lent (r .«est_count») (arrays (now pool) (now begins) (now ends)) ⌝ }
-    ensures { λ x. ⌜ ((t : Train) (occ img : List ℕ) → Marked (now (on .entry)) (pathOf img (r .«path_count»)) → Steps (r .«est_count») p (arrays (now (pool .entry)) (now (begins .entry)) (now (ends .entry))) x (arrays (now (pool .exit)) (now (begins .exit)) (now (ends .exit))) (λ s. takeStored (roundOf t occ img (now (dt .entry)) (now (dn .entry)) r) (hereOf h) s)) ⌝ }
+    ensures { λ x. ⌜ StepsStored takeStored (now (dt .entry)) (now (dn .entry)) (now (on .entry)) r h p (arrays (now (pool .entry)) (now (begins .entry)) (now (ends .entry))) x
+        (arrays (now (pool .exit)) (now (begins .exit)) (now (ends .exit))) ⌝ }
 {
     let est = h.est_curr;
     if est.idx_next_alt.0 == 0 {
@@ -297,7 +293,7 @@ fn node_before(dn: &[u32], m: usize, i: usize) -> Index
 
 // The diverge node before the place that is left stands before the join.
 fn settle(dn: &[u32], m: usize, join: usize, x: Placed) -> Placed
-    ensures { λ y. ⌜ (y .place ≡ x .place) × ((t : List ℕ) (new : List DispNode) (divs : List DivergeNode) (pool : List TrainIdx) (views : List TrainIdxsView) → answer (y .code) (searchOf (x .place) new divs pool views) ≡ settled (divsOf m t (now (dn .entry))) join (x .code) (searchOf (x .place) new divs pool views)) ⌝ }
+    ensures { λ y. ⌜ Settles (now (dn .entry)) m join x y ⌝ }
 {
     if x.code != 0 {
         return x;
@@ -328,7 +324,8 @@ pub(crate) fn stored_trains(
     ends: &mut [u32],
 ) -> Placed
     requires { ⌜ Small p × Lent (r .«est_count») (arrays (now pool) (now begins) (now ends)) ⌝ }
-    ensures { λ x. ⌜ ((t : Train) (occ img : List ℕ) → Marked (now (on .entry)) (pathOf img (r .«path_count»)) → Steps (r .«est_count») p (arrays (now (pool .entry)) (now (begins .entry)) (now (ends .entry))) x (arrays (now (pool .exit)) (now (begins .exit)) (now (ends .exit))) (λ s. storedTrains (roundOf t occ img (now (dt .entry)) (now (dn .entry)) r) (hereOf h) s)) ⌝ }
+    ensures { λ x. ⌜ StepsStored storedTrains (now (dt .entry)) (now (dn .entry)) (now (on .entry)) r h p (arrays (now (pool .entry)) (now (begins .entry)) (now (ends .entry))) x
+        (arrays (now (pool .exit)) (now (begins .exit)) (now (ends .exit))) ⌝ }
 {
     let m = r.diverge_count;
     let join = h.idx_join_new;
@@ -349,7 +346,7 @@ pub(crate) fn stored_trains(
 // ---- the next est is occupied
 
 fn meets_train(occ: &[u32], n: usize, h: Here, free: usize, ends: &[u32]) -> bool
-    ensures { λ x. ⌜ ((p : Place) (new : List DispNode) (divs : List DivergeNode) (pool : List TrainIdx) (b : List ℕ) → p .«disp_node_idx_free» ≡ free → x ≡ meetsTrain (now (occ .entry)) (hereOf h) (searchOf p new divs pool (viewsOf n b (now (ends .entry))))) ⌝ }
+    ensures { λ x. ⌜ MeetsAt (now (occ .entry)) n h free (now (ends .entry)) x ⌝ }
 {
     let est = h.est_curr;
     if views::is_blocked(ends, n, est.idx_next) {
@@ -377,7 +374,7 @@ pub(crate) fn occupied_next(
     ends: &mut [u32],
 ) -> Placed
     requires { ⌜ Small p × Lent (r .«est_count») (arrays (now pool) (now begins) (now ends)) ⌝ }
-    ensures { λ x. ⌜ ((t : Train) (img dt dn : List ℕ) → Steps (r .«est_count») p (arrays (now (pool .entry)) (now (begins .entry)) (now (ends .entry))) x (arrays (now (pool .exit)) (now (begins .exit)) (now (ends .exit))) (λ s. occupiedNext (roundOf t (now (occ .entry)) img dt dn r) (hereOf h) s)) ⌝ }
+    ensures { λ x. ⌜ StepsNext (now (occ .entry)) r h p (arrays (now (pool .entry)) (now (begins .entry)) (now (ends .entry))) x (arrays (now (pool .exit)) (now (begins .exit)) (now (ends .exit))) ⌝ }
 {
     let n = r.est_count;
     if !meets_train(occ, n, h, p.disp_node_idx_free, ends) {
@@ -414,7 +411,7 @@ fn blocked_move(on: &[u8], n: usize, alt: EstIdx, ends: &[u32]) -> Move
 
 pub(crate) fn move_of(img: &[u8], on: &[u8], r: Round, h: Here, p: Place, ends: &[u32]) -> Chosen
     requires { ⌜ Small p ⌝ }
-    ensures { λ x. ⌜ ((t : Train) (occ dt dn b : List ℕ) (new : List DispNode) (divs : List DivergeNode) (pool : List TrainIdx) → Marked (now (on .entry)) (pathOf (now (img .entry)) (r .«path_count»)) → answer (x .code) (x .go) ≡ moveOf (roundOf t occ (now (img .entry)) dt dn r) (hereOf h) (searchOf p new divs pool (viewsOf (r .«est_count») b (now (ends .entry))))) ⌝ }
+    ensures { λ x. ⌜ Chooses (now (img .entry)) (now (on .entry)) r h p (now (ends .entry)) x ⌝ }
 {
     let est = h.est_curr;
     if views::is_blocked(ends, r.est_count, est.idx_next) {

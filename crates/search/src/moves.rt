@@ -22,21 +22,17 @@ ghost use mathlib.Core.Path.{_≡_};
 ghost use mathlib.Core.List.{List, _++_};
 ghost use Prim.Native.Nat.{ℕ, _+_, _-_, _<_, _≤_};
 ghost use lib.ListN.{length, take};
-ghost use Rattle.link_rules.specs.declared.link_idx.TrainIdx.{TrainIdx};
 ghost use Rattle.disp_structs.specs.Train.{Train};
 ghost use Rattle.disp_structs.specs.Values.{never};
-ghost use Rattle.disp_structs.specs.declared.DispNode.{DispNode};
-ghost use Rattle.disp_structs.specs.declared.DivergeNode.{DivergeNode};
-ghost use Rattle.disp_structs.specs.declared.TrainIdxsView.{TrainIdxsView};
-ghost use Rattle.free_path.specs.Base.{ok, walkFrom};
+ghost use Rattle.free_path.specs.Base.{walkFrom};
 ghost use Rattle.free_path.specs.LinkOptType.{least};
 ghost use Rattle.free_path.specs.Columns.{answer, trains};
 ghost use Rattle.update_definition.specs.State.{diverging};
 ghost use Rattle.update_definition.specs.State as State;
 ghost use Rattle.update_definition.specs.Moves as Moves;
-ghost use Rattle.update_definition.specs.Moves.{notFake, alternateFree, alternateNode, savedNode, pushSaved, blockEmpty};
-ghost use Rattle.search.specs.Read.{divsOf, trainsFrom, viewsOf, pathOf, roundOf, hereOf, searchOf, searchIn, arrays, Small};
-ghost use Rattle.search.specs.Effects.{Sized, Goes, effectOf, pushTurn, deposit};
+ghost use Rattle.update_definition.specs.Moves.{notFake, alternateFree, alternateNode, savedNode, pushSaved};
+ghost use Rattle.search.specs.Read.{divsOf, trainsFrom, pathOf, roundOf, arrays, Small};
+ghost use Rattle.search.specs.Effects.{Sized, effectOf, pushTurn, deposit, MoveIs, Keeping, BlocksEmpty, Alternates};
 
 // A node goes to the new path, its offset in reach.
 fn pushed(n: DispNode, p: Place) -> Moved
@@ -73,7 +69,7 @@ fn forever() -> Seconds
 
 pub(crate) fn advance(r: Round, h: Here, p: Place) -> Moved
     requires { ⌜ Small p × (h .«idx_join_new» ≤ p .«idx_split» + p .«new_count») ⌝ }
-    ensures { λ x. ⌜ ((t : Train) (occ img dt dn : List ℕ) (new : List DispNode) (divs : List DivergeNode) (pool : List TrainIdx) (views : List TrainIdxsView) → effectOf (roundOf t occ img dt dn r) (searchOf (x .place) new divs pool views) (x .effect) ≡ Moves.advance (hereOf h) (searchOf p new divs pool views)) × Goes r p (x .place) × (x .place .«div_count» ≡ p .«div_count») × (x .place .«pool_count» ≡ p .«pool_count») ⌝ }
+    ensures { λ x. ⌜ Keeping r p x ((t : Train) (occ img dt dn : List ℕ) → MoveIs (λ _. Moves.advance) (roundOf t occ img dt dn r) h p x) ⌝ }
 {
     let est = h.est_curr;
     let ahead = h.est_next;
@@ -115,7 +111,7 @@ pub(crate) fn block_empty(
     ends: &mut [u32],
 ) -> Moved
     requires { ⌜ Small p × Sized r × (h .«idx_join_new» ≤ p .«idx_split» + p .«new_count») × (r .«est_count» ≤ length (now begins)) × (r .«est_count» ≤ length (now ends)) ⌝ }
-    ensures { λ x. ⌜ ((t : Train) (occ img dt dn : List ℕ) (new : List DispNode) (divs : List DivergeNode) (pool : List TrainIdx) → effectOf (roundOf t occ img dt dn r) (searchOf (x .place) new divs pool (viewsOf (r .«est_count») (now (begins .exit)) (now (ends .exit)))) (x .effect) ≡ ok (blockEmpty (roundOf t occ img dt dn r) (hereOf h) (searchOf p new divs pool (viewsOf (r .«est_count») (now (begins .entry)) (now (ends .entry)))))) × Goes r p (x .place) × (x .place .«div_count» ≡ p .«div_count») × (x .place .«pool_count» ≡ p .«pool_count») ⌝ }
+    ensures { λ x. ⌜ Keeping r p x (BlocksEmpty r h p (now (begins .entry)) (now (ends .entry)) x (now (begins .exit)) (now (ends .exit))) ⌝ }
 {
     let est = h.est_curr;
     let v = TrainIdxsView {
@@ -166,7 +162,7 @@ fn saved_node(n: DispNode, e: EstIdx) -> DispNode
 
 pub(crate) fn push_saved(img: &[u8], r: Round, h: Here, p: Place) -> Moved
     requires { ⌜ Small p × Sized r × (h .«idx_join_new» ≤ p .«idx_split» + p .«new_count») ⌝ }
-    ensures { λ x. ⌜ ((t : Train) (occ dt dn : List ℕ) (new : List DispNode) (divs : List DivergeNode) (pool : List TrainIdx) (views : List TrainIdxsView) → effectOf (roundOf t occ (now (img .entry)) dt dn r) (searchOf (x .place) new divs pool views) (x .effect) ≡ pushSaved (roundOf t occ (now (img .entry)) dt dn r) (hereOf h) (searchOf p new divs pool views)) × Goes r p (x .place) × (x .place .«div_count» ≡ p .«div_count») × (x .place .«pool_count» ≡ p .«pool_count») ⌝ }
+    ensures { λ x. ⌜ Keeping r p x ((t : Train) (occ dt dn : List ℕ) → MoveIs pushSaved (roundOf t occ (now (img .entry)) dt dn r) h p x) ⌝ }
 {
     if r.path_count <= p.idx_save {
         return Moved {
@@ -300,7 +296,7 @@ pub(crate) fn alternate(
     nn: &mut [u32],
 ) -> Moved
     requires { ⌜ Small p × Sized r × (h .«idx_join_new» ≤ p .«idx_split» + p .«new_count») × (length (now pool) ≡ 2048) × (r .«diverge_room» ≤ length (now nt)) × (r .«diverge_room» ≤ length (now nn)) ⌝ }
-    ensures { λ x. ⌜ ((t : Train) (occ img dt dn : List ℕ) (new : List DispNode) → effectOf (roundOf t occ img dt dn r) (searchIn (r .«est_count») (x .place) new (divsOf (x .place .«div_count») (now (nt .exit)) (now (nn .exit))) (arrays (now (pool .entry)) (now (begins .entry)) (now (ends .entry)))) (x .effect) ≡ Moves.alternate (roundOf t occ img dt dn r) (hereOf h) (searchIn (r .«est_count») p new (divsOf (p .«div_count») (now (nt .entry)) (now (nn .entry))) (arrays (now (pool .entry)) (now (begins .entry)) (now (ends .entry))))) × Goes r p (x .place) ⌝ }
+    ensures { λ x. ⌜ Alternates r h p (arrays (now (pool .entry)) (now (begins .entry)) (now (ends .entry))) (now (nt .entry)) (now (nn .entry)) x (now (nt .exit)) (now (nn .exit)) ⌝ }
 {
     let est = h.est_curr;
     let v = views::view_at(begins, ends, r.est_count, est.idx_next);

@@ -18,18 +18,13 @@ ghost use mathlib.Core.Bool.{cond};
 ghost use mathlib.Core.List.{List};
 ghost use lib.Dec.{ltb};
 ghost use Prim.Native.Nat.{ℕ, _+_, _≤_};
-ghost use lib.ListN.{length, take};
-ghost use Rattle.link_rules.specs.declared.link_idx.TrainIdx.{TrainIdx};
+ghost use lib.ListN.{length};
 ghost use Rattle.disp_structs.specs.Train.{Train};
-ghost use Rattle.disp_structs.specs.declared.DispNode.{DispNode};
-ghost use Rattle.disp_structs.specs.declared.DivergeNode.{DivergeNode};
-ghost use Rattle.disp_structs.specs.declared.TrainIdxsView.{TrainIdxsView};
 ghost use Rattle.free_path.specs.Base.{walkBack};
-ghost use Rattle.free_path.specs.Columns.{answer, trains};
-ghost use Rattle.update_definition.specs.Moves as Moves;
-ghost use Rattle.update_definition.specs.Moves.{notFake, shiftSave, rewindView, rewindDivs, giveUp, oneBack};
-ghost use Rattle.search.specs.Read.{divsOf, viewsOf, pathOf, roundOf, hereOf, searchOf, searchIn, arrays, Small, Lent};
-ghost use Rattle.search.specs.Effects.{Sized, Goes, effectOf, rewindSave};
+ghost use Rattle.free_path.specs.Columns.{answer};
+ghost use Rattle.update_definition.specs.Moves.{notFake, shiftSave, rewindDivs, oneBack};
+ghost use Rattle.search.specs.Read.{divsOf, viewsOf, pathOf, roundOf, arrays, Small, Lent};
+ghost use Rattle.search.specs.Effects.{Sized, SavesAt, RewindsView, GivesUp, Keeping, CountedMoveIs, Rewinds};
 
 // ---- the save node
 
@@ -79,7 +74,7 @@ fn shift_save(img: &[u8], n: usize, fixed: usize, event: LinkEvent, save: usize)
 // idx_save after the shift, if there is one.
 fn save_of(img: &[u8], r: Round, h: Here, p: Place) -> Index
     requires { ⌜ Small p × Sized r ⌝ }
-    ensures { λ x. ⌜ ((t : Train) (occ dt dn : List ℕ) (new : List DispNode) (divs : List DivergeNode) (pool : List TrainIdx) (views : List TrainIdxsView) → answer (x .code) (x .index) ≡ rewindSave (roundOf t occ (now (img .entry)) dt dn r) (hereOf h) (searchOf p new divs pool views)) × (x .index ≤ 512) ⌝ }
+    ensures { λ x. ⌜ SavesAt (now (img .entry)) r h p x ⌝ }
 {
     let cur = h.disp_node_curr;
     let event = cur.link_event;
@@ -110,7 +105,7 @@ fn rewind_view(
     len: usize,
 ) -> Union
     requires { ⌜ (length (now pool) ≡ 2048) × (len ≤ 2048) ⌝ }
-    ensures { λ u. ⌜ (answer (u .code) (record { pool = take (u .len) (trains (now (pool .exit))); made = u .view }) ≡ rewindView est (viewsOf n (now (begins .entry)) (now (ends .entry))) (take len (trains (now (pool .entry))))) × (u .len ≤ 2048) ⌝ }
+    ensures { λ u. ⌜ RewindsView est (viewsOf n (now (begins .entry)) (now (ends .entry))) (now (pool .entry)) len u (now (pool .exit)) ⌝ }
 {
     let v = views::view_at(begins, ends, n, est.idx_next);
     if est.idx_next_alt.0 == 0 {
@@ -153,7 +148,7 @@ fn left_at(d: usize, join: usize, k: usize) -> Index
 // ---- one dispatch node back
 
 fn give_up(h: Here, p: Place) -> Moved
-    ensures { λ x. ⌜ (x .place ≡ p) × ((t : Train) (occ img dt dn : List ℕ) (r : Round) (new : List DispNode) (divs : List DivergeNode) (pool : List TrainIdx) (views : List TrainIdxsView) → length divs ≡ p .«div_count» → effectOf (roundOf t occ img dt dn r) (searchOf p new divs pool views) (x .effect) ≡ giveUp (roundOf t occ img dt dn r) (hereOf h) (searchOf p new divs pool views)) ⌝ }
+    ensures { λ x. ⌜ GivesUp h p x ⌝ }
 {
     if p.div_count != 1 {
         return Moved {
@@ -175,7 +170,7 @@ fn give_up(h: Here, p: Place) -> Moved
 
 fn one_back(r: Round, h: Here, p: Place) -> Moved
     requires { ⌜ Small p ⌝ }
-    ensures { λ x. ⌜ ((t : Train) (occ img dt dn : List ℕ) (new : List DispNode) (divs : List DivergeNode) (pool : List TrainIdx) (views : List TrainIdxsView) → length new ≡ p .«new_count» → length divs ≡ p .«div_count» → effectOf (roundOf t occ img dt dn r) (searchOf (x .place) new divs pool views) (x .effect) ≡ oneBack (roundOf t occ img dt dn r) (hereOf h) (searchOf p new divs pool views)) × Goes r p (x .place) × (x .place .«div_count» ≡ p .«div_count») × (x .place .«pool_count» ≡ p .«pool_count») ⌝ }
+    ensures { λ x. ⌜ Keeping r p x ((t : Train) (occ img dt dn : List ℕ) → CountedMoveIs oneBack (roundOf t occ img dt dn r) h p x) ⌝ }
 {
     if p.new_count != 0 {
         return Moved {
@@ -209,7 +204,7 @@ pub(crate) fn rewind(
     nn: &[u32],
 ) -> Moved
     requires { ⌜ Small p × Sized r × Lent (r .«est_count») (arrays (now pool) (now begins) (now ends)) × (h .«idx_join_new» ≤ p .«idx_split» + p .«new_count») ⌝ }
-    ensures { λ x. ⌜ ((t : Train) (occ dt dn nt : List ℕ) (new : List DispNode) → length new ≡ p .«new_count» → effectOf (roundOf t occ (now (img .entry)) dt dn r) (searchIn (r .«est_count») (x .place) new (divsOf (x .place .«div_count») nt (now (nn .entry))) (arrays (now (pool .exit)) (now (begins .exit)) (now (ends .exit)))) (x .effect) ≡ Moves.rewind (roundOf t occ (now (img .entry)) dt dn r) (hereOf h) (searchIn (r .«est_count») p new (divsOf (p .«div_count») nt (now (nn .entry))) (arrays (now (pool .entry)) (now (begins .entry)) (now (ends .entry))))) × Goes r p (x .place) ⌝ }
+    ensures { λ x. ⌜ Rewinds (now (img .entry)) r h p (arrays (now (pool .entry)) (now (begins .entry)) (now (ends .entry))) (now (nn .entry)) x (arrays (now (pool .exit)) (now (begins .exit)) (now (ends .exit))) ⌝ }
 {
     let save = save_of(img, r, h, p);
     if save.code != 0 {

@@ -12,20 +12,12 @@ use image::codec;
 use update_definition::Move;
 ghost use mathlib.Core.Path.{_≡_};
 ghost use mathlib.Core.Bool.{true, false, cond};
-ghost use mathlib.Core.List.{[], _∷_, _++_};
-ghost use Prim.Native.Nat.{ℕ, _+_, _-_, _≤_, _<_};
+ghost use Prim.Native.Nat.{_+_, _-_, _≤_, _<_};
 ghost use lib.Dec.{eqb, ltb};
-ghost use lib.ListN.{length, take};
-ghost use Rattle.disp_structs.specs.Listed.{listed};
-ghost use Rattle.disp_structs.specs.Train.{Train};
-ghost use Rattle.image.specs.Image.{estCount, nodePlace, nodeAt, wholeNode, putNode};
-ghost use Rattle.free_path.specs.Base.{ok};
-ghost use Rattle.update_definition.specs.State as State;
-ghost use Rattle.update_definition.specs.Look as Look;
-ghost use Rattle.search.specs.Read.{divsOf, roundOf, hereOf, searchIn, arrays};
-ghost use Rattle.search.specs.Effects.{leaves, turnOf, onward};
+ghost use Rattle.image.specs.Image.{estCount, nodePlace, wholeNode, putNode};
+ghost use Rattle.search.specs.Read.{arrays};
 ghost use Rattle.splice.specs.Read.{Kept};
-ghost use Rattle.search.specs.Runs.{slotOf, Follows, FollowsTurn, Ready, SearchBegins, Ran, counted};
+ghost use Rattle.search.specs.Runs.{slotOf, Follows, FollowsTurn, Ready, counted, Searches};
 
 // How the search ended: the move that is left to do or its effect, where it stood and stands, and how many nodes the new path has.
 pub struct Searched {
@@ -174,7 +166,11 @@ pub fn run(
     nn: &mut [u32],
 ) -> Searched
     requires { ⌜ Ready (now img) (now occ) (now on) (now dt) (now dn) r start (now fresh) (arrays (now pool) (now begins) (now ends)) (now nt) (now nn) ⌝ }
-    ensures { λ x. ⌜ ((t : Train) → SearchBegins (length (now (occ .entry))) (roundOf t (now (occ .entry)) (now (img .entry)) (now (dt .entry)) (now (dn .entry)) r) (searchIn (r .«est_count») start [] (divsOf (start .«div_count») (now (nt .entry)) (now (nn .entry))) (arrays (now (pool .entry)) (now (begins .entry)) (now (ends .entry)))) → Ran (length (now (occ .entry))) (roundOf t (now (occ .entry)) (now (img .entry)) (now (dt .entry)) (now (dn .entry)) r) (searchIn (r .«est_count») start [] (divsOf (start .«div_count») (now (nt .entry)) (now (nn .entry))) (arrays (now (pool .entry)) (now (begins .entry)) (now (ends .entry)))) (x .go) (x .effect) (hereOf (x .here)) (searchIn (r .«est_count») (x .place) (listed (x .«new_count») (nodeAt (now (fresh .exit)))) (divsOf (x .place .«div_count») (now (nt .exit)) (now (nn .exit))) (arrays (now (pool .exit)) (now (begins .exit)) (now (ends .exit))))) × Kept (now (fresh .exit)) (now (fresh .entry)) × (x .place .«pool_count» ≤ 2048) ⌝ }
+    ensures { λ x. ⌜ Searches (now (occ .entry)) (now (img .entry)) (now (dt .entry)) (now (dn .entry)) r start
+        (arrays (now (pool .entry)) (now (begins .entry)) (now (ends .entry))) (now (nt .entry)) (now (nn .entry)) x
+        (now (fresh .exit)) (arrays (now (pool .exit)) (now (begins .exit)) (now (ends .exit))) (now (nt .exit)) (now (nn .exit))
+        × Kept (now (fresh .exit)) (now (fresh .entry))
+        × (x .place .«pool_count» ≤ 2048) ⌝ }
 {
     let mut p = start;
     let mut curr = codec::whole_node(img, one_less(p.idx_split) as u32);

@@ -10,18 +10,11 @@ use crate::rewind;
 use disp_structs::DispNode;
 use update_definition::Move;
 ghost use mathlib.Core.Path.{_≡_};
-ghost use mathlib.Core.Bool.{true, false};
-ghost use mathlib.Core.List.{List};
-ghost use Prim.Native.Nat.{ℕ, _+_, _≤_};
+ghost use Prim.Native.Nat.{_+_, _≤_};
 ghost use lib.ListN.{length};
-ghost use Rattle.disp_structs.specs.Train.{Train};
-ghost use Rattle.disp_structs.specs.declared.DispNode.{DispNode};
 ghost use Rattle.image.specs.Image.{estPlace};
-ghost use Rattle.free_path.specs.Base.{ok};
-ghost use Rattle.update_definition.specs.Look.{current, lookHere};
-ghost use Rattle.update_definition.specs.Update.{doMove, searchStep};
-ghost use Rattle.search.specs.Read.{divsOf, pathOf, roundOf, hereOf, searchIn, arrays, Small, Lent, Marked};
-ghost use Rattle.search.specs.Effects.{Sized, Goes, Looked, effectOf, leaves, turnOf};
+ghost use Rattle.search.specs.Read.{arrays};
+ghost use Rattle.search.specs.Effects.{leaves, DoesMove, TurnFrom, TurnAt, MoveFits, TurnFits};
 
 // The move, its effect (Stay where the caller has to do the move), where the search stood, and where it stands. A turn that is refused before its
 // move has Advance and the refusal.
@@ -60,8 +53,9 @@ fn do_move(
     nt: &mut [u32],
     nn: &mut [u32],
 ) -> Moved
-    requires { ⌜ (leaves go ≡ false) × Small p × Sized r × Lent (r .«est_count») (arrays (now pool) (now begins) (now ends)) × (h .«idx_join_new» ≤ p .«idx_split» + p .«new_count») × (r .«diverge_room» ≤ length (now nt)) × (r .«diverge_room» ≤ length (now nn)) ⌝ }
-    ensures { λ x. ⌜ ((t : Train) (occ dt dn : List ℕ) (new : List DispNode) → length new ≡ p .«new_count» → effectOf (roundOf t occ (now (img .entry)) dt dn r) (searchIn (r .«est_count») (x .place) new (divsOf (x .place .«div_count») (now (nt .exit)) (now (nn .exit))) (arrays (now (pool .exit)) (now (begins .exit)) (now (ends .exit)))) (x .effect) ≡ doMove go (roundOf t occ (now (img .entry)) dt dn r) (hereOf h) (searchIn (r .«est_count») p new (divsOf (p .«div_count») (now (nt .entry)) (now (nn .entry))) (arrays (now (pool .entry)) (now (begins .entry)) (now (ends .entry))))) × Goes r p (x .place) ⌝ }
+    requires { ⌜ MoveFits go r h p (arrays (now pool) (now begins) (now ends)) (now nt) (now nn) ⌝ }
+    ensures { λ x. ⌜ DoesMove go (now (img .entry)) r h p (arrays (now (pool .entry)) (now (begins .entry)) (now (ends .entry))) (now (nt .entry)) (now (nn .entry)) x
+        (arrays (now (pool .exit)) (now (begins .exit)) (now (ends .exit))) (now (nt .exit)) (now (nn .exit)) ⌝ }
 {
     match go {
         Move::Rewind => {
@@ -127,8 +121,10 @@ fn turn_from(
     nt: &mut [u32],
     nn: &mut [u32],
 ) -> Turned
-    requires { ⌜ Small p × Sized r × Lent (r .«est_count») (arrays (now pool) (now begins) (now ends)) × (r .«diverge_room» ≤ length (now nt)) × (r .«diverge_room» ≤ length (now nn)) × Marked (now on) (pathOf (now img) (r .«path_count»)) × (h .«idx_join_new» ≤ p .«idx_split» + p .«new_count») ⌝ }
-    ensures { λ x. ⌜ ((t : Train) (new : List DispNode) → length new ≡ p .«new_count» → lookHere (roundOf t (now (occ .entry)) (now (img .entry)) (now (dt .entry)) (now (dn .entry)) r) (searchIn (r .«est_count») p new (divsOf (p .«div_count») (now (nt .entry)) (now (nn .entry))) (arrays (now (pool .entry)) (now (begins .entry)) (now (ends .entry)))) ≡ ok (hereOf h) → (turnOf (x .go) (x .effect) (roundOf t (now (occ .entry)) (now (img .entry)) (now (dt .entry)) (now (dn .entry)) r) (hereOf h) (searchIn (r .«est_count») (x .place) new (divsOf (x .place .«div_count») (now (nt .exit)) (now (nn .exit))) (arrays (now (pool .exit)) (now (begins .exit)) (now (ends .exit)))) ≡ searchStep (roundOf t (now (occ .entry)) (now (img .entry)) (now (dt .entry)) (now (dn .entry)) r) (searchIn (r .«est_count») p new (divsOf (p .«div_count») (now (nt .entry)) (now (nn .entry))) (arrays (now (pool .entry)) (now (begins .entry)) (now (ends .entry))))) × (leaves (x .go) ≡ true → Looked (roundOf t (now (occ .entry)) (now (img .entry)) (now (dt .entry)) (now (dn .entry)) r) (searchIn (r .«est_count») p new (divsOf (p .«div_count») (now (nt .entry)) (now (nn .entry))) (arrays (now (pool .entry)) (now (begins .entry)) (now (ends .entry)))) (hereOf h) (searchIn (r .«est_count») (x .place) new (divsOf (x .place .«div_count») (now (nt .exit)) (now (nn .exit))) (arrays (now (pool .exit)) (now (begins .exit)) (now (ends .exit)))))) × Goes r p (x .place) × (x .here ≡ h) ⌝ }
+    requires { ⌜ TurnFits (now img) (now on) r p (arrays (now pool) (now begins) (now ends)) (now nt) (now nn) (h .«idx_join_new» ≤ p .«idx_split» + p .«new_count») ⌝ }
+    ensures { λ x. ⌜ TurnFrom (now (occ .entry)) (now (img .entry)) (now (dt .entry)) (now (dn .entry)) r h p
+        (arrays (now (pool .entry)) (now (begins .entry)) (now (ends .entry))) (now (nt .entry)) (now (nn .entry)) x
+        (arrays (now (pool .exit)) (now (begins .exit)) (now (ends .exit))) (now (nt .exit)) (now (nn .exit)) ⌝ }
 {
     let t = look::stored_trains(dt, dn, on, r, h, p, pool, begins, ends);
     if t.code != 0 {
@@ -170,8 +166,10 @@ pub(crate) fn turn(
     nt: &mut [u32],
     nn: &mut [u32],
 ) -> Turned
-    requires { ⌜ Small p × Sized r × Lent (r .«est_count») (arrays (now pool) (now begins) (now ends)) × (r .«diverge_room» ≤ length (now nt)) × (r .«diverge_room» ≤ length (now nn)) × Marked (now on) (pathOf (now img) (r .«path_count»)) × (estPlace (r .«est_count») ≤ length (now img)) ⌝ }
-    ensures { λ x. ⌜ ((t : Train) (new : List DispNode) → length new ≡ p .«new_count» → current (pathOf (now (img .entry)) (r .«path_count»)) new (p .«idx_split») ≡ ok curr → (turnOf (x .go) (x .effect) (roundOf t (now (occ .entry)) (now (img .entry)) (now (dt .entry)) (now (dn .entry)) r) (hereOf (x .here)) (searchIn (r .«est_count») (x .place) new (divsOf (x .place .«div_count») (now (nt .exit)) (now (nn .exit))) (arrays (now (pool .exit)) (now (begins .exit)) (now (ends .exit)))) ≡ searchStep (roundOf t (now (occ .entry)) (now (img .entry)) (now (dt .entry)) (now (dn .entry)) r) (searchIn (r .«est_count») p new (divsOf (p .«div_count») (now (nt .entry)) (now (nn .entry))) (arrays (now (pool .entry)) (now (begins .entry)) (now (ends .entry))))) × (leaves (x .go) ≡ true → Looked (roundOf t (now (occ .entry)) (now (img .entry)) (now (dt .entry)) (now (dn .entry)) r) (searchIn (r .«est_count») p new (divsOf (p .«div_count») (now (nt .entry)) (now (nn .entry))) (arrays (now (pool .entry)) (now (begins .entry)) (now (ends .entry)))) (hereOf (x .here)) (searchIn (r .«est_count») (x .place) new (divsOf (x .place .«div_count») (now (nt .exit)) (now (nn .exit))) (arrays (now (pool .exit)) (now (begins .exit)) (now (ends .exit)))))) × Goes r p (x .place) ⌝ }
+    requires { ⌜ TurnFits (now img) (now on) r p (arrays (now pool) (now begins) (now ends)) (now nt) (now nn) (estPlace (r .«est_count») ≤ length (now img)) ⌝ }
+    ensures { λ x. ⌜ TurnAt (now (occ .entry)) (now (img .entry)) (now (dt .entry)) (now (dn .entry)) r p curr
+        (arrays (now (pool .entry)) (now (begins .entry)) (now (ends .entry))) (now (nt .entry)) (now (nn .entry)) x
+        (arrays (now (pool .exit)) (now (begins .exit)) (now (ends .exit))) (now (nt .exit)) (now (nn .exit)) ⌝ }
 {
     let h = look::look_here(img, r, p, curr, ends, dn);
     if h.code != 0 {

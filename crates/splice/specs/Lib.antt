@@ -1,3 +1,4 @@
 pub mod Read
 pub mod Parts
 pub mod Flags
+pub mod Answers

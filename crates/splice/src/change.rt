@@ -4,10 +4,9 @@ ghost use mathlib.Core.List.{List};
 ghost use Prim.Native.Nat.{ℕ, _<_};
 ghost use lib.ListN.{take};
 ghost use Rattle.free_path.specs.Columns.{answer, trains};
-ghost use Rattle.update_definition.specs.State.{Round, Search, ends, again};
-ghost use Rattle.update_definition.specs.Look.{Here};
-ghost use Rattle.update_definition.specs.Moves.{trainsOf, changeDiverge};
-ghost use Rattle.splice.specs.Read.{trainOf, Stands, Changes, ChangeFits, atSplit, baseEnd, changeAt};
+ghost use Rattle.update_definition.specs.Moves.{trainsOf};
+ghost use Rattle.splice.specs.Read.{trainOf, ChangeFits, atSplit, baseEnd, changeAt};
+ghost use Rattle.splice.specs.Answers.{againIn, changedTo, ChangesTo};
 use crate::Again;
 use crate::Reached;
 use crate::copies;
@@ -59,7 +58,7 @@ fn base_end(img: &[u8], n: u32, r: Reached, alt: EstIdx, dn: &[u32], m: usize) -
 
 // A header with total diverge nodes, and the next idx_split and div_idx_split.
 fn changed(h: PathHeader, total: u32, split: u32, div_split: usize) -> Again
-    ensures { λ a. ⌜ a ≡ record { code = 0; header = record { «path_count» = h .«path_count»; «diverge_count» = total; fixed = h .fixed; free = h .fixed; front = h .front; back = h .back }; split = split; «div_split» = «div_split»; moves = 0 } ⌝ }
+    ensures { λ a. ⌜ a ≡ changedTo h total split «div_split» ⌝ }
 {
     let out = PathHeader {
         path_count: h.path_count,
@@ -93,7 +92,8 @@ fn change_at(
     k: usize,
 ) -> Again
     requires { ⌜ ChangeFits (now img) (now dt) (now dn) (now nt) (now nn) (now pool) count h r × (r .«div_split» < k) × (k < h .«diverge_count») ⌝ }
-    ensures { λ a. ⌜ (answer (a .code) (ends (again (trainOf (now (img .entry)) (now (dt .exit)) (now (dn .exit)) (a .header)) (a .split) (a .«div_split»))) ≡ changeAt (trainOf (now (img .entry)) (now (dt .entry)) (now (dn .entry)) h) r (trainsOf (take count (trains (now (pool .entry)))) v) k) × (a .moves ≡ 0) ⌝ }
+    ensures { λ a. ⌜ (againIn a (now (img .entry)) (now (dt .exit)) (now (dn .exit)) ≡ changeAt (trainOf (now (img .entry)) (now (dt .entry)) (now (dn .entry)) h) r (trainsOf (take count (trains (now (pool .entry)))) v) k)
+        × (a .moves ≡ 0) ⌝ }
 {
     let m = h.diverge_count as usize;
     let b = v.idx_begin as usize;
@@ -130,7 +130,7 @@ pub fn change_diverge(
     nn: &mut [u32],
 ) -> Again
     requires { ⌜ ChangeFits (now img) (now dt) (now dn) (now nt) (now nn) (now pool) count h r ⌝ }
-    ensures { λ a. ⌜ ((R : Round) (H : Here) (S : Search) → Stands (now (img .entry)) (now (dt .entry)) (now (dn .entry)) h r (H .«est_curr») R H S → Changes (now (pool .entry)) count alt v r H S → answer (a .code) (ends (again (trainOf (now (img .entry)) (now (dt .exit)) (now (dn .exit)) (a .header)) (a .split) (a .«div_split»))) ≡ changeDiverge R H S) × (a .moves ≡ 0) ⌝ }
+    ensures { λ a. ⌜ ChangesTo (now (img .entry)) (now (dt .entry)) (now (dn .entry)) h r alt v (now (pool .entry)) count a (now (dt .exit)) (now (dn .exit)) ⌝ }
 {
     let m = h.diverge_count as usize;
     let k = base_end(img, h.path_count, r, alt, dn, m);

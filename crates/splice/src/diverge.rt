@@ -2,15 +2,16 @@
 // New diverge nodes stand in two more columns, behind a sentinel at 0, with room behind them for the old ones that come after.
 ghost use mathlib.Core.Path.{_≡_};
 ghost use mathlib.Core.Bool.{not, cond};
-ghost use mathlib.Core.List.{List, _++_};
+ghost use mathlib.Core.List.{List};
 ghost use Prim.Native.Nat.{ℕ, _+_, _-_, _^_, _≤_, _<_};
 ghost use lib.Dec.{ltb, eqb};
-ghost use lib.ListN.{length, getD, set, take, drop};
+ghost use lib.ListN.{length, getD, set};
 ghost use Rattle.free_path.specs.Base.{ok, walkFrom};
 ghost use Rattle.free_path.specs.Columns.{answer, divAt};
 ghost use Rattle.disp_structs.specs.Listed.{listed};
-ghost use Rattle.update_definition.specs.Join.{shiftDivs, updateDivNodes};
+ghost use Rattle.update_definition.specs.Join.{shiftDivs};
 ghost use Rattle.splice.specs.Parts.{fromOn, Splices, filled, DivsFit};
+ghost use Rattle.splice.specs.Answers.{DivsRoom, DivsSpliced, DivsUpdated};
 use crate::copies;
 use free_path::columns;
 
@@ -108,8 +109,8 @@ pub(crate) fn splice_divs(
     k: usize,
     m: usize,
 )
-    requires { ⌜ (at ≤ m) × (k ≤ m) × (m ≤ length (now dt)) × (m ≤ length (now dn)) × (at + c + (m - k) ≤ length (now dt)) × (at + c + (m - k) ≤ length (now dn)) × (1 + c + (m - k) ≤ length (now nt)) × (1 + c + (m - k) ≤ length (now nn)) ⌝ }
-    ensures { λ _. ⌜ listed (at + c + (m - k)) (divAt (now (dt .exit)) (now (dn .exit))) ≡ take at (listed m (divAt (now (dt .entry)) (now (dn .entry)))) ++ listed c (λ i. divAt (now (nt .entry)) (now (nn .entry)) (1 + i)) ++ drop k (listed m (divAt (now (dt .entry)) (now (dn .entry)))) ⌝ }
+    requires { ⌜ DivsRoom (now dt) (now dn) (now nt) (now nn) c at k m ⌝ }
+    ensures { λ _. ⌜ DivsSpliced (now (dt .entry)) (now (dn .entry)) (now (nt .entry)) (now (nn .entry)) c at k m (now (dt .exit)) (now (dn .exit)) ⌝ }
 {
     splice_column(dt, nt, c, at, k, m);
     splice_column(dn, nn, c, at, k, m);
@@ -147,7 +148,7 @@ pub(crate) fn update_div_nodes(
     join: u32,
 ) -> Divs
     requires { ⌜ DivsFit (now dt) (now dn) (now nt) (now nn) m c room split join ⌝ }
-    ensures { λ r. ⌜ (answer (r .code) (record { «div_nodes» = listed (r .count) (divAt (now (dt .exit)) (now (dn .exit))); «div_idx_split» = r .split }) ≡ updateDivNodes room (listed m (divAt (now (dt .entry)) (now (dn .entry)))) (listed c (divAt (now (nt .entry)) (now (nn .entry)))) split base join) × (r .count ≤ room) ⌝ }
+    ensures { λ r. ⌜ DivsUpdated (now (dt .entry)) (now (dn .entry)) (now (nt .entry)) (now (nn .entry)) m c room split base join r (now (dt .exit)) (now (dn .exit)) ⌝ }
 {
     let k = walk_above(dn, m, split, base);
     if k.code != 0 {

@@ -1,20 +1,14 @@
 // The join (free_path.rs 576-631), and update_free_path_helpers (690-746).
 ghost use mathlib.Core.Path.{_≡_};
-ghost use mathlib.Core.List.{List};
-ghost use Prim.Native.Nat.{ℕ, _+_, _^_, _≤_, _<_};
-ghost use lib.ListN.{length};
-ghost use Rattle.disp_structs.specs.Train.{Train};
-ghost use Rattle.disp_structs.specs.Values.{sameEst, plus, minus};
-ghost use Rattle.image.specs.Image.{estCount, divergeRoom, nodePlace, nodeAt};
-ghost use Rattle.free_path.specs.Base.{ok, walkFrom};
-ghost use Rattle.free_path.specs.Columns.{answer, divAt};
-ghost use Rattle.disp_structs.specs.Listed.{listed};
-ghost use Rattle.update_definition.specs.State.{Round, Search, ends, again, withPath, withFrontBack};
-ghost use Rattle.update_definition.specs.Look.{Here};
-ghost use Rattle.update_definition.specs.Join.{moveFrontBack, updateFreePathHelpers, updateDivNodes, spliceAt};
-ghost use Rattle.splice.specs.Read.{trainOf, Kept, Stands, Joins, JoinFits, PathFits, finishAt};
-ghost use Rattle.splice.specs.Parts.{DivsFit, movesOf};
-ghost use Rattle.splice.specs.Flags.{Below};
+ghost use Prim.Native.Nat.{_+_, _^_, _<_};
+ghost use Rattle.disp_structs.specs.Values.{plus, minus};
+ghost use Rattle.image.specs.Image.{divergeRoom, nodeAt};
+ghost use Rattle.free_path.specs.Base.{ok};
+ghost use Rattle.update_definition.specs.Join as Joined;
+ghost use Rattle.update_definition.specs.Join.{spliceAt};
+ghost use Rattle.splice.specs.Read.{JoinFits, PathFits};
+ghost use Rattle.splice.specs.Parts.{DivsFit};
+ghost use Rattle.splice.specs.Answers.{DivsUpdated, SidesMoved, HelpersFit, HelpersDone, FinishesAt, joinBase, JoinsTo};
 use crate::Again;
 use crate::Reached;
 use crate::diverge;
@@ -47,7 +41,7 @@ fn front_back(
     back: u16,
 ) -> Sides
     requires { ⌜ split + k < 2 ^ 16 ⌝ }
-    ensures { λ r. ⌜ ((t : Train) → t .«disp_path» ≡ listed n (nodeAt (now (img .entry))) → t .«disp_node_idx_front» ≡ front → t .«disp_node_idx_back» ≡ back → answer (r .code) (withFrontBack t (r .front) (r .back)) ≡ moveFrontBack t (listed k (nodeAt (now (fresh .entry)))) split base) ⌝ }
+    ensures { λ r. ⌜ SidesMoved (now (img .entry)) n (now (fresh .entry)) k split base front back r ⌝ }
 {
     if back < front {
         let x = ends::new_ends(img, n, fresh, k, split, base, back as u32, front as u32);
@@ -74,8 +68,8 @@ fn update_free_path_helpers(
     base: u32,
     change: Metres,
 ) -> Sides
-    requires { ⌜ (r .split + r .«new_count» < 2 ^ 16) × (nodePlace (estCount (now img)) (h .«path_count») ≤ length (now img)) × ((i : ℕ) → i < h .«path_count» → Below (nodeAt (now img) i .«link_event»)) × ((i : ℕ) → i < r .«new_count» → Below (nodeAt (now fresh) i .«link_event»)) ⌝ }
-    ensures { λ x. ⌜ ((t : Train) → t .«disp_path» ≡ listed (h .«path_count») (nodeAt (now (img .entry))) → t .«disp_node_idx_front» ≡ h .front → t .«disp_node_idx_back» ≡ h .back → answer (x .code) (withFrontBack (withPath t (listed (h .«path_count») (nodeAt (now (img .exit))))) (x .front) (x .back)) ≡ updateFreePathHelpers t (listed (r .«new_count») (nodeAt (now (fresh .entry)))) (r .split) base change) × Kept (now (img .exit)) (now (img .entry)) × (x .code ≡ 0 → r .split ≤ base) ⌝ }
+    requires { ⌜ HelpersFit (now img) (now fresh) h r ⌝ }
+    ensures { λ x. ⌜ HelpersDone (now (img .entry)) (now (fresh .entry)) h r base change x (now (img .exit)) ⌝ }
 {
     let n = h.path_count;
     let k = r.new_count;
@@ -118,7 +112,8 @@ fn divs_at(
     nn: &mut [u32],
 ) -> Divs
     requires { ⌜ DivsFit (now dt) (now dn) (now nt) (now nn) (h .«diverge_count») (r .«div_count») (divergeRoom (now img)) (r .«div_split») (r .join) ⌝ }
-    ensures { λ d. ⌜ (answer (d .code) (record { «div_nodes» = listed (d .count) (divAt (now (dt .exit)) (now (dn .exit))); «div_idx_split» = d .split }) ≡ updateDivNodes (divergeRoom (now (img .entry))) (listed (h .«diverge_count») (divAt (now (dt .entry)) (now (dn .entry)))) (listed (r .«div_count») (divAt (now (nt .entry)) (now (nn .entry)))) (r .«div_split») base (r .join)) × (d .count ≤ divergeRoom (now (img .entry))) ⌝ }
+    ensures { λ d. ⌜ DivsUpdated (now (dt .entry)) (now (dn .entry)) (now (nt .entry)) (now (nn .entry)) (h .«diverge_count») (r .«div_count») (divergeRoom (now (img .entry))) (r .«div_split») base (r .join) d
+        (now (dt .exit)) (now (dn .exit)) ⌝ }
 {
     let m = h.diverge_count as usize;
     let room = codec::diverge_room(img) as usize;
@@ -146,7 +141,7 @@ fn finish_at(
     div_split: usize,
 ) -> Again
     requires { ⌜ PathFits (now img) (now fresh) h r base ⌝ }
-    ensures { λ a. ⌜ ((dt dn : List ℕ) → answer (a .code) (ends (again (trainOf (now (img .exit)) dt dn (a .header)) (a .split) (a .«div_split»))) ≡ finishAt (trainOf (now (img .entry)) dt dn h) (listed (r .«new_count») (nodeAt (now (fresh .entry)))) r base «div_split») × Kept (now (img .exit)) (now (img .entry)) × (a .moves ≡ movesOf (a .code) (r .split + r .«new_count») (h .«path_count») (ok base)) ⌝ }
+    ensures { λ a. ⌜ FinishesAt (now (img .entry)) (now (fresh .entry)) h r base «div_split» a (now (img .exit)) ⌝ }
 {
     let n = h.path_count;
     let total = r.split + r.new_count + (n - base);
@@ -186,8 +181,9 @@ fn splice_at(
     nt: &mut [u32],
     nn: &mut [u32],
 ) -> Again
-    requires { ⌜ JoinFits (now img) (now fresh) (now dt) (now dn) (now nt) (now nn) h r (est .«idx_next») × (walkFrom (λ x. sameEst (est .«idx_next») (x .«est_idx»)) (listed (h .«path_count») (nodeAt (now img))) (r .«split_save») ≡ ok base) ⌝ }
-    ensures { λ a. ⌜ ((R : Round) (H : Here) (S : Search) → Stands (now (img .entry)) (now (dt .entry)) (now (dn .entry)) h r est R H S → Joins (now (fresh .entry)) (now (nt .entry)) (now (nn .entry)) r curr H S → answer (a .code) (ends (again (trainOf (now (img .exit)) (now (dt .exit)) (now (dn .exit)) (a .header)) (a .split) (a .«div_split»))) ≡ spliceAt R H S base) × (a .code ≡ 0 → Kept (now (img .exit)) (now (img .entry))) × (a .moves ≡ movesOf (a .code) (r .split + r .«new_count») (h .«path_count») (ok base)) ⌝ }
+    requires { ⌜ JoinFits (now img) (now fresh) (now dt) (now dn) (now nt) (now nn) h r (est .«idx_next») × (joinBase (now img) h r est ≡ ok base) ⌝ }
+    ensures { λ a. ⌜ JoinsTo (λ R H S. spliceAt R H S base) (ok base) h r curr est (now (img .entry)) (now (fresh .entry)) (now (dt .entry)) (now (dn .entry)) (now (nt .entry)) (now (nn .entry)) a
+        (now (img .exit)) (now (dt .exit)) (now (dn .exit)) ⌝ }
 {
     let change = offset_change(img, base, curr, est);
     let x = update_free_path_helpers(img, fresh, h, r, base, change);
@@ -223,7 +219,8 @@ pub fn join(
     nn: &mut [u32],
 ) -> Again
     requires { ⌜ JoinFits (now img) (now fresh) (now dt) (now dn) (now nt) (now nn) h r (est .«idx_next») ⌝ }
-    ensures { λ a. ⌜ ((R : Round) (H : Here) (S : Search) → Stands (now (img .entry)) (now (dt .entry)) (now (dn .entry)) h r est R H S → Joins (now (fresh .entry)) (now (nt .entry)) (now (nn .entry)) r curr H S → answer (a .code) (ends (again (trainOf (now (img .exit)) (now (dt .exit)) (now (dn .exit)) (a .header)) (a .split) (a .«div_split»))) ≡ Rattle.update_definition.specs.Join.join R H S) × (a .code ≡ 0 → Kept (now (img .exit)) (now (img .entry))) × (a .moves ≡ movesOf (a .code) (r .split + r .«new_count») (h .«path_count») (walkFrom (λ x. sameEst (est .«idx_next») (x .«est_idx»)) (listed (h .«path_count») (nodeAt (now (img .entry)))) (r .«split_save»))) ⌝ }
+    ensures { λ a. ⌜ JoinsTo Joined.join (joinBase (now (img .entry)) h r est) h r curr est (now (img .entry)) (now (fresh .entry)) (now (dt .entry)) (now (dn .entry)) (now (nt .entry)) (now (nn .entry)) a
+        (now (img .exit)) (now (dt .exit)) (now (dn .exit)) ⌝ }
 {
     let found = path::join_base(img, h.path_count, r.split_save, est.idx_next);
     if found.code != 0 {

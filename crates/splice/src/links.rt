@@ -2,16 +2,16 @@
 ghost use mathlib.Core.Path.{_≡_};
 ghost use mathlib.Core.Bool.{Bool};
 ghost use mathlib.Core.List.{List, []};
-ghost use Prim.Native.Nat.{ℕ, _<_, _≤_};
-ghost use lib.ListN.{length, getD, set};
+ghost use Prim.Native.Nat.{_≤_};
+ghost use lib.ListN.{getD, set};
 ghost use Rattle.disp_structs.specs.Values.{isArrive};
 ghost use Rattle.link_rules.specs.declared.link_idx.LinkIdx.{LinkIdx};
 ghost use Rattle.image.specs.Image.{nodeAt};
-ghost use Rattle.free_path.specs.Base.{part};
 ghost use Rattle.free_path.specs.LinkOptType.{linksOnPath};
 ghost use Rattle.free_path.specs.Columns.{answer};
 ghost use Rattle.disp_structs.specs.Listed.{listed};
 ghost use Rattle.splice.specs.Flags.{bit, linksOf, flagEvent, Holds, Gives, Below, exchanged, exchangeLinks};
+ghost use Rattle.splice.specs.Answers.{AllBelow, ExchangesRange};
 use disp_structs::LinkEvent;
 use disp_structs::events;
 use image::codec;
@@ -81,7 +81,7 @@ fn exchange_event(flags: &mut [u8], e: LinkEvent, x: u8) -> u32
 
 // The same for the nodes from a up to e.
 fn exchange_range(flags: &mut [u8], img: &[u8], a: u32, e: u32, x: u8) -> u32
-    ensures { λ r. ⌜ ((n : ℕ) (b : Bool) (on : List LinkIdx) → e ≤ n → x ≡ bit b → Holds (now (flags .entry)) on → ((i : ℕ) → i < n → Below (nodeAt (now (img .entry)) i .«link_event»)) → Gives r (now (flags .exit)) (exchanged b (linksOnPath (part a e (listed n (nodeAt (now (img .entry)))))) on)) ⌝ }
+    ensures { λ r. ⌜ ExchangesRange (now (flags .entry)) (now (img .entry)) a e x r (now (flags .exit)) ⌝ }
 {
     let mut i = a;
     while i < e {
@@ -97,7 +97,7 @@ fn exchange_range(flags: &mut [u8], img: &[u8], a: u32, e: u32, x: u8) -> u32
 
 // The links of the nodes from split up to base go, and those of the new path come.
 pub(crate) fn exchange_links(img: &[u8], n: u32, split: u32, base: u32, fresh: &[u8], k: u32) -> u32
-    requires { ⌜ ((i : ℕ) → i < n → Below (nodeAt (now img) i .«link_event»)) × ((i : ℕ) → i < k → Below (nodeAt (now fresh) i .«link_event»)) ⌝ }
+    requires { ⌜ AllBelow (now img) n × AllBelow (now fresh) k ⌝ }
     ensures { λ r. ⌜ (answer r tt ≡ exchangeLinks (listed n (nodeAt (now (img .entry)))) (listed k (nodeAt (now (fresh .entry)))) split base) × (r ≡ 0 → split ≤ base) ⌝ }
 {
     if base < split {

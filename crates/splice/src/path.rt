@@ -1,9 +1,8 @@
 // Path nodes in bytes: the join on the old path, its offsets, the splice, and the free path's begin (free_path.rs 578-628, 714-718).
 ghost use mathlib.Core.Path.{_≡_};
 ghost use mathlib.Core.Bool.{cond};
-ghost use mathlib.Core.List.{List, _++_};
-ghost use Prim.Native.Nat.{ℕ, _+_, _-_, _*_, _^_, _≤_, _<_};
-ghost use lib.ListN.{length, getD, take, drop};
+ghost use Prim.Native.Nat.{_≤_, _<_};
+ghost use lib.ListN.{length};
 ghost use Rattle.disp_structs.specs.Values.{sameEst, near, zeroMetres, isNever};
 ghost use Rattle.image.specs.Image.{estCount, nodePlace, nodeAt};
 ghost use Rattle.free_path.specs.Base.{ok, walkFrom};
@@ -11,7 +10,8 @@ ghost use Rattle.free_path.specs.Columns.{answer};
 ghost use Rattle.disp_structs.specs.Listed.{listed};
 ghost use Rattle.update_definition.specs.Join.{shiftOffsets, freeIsCorrect};
 ghost use Rattle.splice.specs.Read.{Kept};
-ghost use Rattle.splice.specs.Parts.{fromOn, putOffset, tailMoves};
+ghost use Rattle.splice.specs.Parts.{fromOn, putOffset};
+ghost use Rattle.splice.specs.Answers.{PathRoom, PathSpliced};
 use crate::moves;
 use crate::moves::Stretch;
 use disp_structs::DispNode;
@@ -91,8 +91,8 @@ pub(crate) fn splice_path(
     base: u32,
     k: u32,
 ) -> usize
-    requires { ⌜ (split ≤ base) × (base ≤ n) × (nodePlace (estCount (now img)) n ≤ length (now img)) × (nodePlace (estCount (now img)) (split + k + (n - base)) ≤ length (now img)) × (nodePlace (estCount (now fresh)) k ≤ length (now fresh)) ⌝ }
-    ensures { λ r. ⌜ (listed (split + k + (n - base)) (nodeAt (now (img .exit))) ≡ take split (listed n (nodeAt (now (img .entry)))) ++ listed k (nodeAt (now (fresh .entry))) ++ drop base (listed n (nodeAt (now (img .entry))))) × Kept (now (img .exit)) (now (img .entry)) × (r ≡ tailMoves base (split + k) (n - base)) ⌝ }
+    requires { ⌜ PathRoom (now img) (now fresh) n split base k ⌝ }
+    ensures { λ r. ⌜ PathSpliced (now (img .entry)) (now (fresh .entry)) n split base k r (now (img .exit)) ⌝ }
 {
     let e = codec::est_count(img);
     let f = codec::est_count(fresh);

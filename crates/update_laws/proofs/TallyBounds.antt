@@ -30,7 +30,7 @@ bit-few : (b : Bool) → cond b 1 0 ≤ 1
 bit-few true = omega arith
 bit-few false = omega arith
 
-count-few : {A : Type 0} (p : A → Bool) (xs : List A) → count p xs ≤ length xs
+pub count-few : {A : Type 0} (p : A → Bool) (xs : List A) → count p xs ≤ length xs
 unfolding count
 count-few p [] = omega arith
 count-few p (x ∷ xs) = omega (arith, count-few p xs, bit-few (p x))
