@@ -1,21 +1,12 @@
 // The end of a search: its effect, a change of diverge nodes, or a join (free_path.rs 471, 502-532, 576-631).
 ghost use mathlib.Core.Path.{_≡_};
 ghost use mathlib.Core.Bool.{false};
-ghost use mathlib.Core.List.{List};
-ghost use Prim.Native.Nat.{ℕ, _^_, _<_};
-ghost use Rattle.disp_structs.specs.Train.{Train};
-ghost use Rattle.free_path.specs.Base.{Res};
-ghost use Rattle.free_path.specs.Columns.{answer};
-ghost use Rattle.update_definition.specs.State as State;
-ghost use Rattle.update_definition.specs.State.{viewOf};
-ghost use Rattle.update_definition.specs.Look as Look;
-ghost use Rattle.update_definition.specs.Moves.{changeDiverge};
-ghost use Rattle.update_definition.specs.Join as Joined;
-ghost use Rattle.search.specs.Effects.{effectOf, onward};
-ghost use Rattle.search.specs.Read.{hereOf, viewsOf};
-ghost use Rattle.search.specs.Runs.{endOf};
-ghost use Rattle.splice.specs.Read.{trainOf, Kept, Stands, Joins, JoinFits, Changes, ChangeFits};
-ghost use Rattle.round.specs.Rounds.{endedOf, endRefused, isAtEnd, isJoin, reachedAt, withFree};
+ghost use Prim.Native.Nat.{_^_, _<_};
+ghost use Rattle.search.specs.Effects.{onward};
+ghost use Rattle.search.specs.Read.{arrays};
+ghost use Rattle.splice.specs.Read.{JoinFits, ChangeFits};
+ghost use Rattle.round.specs.Rounds.{isJoin, reachedAt, withFree};
+ghost use Rattle.round.specs.Ends.{EndsByEffect, EndsBySplice, EndsByJoin, EndsByChange};
 use crate::End;
 use crate::RoundEnd;
 use image::codec::PathHeader;
@@ -54,7 +45,7 @@ fn blocked(h: PathHeader) -> RoundEnd
 // By an effect after which no search goes on.
 pub(crate) fn by_effect(effect: Effect, h: PathHeader) -> RoundEnd
     requires { ⌜ onward effect ≡ false ⌝ }
-    ensures { λ x. ⌜ ((img dt dn : List ℕ) (R : State.Round) (S : State.Search) (f : State.Search → Res State.Ended) → R .train ≡ trainOf img dt dn h → endedOf x (trainOf img dt dn (x .header)) ≡ endOf f (effectOf R S effect)) × (isAtEnd (x .end) ≡ false) ⌝ }
+    ensures { λ x. ⌜ EndsByEffect effect h x ⌝ }
 {
     match effect {
         Effect::Refused(c) => ended(End::Refused(c), h),
@@ -98,7 +89,7 @@ pub(crate) fn reached(r: Round, s: Searched) -> Reached
 }
 
 fn by_splice(a: Again) -> RoundEnd
-    ensures { λ x. ⌜ ((t : Train) (f : State.Search → Res State.Ended) → endedOf x t ≡ endOf f (answer (a .code) (State.ends (State.again t (a .split) (a .«div_split»))))) × (x .header ≡ a .header) × (endRefused (x .end) ≡ false → a .code ≡ 0) × (isAtEnd (x .end) ≡ false) ⌝ }
+    ensures { λ x. ⌜ EndsBySplice a x ⌝ }
 {
     let h = a.header;
     if a.code != 0 {
@@ -125,7 +116,8 @@ pub(crate) fn joined(
     nn: &mut [u32],
 ) -> RoundEnd
     requires { ⌜ JoinFits (now img) (now fresh) (now dt) (now dn) (now nt) (now nn) h q (here .«est_curr» .«idx_next») ⌝ }
-    ensures { λ x. ⌜ ((R : State.Round) (S : State.Search) (f : State.Search → Res State.Ended) → Stands (now (img .entry)) (now (dt .entry)) (now (dn .entry)) h q (here .«est_curr») R (hereOf here) S → Joins (now (fresh .entry)) (now (nt .entry)) (now (nn .entry)) q (here .«disp_node_curr») (hereOf here) S → endedOf x (trainOf (now (img .exit)) (now (dt .exit)) (now (dn .exit)) (x .header)) ≡ endOf f (Joined.join R (hereOf here) S)) × (endRefused (x .end) ≡ false → Kept (now (img .exit)) (now (img .entry))) × (isAtEnd (x .end) ≡ false) ⌝ }
+    ensures { λ x. ⌜ EndsByJoin h q here (now (img .entry)) (now (fresh .entry)) (now (dt .entry)) (now (dn .entry)) (now (nt .entry)) (now (nn .entry)) x
+        (now (img .exit)) (now (dt .exit)) (now (dn .exit)) ⌝ }
 {
     let n = here.disp_node_curr;
     let e = here.est_curr;
@@ -149,7 +141,8 @@ pub(crate) fn changed(
     nn: &mut [u32],
 ) -> RoundEnd
     requires { ⌜ ChangeFits (now img) (now dt) (now dn) (now nt) (now nn) (now pool) (p .«pool_count») h q ⌝ }
-    ensures { λ x. ⌜ ((R : State.Round) (S : State.Search) (f : State.Search → Res State.Ended) → Stands (now (img .entry)) (now (dt .entry)) (now (dn .entry)) h q (here .«est_curr») R (hereOf here) S → Changes (now (pool .entry)) (p .«pool_count») (here .«est_curr» .«idx_next_alt») (viewOf (viewsOf n (now (begins .entry)) (now (ends .entry))) (here .«est_curr» .«idx_next»)) q (hereOf here) S → endedOf x (trainOf (now (img .entry)) (now (dt .exit)) (now (dn .exit)) (x .header)) ≡ endOf f (changeDiverge R (hereOf here) S)) × (isAtEnd (x .end) ≡ false) ⌝ }
+    ensures { λ x. ⌜ EndsByChange h q here p n (now (img .entry)) (now (dt .entry)) (now (dn .entry)) (arrays (now (pool .entry)) (now (begins .entry)) (now (ends .entry))) x
+        (now (dt .exit)) (now (dn .exit)) ⌝ }
 {
     let e = here.est_curr;
     let v = views::view_at(begins, ends, n, e.idx_next);

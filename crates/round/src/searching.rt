@@ -1,11 +1,12 @@
 // The search of a round and its end (free_path.rs 345-633).
 ghost use mathlib.Core.List.{[]};
 ghost use Prim.Native.Nat.{_≤_};
-ghost use mathlib.Core.Path.{_≡_};
-ghost use lib.ListN.{length, replicate};
+ghost use lib.ListN.{length};
 ghost use Rattle.image.specs.Image.{estCount, divergeRoom};
-ghost use Rattle.search.specs.Read.{divsOf, searchIn, arrays};
-ghost use Rattle.round.specs.Rounds.{Held, Room, Searching, SearchEnded, zeros, zeroed};
+ghost use Rattle.search.specs.Read.{arrays};
+ghost use Rattle.round.specs.Rounds.{Held, Room, Searching, SearchEnded, zeroed};
+ghost use Rattle.round.specs.Ends.{SearchGiven};
+ghost use Rattle.search.specs.Effects.{searchAt};
 use crate::RoundEnd;
 use crate::ending;
 use image::codec::PathHeader;
@@ -32,8 +33,12 @@ fn search_round(
     nt: &mut [u32],
     nn: &mut [u32],
 ) -> RoundEnd
-    requires { ⌜ Held (now occ) (now img) (now on) (now dt) (now dn) h × Room (estCount (now img)) (divergeRoom (now img)) (length (now fresh)) (now fresh) (now dt) (now dn) (now pool) (now begins) (now ends) (now nt) (now nn) × Searching (now occ) (now img) (now dt) (now dn) h r start (now pool) (now begins) (now ends) (now nt) (now nn) ⌝ }
-    ensures { λ x. ⌜ SearchEnded (now (occ .entry)) (now (img .entry)) (now (dt .entry)) (now (dn .entry)) h r (searchIn (r .«est_count») start [] (divsOf (start .«div_count») (now (nt .entry)) (now (nn .entry))) (arrays (now (pool .entry)) (now (begins .entry)) (now (ends .entry)))) x (now (img .exit)) (now (dt .exit)) (now (dn .exit)) ⌝ }
+    requires { ⌜ Held (now occ) (now img) (now on) (now dt) (now dn) h
+        × Room (estCount (now img)) (divergeRoom (now img)) (length (now fresh)) (now fresh) (now dt) (now dn) (now pool) (now begins) (now ends) (now nt) (now nn)
+        × Searching (now occ) (now img) (now dt) (now dn) h r start (now pool) (now begins) (now ends) (now nt) (now nn) ⌝ }
+    ensures { λ x. ⌜ SearchEnded (now (occ .entry)) (now (img .entry)) (now (dt .entry)) (now (dn .entry)) h r
+        (searchAt r start [] (arrays (now (pool .entry)) (now (begins .entry)) (now (ends .entry))) (now (nt .entry)) (now (nn .entry))) x
+        (now (img .exit)) (now (dt .exit)) (now (dn .exit)) ⌝ }
 {
     octets::put_u32(fresh, 4, 0);
     let s = run::run(
@@ -90,7 +95,7 @@ fn search_large(
     dt: &mut [u32],
     dn: &mut [u32],
 ) -> RoundEnd
-    requires { ⌜ Held (now occ) (now img) (now on) (now dt) (now dn) h × (divergeRoom (now img) ≤ length (now dt)) × (divergeRoom (now img) ≤ length (now dn)) × Searching (now occ) (now img) (now dt) (now dn) h r start (zeros .pool) (zeros .begins) (zeros .ends) (replicate 1024 0) (replicate 1024 0) ⌝ }
+    requires { ⌜ SearchGiven (now occ) (now img) (now on) (now dt) (now dn) h r start ⌝ }
     ensures { λ x. ⌜ SearchEnded (now (occ .entry)) (now (img .entry)) (now (dt .entry)) (now (dn .entry)) h r (zeroed (r .«est_count») start) x (now (img .exit)) (now (dt .exit)) (now (dn .exit)) ⌝ }
 {
     let mut fresh = [0u8; 16448];
@@ -128,7 +133,7 @@ fn search_small(
     dt: &mut [u32],
     dn: &mut [u32],
 ) -> RoundEnd
-    requires { ⌜ Held (now occ) (now img) (now on) (now dt) (now dn) h × (divergeRoom (now img) ≤ length (now dt)) × (divergeRoom (now img) ≤ length (now dn)) × Searching (now occ) (now img) (now dt) (now dn) h r start (zeros .pool) (zeros .begins) (zeros .ends) (replicate 1024 0) (replicate 1024 0) × (estCount (now img) ≤ 64) × (divergeRoom (now img) ≤ 64) ⌝ }
+    requires { ⌜ SearchGiven (now occ) (now img) (now on) (now dt) (now dn) h r start × (estCount (now img) ≤ 64) × (divergeRoom (now img) ≤ 64) ⌝ }
     ensures { λ x. ⌜ SearchEnded (now (occ .entry)) (now (img .entry)) (now (dt .entry)) (now (dn .entry)) h r (zeroed (r .«est_count») start) x (now (img .exit)) (now (dt .exit)) (now (dn .exit)) ⌝ }
 {
     let mut fresh = [0u8; 2112];
@@ -166,7 +171,7 @@ pub(crate) fn search(
     dt: &mut [u32],
     dn: &mut [u32],
 ) -> RoundEnd
-    requires { ⌜ Held (now occ) (now img) (now on) (now dt) (now dn) h × (divergeRoom (now img) ≤ length (now dt)) × (divergeRoom (now img) ≤ length (now dn)) × Searching (now occ) (now img) (now dt) (now dn) h r start (zeros .pool) (zeros .begins) (zeros .ends) (replicate 1024 0) (replicate 1024 0) ⌝ }
+    requires { ⌜ SearchGiven (now occ) (now img) (now on) (now dt) (now dn) h r start ⌝ }
     ensures { λ x. ⌜ SearchEnded (now (occ .entry)) (now (img .entry)) (now (dt .entry)) (now (dn .entry)) h r (zeroed (r .«est_count») start) x (now (img .exit)) (now (dt .exit)) (now (dn .exit)) ⌝ }
 {
     if 64 < r.est_count {

@@ -1,20 +1,17 @@
 // A round up to its search (free_path.rs 278-343).
 ghost use mathlib.Core.Path.{_≡_};
 ghost use mathlib.Core.Bool.{true, false};
-ghost use mathlib.Core.List.{List};
-ghost use Prim.Native.Nat.{ℕ, _^_, _≤_, _<_};
-ghost use lib.Ieee.{Float, lt};
+ghost use Prim.Native.Nat.{_^_, _≤_, _<_};
 ghost use lib.ListN.{length};
-ghost use Rattle.link_rules.specs.declared.link_idx.LinkIdx.{LinkIdx};
 ghost use Rattle.disp_structs.specs.Listed.{listed};
-ghost use Rattle.image.specs.Image.{divergeRoom, nodeAt, distDispPathSearch};
+ghost use Rattle.image.specs.Image.{divergeRoom};
 ghost use Rattle.free_path.specs.Columns.{linkAt};
-ghost use Rattle.free_path.specs.SearchLimit.{offsetCancel};
 ghost use Rattle.free_path.specs.LinkOptType.{linkIdxPath};
 ghost use Rattle.update_definition.specs.Update.{roundOf};
 ghost use Rattle.search.specs.Read.{pathOf};
 ghost use Rattle.splice.specs.Read.{trainOf, Kept};
-ghost use Rattle.round.specs.Rounds.{Held, Numbers, givenOf, roundFrom, startAt, endedOf, endRefused, isAtEnd};
+ghost use Rattle.round.specs.Rounds.{Held, roundFrom, startAt, endRefused, isAtEnd};
+ghost use Rattle.round.specs.Ends.{RoundAt, EndsAs};
 use crate::End;
 use crate::Given;
 use crate::RoundEnd;
@@ -55,7 +52,7 @@ fn at_end(h: PathHeader) -> RoundEnd
 // What the search from the split point does not change.
 fn round_of(img: &[u8], g: Given, h: PathHeader, split: usize) -> Round
     requires { ⌜ split < 2 ^ 32 ⌝ }
-    ensures { λ r. ⌜ Numbers (now (img .entry)) h r × (r .«train_idx_moved» ≡ g .«train_idx_moved») × (r .«idx_split_save» ≡ split) × ((x : Float) → lt (r .«offset_cancel» .0) x ≡ lt (offsetCancel (g .«is_local») (g .«offset_lowest») (nodeAt (now (img .entry)) split .offset) (distDispPathSearch (now (img .entry))) .0) x) ⌝ }
+    ensures { λ r. ⌜ RoundAt (now (img .entry)) g h split r ⌝ }
 {
     let node = codec::node_at(img, split as u32);
     let o = node.offset;
@@ -103,7 +100,10 @@ fn search_at(
     dn: &mut [u32],
 ) -> RoundEnd
     requires { ⌜ Held (now occ) (now img) (now on) (now dt) (now dn) h × (divergeRoom (now img) ≤ length (now dt)) × (divergeRoom (now img) ≤ length (now dn)) × (1 ≤ split) × (split < h .«path_count») ⌝ }
-    ensures { λ x. ⌜ ((blocking start : List LinkIdx) → endedOf x (trainOf (now (img .exit)) (now (dt .exit)) (now (dn .exit)) (x .header)) ≡ roundFrom (givenOf g (now (occ .entry)) blocking start) (trainOf (now (img .entry)) (now (dt .entry)) (now (dn .entry)) h) split «div_split» (record { node = z .node; divs = z .divs })) × (endRefused (x .end) ≡ false → Kept (now (img .exit)) (now (img .entry))) × (isAtEnd (x .end) ≡ false) ⌝ }
+    ensures { λ x. ⌜ EndsAs (λ G t. roundFrom G t split «div_split» (record { node = z .node; divs = z .divs })) (now (occ .entry)) (now (img .entry)) (now (dt .entry)) (now (dn .entry)) g h x
+        (now (img .exit)) (now (dt .exit)) (now (dn .exit))
+        × (endRefused (x .end) ≡ false → Kept (now (img .exit)) (now (img .entry)))
+        × (isAtEnd (x .end) ≡ false) ⌝ }
 {
     let m = h.diverge_count as usize;
     let d = diverge::div_at(dn, m, split, div_split, z.node, z.divs);
@@ -132,8 +132,14 @@ pub fn round(
     dt: &mut [u32],
     dn: &mut [u32],
 ) -> RoundEnd
-    requires { ⌜ Held (now occ) (now img) (now on) (now dt) (now dn) h × (divergeRoom (now img) ≤ length (now dt)) × (divergeRoom (now img) ≤ length (now dn)) × (listed (h .«path_count») (linkAt (now col)) ≡ linkIdxPath (pathOf (now img) (h .«path_count»))) × (1 ≤ split) × (1 ≤ «div_split») ⌝ }
-    ensures { λ x. ⌜ ((blocking start : List LinkIdx) → endedOf x (trainOf (now (img .exit)) (now (dt .exit)) (now (dn .exit)) (x .header)) ≡ roundOf (givenOf g (now (occ .entry)) blocking start) (trainOf (now (img .entry)) (now (dt .entry)) (now (dn .entry)) h) split «div_split») × (endRefused (x .end) ≡ false → Kept (now (img .exit)) (now (img .entry))) × (isAtEnd (x .end) ≡ true → trainOf (now (img .exit)) (now (dt .exit)) (now (dn .exit)) (x .header) ≡ trainOf (now (img .entry)) (now (dt .entry)) (now (dn .entry)) h) ⌝ }
+    requires { ⌜ Held (now occ) (now img) (now on) (now dt) (now dn) h × (divergeRoom (now img) ≤ length (now dt)) × (divergeRoom (now img) ≤ length (now dn))
+        × (listed (h .«path_count») (linkAt (now col)) ≡ linkIdxPath (pathOf (now img) (h .«path_count»)))
+        × (1 ≤ split)
+        × (1 ≤ «div_split») ⌝ }
+    ensures { λ x. ⌜ EndsAs (λ G t. roundOf G t split «div_split») (now (occ .entry)) (now (img .entry)) (now (dt .entry)) (now (dn .entry)) g h x
+        (now (img .exit)) (now (dt .exit)) (now (dn .exit))
+        × (endRefused (x .end) ≡ false → Kept (now (img .exit)) (now (img .entry)))
+        × (isAtEnd (x .end) ≡ true → trainOf (now (img .exit)) (now (dt .exit)) (now (dn .exit)) (x .header) ≡ trainOf (now (img .entry)) (now (dt .entry)) (now (dn .entry)) h) ⌝ }
 {
     let n = h.path_count;
     let m = h.diverge_count as usize;

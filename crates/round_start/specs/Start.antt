@@ -1,18 +1,24 @@
--- The start of a round: div_idx_split with its asserts, a round with another limit, and paths whose links have flags. Assumes nothing.
+-- The start of a round: idx_split, div_idx_split with its asserts, a round with another limit, and paths whose links have flags. Assumes nothing.
 use mathlib.Core.Path.{_≡_}
-use mathlib.Core.Bool.{true}
+use mathlib.Core.Bool.{true, cond}
 use Prim.Native.Nat.{ℕ, _<_}
 use mathlib.Core.List.{List}
 use lib.Dec.{ltb, leb}
+use Rattle.link_rules.specs.declared.link_idx.LinkIdx.{LinkIdx}
 use Rattle.disp_structs.specs.declared.Metres.{Metres}
 use Rattle.disp_structs.specs.Values.{isArrive}
 use Rattle.disp_structs.specs.declared.DispNode.{DispNode}
 use Rattle.disp_structs.specs.declared.DivergeNode.{DivergeNode}
 use Rattle.free_path.specs.Base.{Res, ok, _>>=_, need, at, before}
-use Rattle.free_path.specs.LinkOptType.{Sentinels}
+use Rattle.free_path.specs.LinkOptType.{Sentinels, linksOnPath, contains}
+use Rattle.free_path.specs.declared.link_opt_type.LinkOptType.{LinkOptType}
 use Rattle.update_definition.specs.Accepted.{Each}
 use Rattle.update_definition.specs.State.{Round}
-use Rattle.update_definition.specs.Update.{divPoint}
+use Rattle.update_definition.specs.Update.{divPoint, apart, meeting}
+
+-- idx_split (283-305): the sentinel where the train cannot intersect with the moved train, else the first intersection; links are link_idx_path
+abbrev pub splitAt : (class : LinkOptType) (path : List DispNode) (links : List LinkIdx) (occ : List ℕ) (free split sentinel : ℕ) → Res ℕ
+splitAt class path links occ free split sentinel = cond (apart class (contains (linksOnPath path))) (ok sentinel) (meeting class occ links free split sentinel)
 
 -- the asserts on the diverge nodes before and at d (331-332)
 unfoldable pub partedAt : List DivergeNode → ℕ → ℕ → Res ℕ

@@ -1,4 +1,4 @@
-// The path of an image: link_idx_path as a column, is_on_path as flags, links_on_path asked for one link, and the save node.
+// The path of an image: links_on_path asked for one link, and the save node.
 use disp_structs::events;
 use free_path::link_opt_type::LinkOptType;
 use image::codec;
@@ -6,61 +6,16 @@ use link_rules::link_idx::LinkIdx;
 use search::Index;
 ghost use mathlib.Core.Path.{_≡_};
 ghost use mathlib.Core.Bool.{_&&_};
-ghost use Prim.Native.Nat.{ℕ, _<_, _≤_};
-ghost use lib.ListN.{length, replicate};
+ghost use Prim.Native.Nat.{_≤_};
 ghost use Rattle.link_rules.specs.LinkIdx.{sameLink};
-ghost use Rattle.disp_structs.specs.Listed.{listed};
-ghost use Rattle.disp_structs.specs.Values.{isArrive, arriving};
+ghost use Rattle.disp_structs.specs.Values.{isArrive};
 ghost use Rattle.image.specs.Image.{nodeAt};
 ghost use Rattle.free_path.specs.Base.{walkFrom};
-ghost use Rattle.free_path.specs.Columns.{answer, linkAt};
-ghost use Rattle.free_path.specs.LinkOptType.{linksOnPath, contains, linkIdxPath};
+ghost use Rattle.free_path.specs.Columns.{answer};
+ghost use Rattle.free_path.specs.LinkOptType.{linksOnPath, contains};
 ghost use Rattle.update_definition.specs.Moves.{notFake};
 ghost use Rattle.update_definition.specs.Update.{apart, savePoint};
-ghost use Rattle.search.specs.Read.{pathOf, Marked};
-
-// ---- link_idx_path
-
-// An entry of link_idx_path.
-fn arrive_link(img: &[u8], i: u32) -> LinkIdx
-    ensures { λ r. ⌜ r ≡ arriving (nodeAt (now (img .entry)) i) ⌝ }
-{
-    let e = codec::node_link_event(img, i);
-    let t = e.est_type;
-    if events::is_arrive(t) {
-        return e.link_idx;
-    }
-    LinkIdx(0)
-}
-
-// link_idx_path of the n nodes of the path, without its ending sentinel.
-pub fn link_path(img: &[u8], n: u32, col: &mut [u32])
-    requires { ⌜ n ≤ length (now col) ⌝ }
-    ensures { λ _. ⌜ listed n (linkAt (now (col .exit))) ≡ linkIdxPath (pathOf (now (img .entry)) n) ⌝ }
-{
-    let mut i: u32 = 0;
-    while i < n {
-        let l = arrive_link(img, i);
-        col[i as usize] = l.0;
-        i += 1;
-    }
-}
-
-// ---- is_on_path
-
-// is_on_path of the n nodes of the path, whatever the flags were.
-pub fn mark_path(img: &[u8], n: u32, on: &mut [u8])
-    requires { ⌜ ((i : ℕ) → i < n → nodeAt (now img) i .«est_idx» .0 < length (now on)) ⌝ }
-    ensures { λ _. ⌜ Marked (now (on .exit)) (pathOf (now (img .entry)) n) ⌝ }
-{
-    codec::zero_all(on);
-    let mut i: u32 = 0;
-    while i < n {
-        let e = codec::node_est_idx(img, i);
-        on[e.0 as usize] = 1;
-        i += 1;
-    }
-}
+ghost use Rattle.search.specs.Read.{pathOf};
 
 // ---- links_on_path
 

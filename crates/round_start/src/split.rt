@@ -4,14 +4,12 @@ use free_path::link_opt_type;
 use free_path::link_opt_type::LinkOptType;
 use search::Index;
 ghost use mathlib.Core.Path.{_≡_};
-ghost use mathlib.Core.Bool.{cond};
 ghost use Rattle.disp_structs.specs.Listed.{listed};
-ghost use Rattle.free_path.specs.Base.{ok};
 ghost use Rattle.free_path.specs.Columns.{answer, linkAt};
-ghost use Rattle.free_path.specs.LinkOptType.{linksOnPath, contains};
 ghost use Rattle.update_definition.specs.Update as Update;
-ghost use Rattle.update_definition.specs.Update.{apart, searchBegin};
+ghost use Rattle.update_definition.specs.Update.{searchBegin};
 ghost use Rattle.search.specs.Read.{pathOf};
+ghost use Rattle.round_start.specs.Start.{splitAt};
 
 // Where the intersection search begins.
 fn search_begin(split: usize, free: usize, sentinel: usize) -> usize
@@ -63,7 +61,7 @@ pub fn split_point(
     split: usize,
     sentinel: usize,
 ) -> Index
-    ensures { λ x. ⌜ answer (x .code) (x .index) ≡ cond (apart class (contains (linksOnPath (pathOf (now (img .entry)) n)))) (ok sentinel) (Update.meeting class (now (occ .entry)) (listed n (linkAt (now (col .entry)))) free split sentinel) ⌝ }
+    ensures { λ x. ⌜ answer (x .code) (x .index) ≡ splitAt class (pathOf (now (img .entry)) n) (listed n (linkAt (now (col .entry)))) (now (occ .entry)) free split sentinel ⌝ }
 {
     if path::is_apart(class, img, n) {
         return Index {

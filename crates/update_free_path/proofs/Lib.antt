@@ -1,3 +1,4 @@
+pub mod PathLaws
 pub mod AnswerLaws
 pub mod RoundsLaws
 pub mod StartLaws

@@ -1,7 +1,7 @@
 -- The loop over rounds by how each round ends, and what it keeps of the train in the image. Assumes nothing.
 use mathlib.Core.Path.{_≡_, refl, sym, ap, _∙_}
 use mathlib.Core.Bool.{Bool, true, false, cond, _&&_, false≢true}
-use mathlib.Core.List.{List, [], _∷_}
+use mathlib.Core.List.{List, []}
 use Prim.Native.Nat.{ℕ, zero, suc, _+_, _-_, _≤_, _<_}
 use native.Mathlib.Omega.{arith}
 use lib.Dec.{ltb}
@@ -32,6 +32,7 @@ use Rattle.update_laws.specs.AfterRound.{StaysAccepted, NextRound}
 use Rattle.search.specs.Read.{pathOf, Marked}
 use Rattle.splice.specs.Read.{trainOf, Kept}
 use Rattle.splice.proofs.NodeLaws.{kept-count, kept-then}
+use Rattle.update_laws.proofs.TallyBounds.{count-few}
 use Rattle.round_start.proofs.StrayLaws.{linked-accepted, count-strays}
 use Rattle.round.specs.Rounds as Rounds
 use Rattle.round.specs.Rounds.{givenOf, endBy, endedOf, isAtEnd}
@@ -91,15 +92,6 @@ module _ (g : Update.Given) (was : Train) (w : Update.Between) where
   rounds-limit d = rw d
 
 -- ---- strays
-
-count-few : {A : Type 0} (p : A → Bool) (xs : List A) → count p xs ≤ length xs
-unfolding count
-count-few p [] = omega arith
-count-few p (x ∷ xs) = let h = count-few p xs in go (p x) h
-  where
-    go : (t : Bool) → count p xs ≤ length xs → cond t 1 0 + count p xs ≤ suc (length xs)
-    go true h = omega arith
-    go false h = omega arith
 
 pub strays-few : {A : Type 0} (p : A → Bool) (n : ℕ) (f : ℕ → A) (i : ℕ) → count p (drop i (listed n f)) ≤ n
 strays-few p n f i = omega (arith, count-few p (drop i (listed n f)), length-drop i (listed n f), listed-length n f)

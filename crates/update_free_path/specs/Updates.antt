@@ -92,6 +92,18 @@ stopRefused Stops.Ended = false
 abbrev pub Named : Stop → Res ℕ → Type 0
 Named s f = (r : Refusal) → statusBy s f ≡ Update.Refused r → r .number < 65536
 
+-- the rounds have ended with r: a refusal has room in its field, no fault is counted, and unless it is refused the image has the counts of its copy
+abbrev pub AnswerFits : (image img occ : List ℕ) (r : Ran) → Type 0
+AnswerFits image img occ r =
+    Named (r .stop) (errorsOf img occ (r .header))
+    × (r .tally .faults ≡ 0)
+    × (stopRefused (r .stop) ≡ false → (estCount image ≡ estCount img) × (divergeRoom image ≡ divergeRoom img))
+
+-- x and the image that is left are the update's, was being the train before it
+abbrev pub Answers : (image img occ dt dn : List ℕ) (r : Ran) (x : Updated) (image₁ : List ℕ) → Type 0
+Answers image img occ dt dn r x image₁ =
+    (was : Train) → updatedOf x image₁ ≡ storedAnswer (ranBy (r .stop) (errorsOf img occ (r .header)) (r .tally) was (trainOf img dt dn (r .header))) image
+
 -- ---- the loop over rounds
 
 abbrev pub betweenOf : List ℕ → List ℕ → List ℕ → Between → Update.Between

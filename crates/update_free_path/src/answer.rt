@@ -12,15 +12,14 @@ ghost use mathlib.Core.Path.{_≡_};
 ghost use mathlib.Core.Bool.{false};
 ghost use mathlib.Core.List.{List};
 ghost use Prim.Native.Nat.{ℕ, _<_};
-ghost use Rattle.disp_structs.specs.Train.{Train};
 ghost use Rattle.image.specs.Image.{estCount, divergeRoom};
 ghost use Rattle.free_path.specs.Columns as Columns;
 ghost use Rattle.link_rules.specs.Refusals as Refusals;
 ghost use Rattle.link_rules.specs.declared.refusal.Refusal.{Refusal};
 ghost use Rattle.update_definition.specs.Update as Update;
-ghost use Rattle.update_definition.specs.UpdateImage.{leftImage, storedAnswer, refusedAnswer};
+ghost use Rattle.update_definition.specs.UpdateImage.{leftImage, refusedAnswer};
 ghost use Rattle.splice.specs.Read.{trainOf};
-ghost use Rattle.update_free_path.specs.Updates.{statusOf, updatedOf, isRefusal, errorsOf, judgedBy, statusBy, ranBy, stopRefused, Named};
+ghost use Rattle.update_free_path.specs.Updates.{statusOf, updatedOf, isRefusal, errorsOf, judgedBy, statusBy, Named, AnswerFits, Answers};
 
 pub enum Status {
     Success,
@@ -122,8 +121,8 @@ pub(crate) fn answered(
     dt: &[u32],
     dn: &[u32],
 ) -> Updated
-    requires { ⌜ Named (r .stop) (errorsOf (now img) (now occ) (r .header)) × (r .tally .faults ≡ 0) × (stopRefused (r .stop) ≡ false → (estCount (now image) ≡ estCount (now img)) × (divergeRoom (now image) ≡ divergeRoom (now img))) ⌝ }
-    ensures { λ x. ⌜ ((was : Train) → updatedOf x (now (image .exit)) ≡ storedAnswer (ranBy (r .stop) (errorsOf (now (img .entry)) (now (occ .entry)) (r .header)) (r .tally) was (trainOf (now (img .entry)) (now (dt .entry)) (now (dn .entry)) (r .header))) (now (image .entry))) ⌝ }
+    requires { ⌜ AnswerFits (now image) (now img) (now occ) r ⌝ }
+    ensures { λ x. ⌜ Answers (now (image .entry)) (now (img .entry)) (now (occ .entry)) (now (dt .entry)) (now (dn .entry)) r x (now (image .exit)) ⌝ }
 {
     let stop = r.stop;
     let h = r.header;

@@ -2,6 +2,7 @@
 // Every function here is proved, the crate assumes nothing of its own, and no public function has a `requires`.
 pub mod answer;
 pub mod call;
+mod path;
 pub mod rounds;
 pub mod start;
 

@@ -1,11 +1,11 @@
 // The loop over rounds (free_path.rs 278-635).
+use crate::path;
 use free_path::strays;
 use image::codec::PathHeader;
 use round::End;
 use round::Given;
 use round::RoundEnd;
 use round::splitting;
-use round_start::path;
 use tally;
 use tally::Tally;
 ghost use mathlib.Core.Path.{_≡_};

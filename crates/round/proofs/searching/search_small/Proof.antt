@@ -33,18 +33,19 @@ slice-aggregate-search-round-6 c = search needs
 search-round-requires : tie.Need-search-round-requires
 search-round-requires c κs =
     let a = c .before .before .before .before .before .before .before .before .before .before .before .before .before .before .args in
-    let g = c .before .before .before .before .before .before .before .before .before .before .before .before .before .before .pre in (
+    let s = c .before .before .before .before .before .before .before .before .before .before .before .before .before .before .pre in
+    let g = s .0 in (
       g .0,
       record {
         buffer = refl;
-        enough = omega (arith, g .4, length-replicate {A = ℕ} 2112 0);
+        enough = omega (arith, s .1, length-replicate {A = ℕ} 2112 0);
         trains = g .1;
         nodes = g .2;
         pooled = length-replicate {A = ℕ} 2048 0;
-        first = omega (arith, g .4, length-replicate {A = ℕ} 64 0);
-        last = omega (arith, g .4, length-replicate {A = ℕ} 64 0);
-        newTrains = omega (arith, g .5, length-replicate {A = ℕ} 64 0);
-        newNodes = omega (arith, g .5, length-replicate {A = ℕ} 64 0);
+        first = omega (arith, s .1, length-replicate {A = ℕ} 64 0);
+        last = omega (arith, s .1, length-replicate {A = ℕ} 64 0);
+        newTrains = omega (arith, s .2, length-replicate {A = ℕ} 64 0);
+        newNodes = omega (arith, s .2, length-replicate {A = ℕ} 64 0);
       },
       record {
         numbers = g .3 .numbers;

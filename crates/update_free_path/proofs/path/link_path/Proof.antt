@@ -6,10 +6,10 @@ use lib.ListN.{length}
 use Rattle.link_rules.specs.declared.link_idx.LinkIdx.{LinkIdx}
 use Rattle.disp_structs.specs.Values.{arriving}
 use Rattle.image.specs.Image.{nodeAt}
-use Rattle.round_start.proofs.PathLaws.{Filled, fill-turn, column-links}
+use Rattle.update_free_path.proofs.PathLaws.{Filled, fill-turn, column-links}
 use borrow.Author.Needs.{needs}
-use Rattle.round_start.proofs.path.link_path.Statement.{statement}
-use Rattle.round_start.proofs.path.link_path.Tie as tie
+use Rattle.update_free_path.proofs.path.link_path.Statement.{statement}
+use Rattle.update_free_path.proofs.path.link_path.Tie as tie
 
 abbrev Inv-loop : tie.InvT-loop
 Inv-loop img n col₀ i₀ col i = (length col ≡ length col₀) × (i ≤ n) × Filled i (λ j. arriving (nodeAt img j) .0) col

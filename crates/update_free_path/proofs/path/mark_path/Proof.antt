@@ -5,10 +5,10 @@ use native.Mathlib.Omega.{arith}
 use lib.ListN.{length, length-replicate}
 use Rattle.disp_structs.specs.declared.EstIdx.{EstIdx}
 use Rattle.search.specs.Read.{pathOf, Marked}
-use Rattle.round_start.proofs.PathLaws.{mark-none, mark-turn}
+use Rattle.update_free_path.proofs.PathLaws.{mark-none, mark-turn}
 use borrow.Author.Needs.{needs}
-use Rattle.round_start.proofs.path.mark_path.Statement.{statement}
-use Rattle.round_start.proofs.path.mark_path.Tie as tie
+use Rattle.update_free_path.proofs.path.mark_path.Statement.{statement}
+use Rattle.update_free_path.proofs.path.mark_path.Tie as tie
 
 abbrev Inv-loop : tie.InvT-loop
 Inv-loop img n on₀ i₀ on i = (length on ≡ length on₀) × (i ≤ n) × Marked on (pathOf img i)

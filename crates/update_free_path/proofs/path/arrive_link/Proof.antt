@@ -1,10 +1,10 @@
 use mathlib.Core.Path.{sym, _∙_}
 use denote.Ref.{now}
 use Rattle.image.specs.Image.{nodeAt}
-use Rattle.round_start.proofs.PathLaws.{arriving-some, arriving-none}
+use Rattle.update_free_path.proofs.PathLaws.{arriving-some, arriving-none}
 use borrow.Author.Needs.{needs}
-use Rattle.round_start.proofs.path.arrive_link.Statement.{statement}
-use Rattle.round_start.proofs.path.arrive_link.Tie as tie
+use Rattle.update_free_path.proofs.path.arrive_link.Statement.{statement}
+use Rattle.update_free_path.proofs.path.arrive_link.Tie as tie
 
 node-link-event-requires : tie.Need-node-link-event-requires
 node-link-event-requires c κs = search needs

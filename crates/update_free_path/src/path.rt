@@ -1,0 +1,56 @@
+// link_idx_path of a path in a column, and is_on_path in flags: the image has neither.
+use disp_structs::events;
+use image::codec;
+use link_rules::link_idx::LinkIdx;
+ghost use mathlib.Core.Path.{_≡_};
+ghost use Prim.Native.Nat.{ℕ, _<_, _≤_};
+ghost use lib.ListN.{length};
+ghost use Rattle.disp_structs.specs.Listed.{listed};
+ghost use Rattle.disp_structs.specs.Values.{arriving};
+ghost use Rattle.image.specs.Image.{nodeAt};
+ghost use Rattle.free_path.specs.Columns.{linkAt};
+ghost use Rattle.free_path.specs.LinkOptType.{linkIdxPath};
+ghost use Rattle.search.specs.Read.{pathOf, Marked};
+
+// ---- link_idx_path
+
+// An entry of link_idx_path.
+fn arrive_link(img: &[u8], i: u32) -> LinkIdx
+    ensures { λ r. ⌜ r ≡ arriving (nodeAt (now (img .entry)) i) ⌝ }
+{
+    let e = codec::node_link_event(img, i);
+    let t = e.est_type;
+    if events::is_arrive(t) {
+        return e.link_idx;
+    }
+    LinkIdx(0)
+}
+
+// link_idx_path of the n nodes of the path, without its ending sentinel.
+pub(crate) fn link_path(img: &[u8], n: u32, col: &mut [u32])
+    requires { ⌜ n ≤ length (now col) ⌝ }
+    ensures { λ _. ⌜ listed n (linkAt (now (col .exit))) ≡ linkIdxPath (pathOf (now (img .entry)) n) ⌝ }
+{
+    let mut i: u32 = 0;
+    while i < n {
+        let l = arrive_link(img, i);
+        col[i as usize] = l.0;
+        i += 1;
+    }
+}
+
+// ---- is_on_path
+
+// is_on_path of the n nodes of the path, whatever the flags were.
+pub(crate) fn mark_path(img: &[u8], n: u32, on: &mut [u8])
+    requires { ⌜ ((i : ℕ) → i < n → nodeAt (now img) i .«est_idx» .0 < length (now on)) ⌝ }
+    ensures { λ _. ⌜ Marked (now (on .exit)) (pathOf (now (img .entry)) n) ⌝ }
+{
+    codec::zero_all(on);
+    let mut i: u32 = 0;
+    while i < n {
+        let e = codec::node_est_idx(img, i);
+        on[e.0 as usize] = 1;
+        i += 1;
+    }
+}
