@@ -54,6 +54,17 @@ unfoldable pub searchFrom : ℕ → Round → Search → Res Ended
 searchFrom zero r s = no 13
 searchFrom (suc k) r s = searchStep r s >>= λ t. elim t [ goOn u ↦ searchFrom k r u | ends e ↦ ok e ]
 
+-- what f counts from the search on with which a turn goes on; a refused turn, or one that ends the round, has none after it
+abbrev pub stepsAfter : (Search → ℕ) → Res Turn → ℕ
+stepsAfter f (no n) = 0
+stepsAfter f (ok (goOn u)) = f u
+stepsAfter f (ok (ends e)) = 0
+
+-- the entries into the loop (345) in so many turns: each counts before its turn is made
+unfoldable pub stepsFrom : ℕ → Round → Search → ℕ
+stepsFrom zero r s = 0
+stepsFrom (suc k) r s = suc (stepsAfter (λ u. stepsFrom k r u) (searchStep r s))
+
 -- more turns than the search of an accepted train has
 abbrev pub turnLimit : Train → ℕ
 turnLimit t = 3 * length (t .«est_times») + 1
@@ -175,6 +186,15 @@ endFrom g t (searches b) = begunSearch g t b
 -- 279-633
 unfoldable pub roundOf : Given → Train → ℕ → ℕ → Res Ended
 roundOf g t split divSplit = beginOf g t split divSplit >>= endFrom g t
+
+-- the entries into the loop of a round; one that ends before it (296, 309, 338) has none
+abbrev pub stepsIn : Given → Train → Res Entry → ℕ
+stepsIn g t (no n) = 0
+stepsIn g t (ok pathEnds) = 0
+stepsIn g t (ok (searches b)) = stepsFrom (turnLimit t) (roundAt g t (b .node) (b .«idx_split»)) (searchAt t (b .«idx_split») (b .«div_idx_split») (b .«idx_save»))
+
+unfoldable pub roundSteps : Given → Train → ℕ → ℕ → ℕ
+roundSteps g t split divSplit = stepsIn g t (beginOf g t split divSplit)
 
 -- ---- the answer
 

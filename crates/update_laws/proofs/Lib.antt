@@ -39,6 +39,7 @@ pub mod Updates
 pub mod TopNever
 pub mod Tops
 pub mod TallyBounds
+pub mod Steps
 pub mod Examples
 pub mod PathReads
 pub mod BytesAccepted
@@ -48,6 +49,7 @@ pub mod AcceptedBytes
 pub mod UpdateAnswers
 pub mod UpdateLeaves
 pub mod UpdateCounts
+pub mod UpdateSteps
 pub mod ImageRenumbering
 pub mod ImageExamples
 pub mod Sidings

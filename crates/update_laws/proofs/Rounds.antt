@@ -211,6 +211,11 @@ pub record Begun (links : ℕ) (occ : List ℕ) (t : Train) (e : Res Ended) : Ty
   pub asserts : Asserts round search
   pub searched : searchFrom (turnLimit t) round search ≡ e
 
+-- the search that begins there is good, and its asserts hold
+pub record BeginsGood (links : ℕ) (v : Given) (t : Train) (b : Begin) : Type 0 where
+  pub good : Good links (roundAt v t (b .node) (b .«idx_split»)) (searchAt t (b .«idx_split») (b .«div_idx_split») (b .«idx_save»))
+  pub asserts : Asserts (roundAt v t (b .node) (b .«idx_split»)) (searchAt t (b .«idx_split») (b .«div_idx_split») (b .«idx_save»))
+
 module _ (links : ℕ) (v : Given) (t : Train) (g : Accepted links t) where
   pub save-low : (split : ℕ) {k : ℕ} → savePoint (t .«disp_path») (t .«disp_node_idx_fixed») split ≡ ok k → k ≤ length (t .«disp_path»)
   save-low split {k} h = ⊎-elim
@@ -224,10 +229,10 @@ module _ (links : ℕ) (v : Given) (t : Train) (g : Accepted links t) where
   ends-not : {b : Begin} {B : Type 0} → _≡_ {A = Res Entry} (ok pathEnds) (ok (searches b)) → B
   ends-not h = let z : _≡_ {A = ℕ} 0 1 = cc in absurd (omega arith)
 
-  -- the search that is found at a split point, however it ends
-  begins-at : (split divSplit : ℕ) (z : Sentinels) (b : Begin) (x : Res Ended) → 1 ≤ split → beginAt t split divSplit z ≡ ok (searches b) → begunSearch v t b ≡ x → Begun links (v .«links_blocked») t x
+  -- the search that is found at a split point
+  begins-at : (split divSplit : ℕ) (z : Sentinels) (b : Begin) → 1 ≤ split → beginAt t split divSplit z ≡ ok (searches b) → BeginsGood links v t b
   unfolding beginAt
-  begins-at split divSplit z y x l h q =
+  begins-at split divSplit z y l h =
       let n = bind-ok (at (t .«disp_path») split) h in
       let d = bind-ok (divPoint (t .«div_nodes») split divSplit z) (n .2) in
       let a = bind-ok (before (t .«div_nodes») (d .0)) (d .2) in
@@ -235,33 +240,43 @@ module _ (links : ℕ) (v : Given) (t : Train) (g : Accepted links t) where
       let b = bind-ok (at (t .«div_nodes») (d .0)) (u .1) in
       let o = need-ok (ltb split (b .0 .«disp_node_idx»)) (b .2) in
       let s = bind-ok (savePoint (t .«disp_path») (t .«disp_node_idx_fixed») split) (o .1) in
-      record {
-        round = roundAt v t (n .0) split;
-        search = searchAt t split (d .0) (s .0);
-        train-is = refl;
-        occ-is = refl;
-        new-is = refl;
-        divs-is = refl;
-        pool-is = refl;
+      subst (λ (y : Begin). BeginsGood links v t y) (begin-same (s .2))
+      (record {
         good = start-good links (roundAt v t (n .0) split) g split (d .0) (s .0) l (at-below (t .«disp_path») split (n .1)) (before-ok (t .«div_nodes») (d .0) (a .1) .0) (at-below (t .«div_nodes») (d .0) (b .1))
             (λ x q. subst (λ (y : DivergeNode). y .«disp_node_idx» ≤ split) (ok-same (sym (a .1) ∙ q)) (leb-true (a .0 .«disp_node_idx») split (u .0))) (save-low split (s .1));
         asserts = start-asserts (roundAt v t (n .0) split) split (d .0) (s .0) (omega arith) (λ x y p q.
             let i : a .0 .«disp_node_idx» ≡ x .«disp_node_idx» = ap (λ (m : DivergeNode). m .«disp_node_idx») (ok-same (sym (a .1) ∙ p)) in
             let j : b .0 .«disp_node_idx» ≡ y .«disp_node_idx» = ap (λ (m : DivergeNode). m .«disp_node_idx») (ok-same (sym (b .1) ∙ q)) in
             omega (arith, leb-true (a .0 .«disp_node_idx») split (u .0), ltb-true split (b .0 .«disp_node_idx») (o .0))) (omega arith);
-        searched = ap (begunSearch v t) (begin-same (s .2)) ∙ q;
-      }
+      })
 
-  -- a round that searches, however its search ends
-  pub search-begun : (split divSplit : ℕ) (b : Begin) (x : Res Ended) → 1 ≤ split → 1 ≤ divSplit → beginOf v t split divSplit ≡ ok (searches b) → begunSearch v t b ≡ x → Begun links (v .«links_blocked») t x
+  -- a round that searches begins good
+  pub search-begins : (split divSplit : ℕ) (b : Begin) → 1 ≤ split → 1 ≤ divSplit → beginOf v t split divSplit ≡ ok (searches b) → BeginsGood links v t b
   unfolding beginOf
-  search-begun split divSplit b x l m h q =
+  search-begins split divSplit b l m h =
       let z = bind-ok (calcIdxSentinels divSplit (v .«train_idx_moved») (t .«div_nodes»)) h in
       let i = bind-ok (splitPoint v t split (z .0 .node)) (z .2) in
       let low = split-low v t split (z .0 .node) l (sentinel-low (length (t .«disp_path»)) (t .divergeRoom) divSplit (v .«train_idx_moved») (t .«div_nodes») (g .divs) (g .path .some) m (z .1)) (i .1) in ⊎-elim
       (λ c. ends-not (c .1))
-      (λ c. begins-at (i .0) divSplit (z .0) b x low (c .1) q)
+      (λ c. begins-at (i .0) divSplit (z .0) b low (c .1))
       (cond-cases (leb (length (t .«disp_path»)) (i .0)) (i .2))
+
+  -- and however its search ends
+  pub search-begun : (split divSplit : ℕ) (b : Begin) (x : Res Ended) → 1 ≤ split → 1 ≤ divSplit → beginOf v t split divSplit ≡ ok (searches b) → begunSearch v t b ≡ x → Begun links (v .«links_blocked») t x
+  search-begun split divSplit b x l m h q =
+      let w = search-begins split divSplit b l m h in
+      record {
+        round = roundAt v t (b .node) (b .«idx_split»);
+        search = searchAt t (b .«idx_split») (b .«div_idx_split») (b .«idx_save»);
+        train-is = refl;
+        occ-is = refl;
+        new-is = refl;
+        divs-is = refl;
+        pool-is = refl;
+        good = w .good;
+        asserts = w .asserts;
+        searched = q;
+      }
 
   begun-good : {e : Ended} → Begun links (v .«links_blocked») t (ok e) → EndsGood links t e
   begun-good {e} w = go (w .round) (w .search) (w .train-is) (w .good) (w .searched)
