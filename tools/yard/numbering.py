@@ -128,11 +128,11 @@ def renumbered_image(part, numbering):
 
 
 def renumbered_call(call, numbering):
-    """A mark's link and train; the slot of any other call but a report."""
+    """A mark's link and train; the slot of any other call that has one."""
     kind, line, *given = call
     if kind == "mark":
         return (kind, line, numbering.link(given[0]), numbering.train(given[1]))
-    if kind == "report" or not 1 <= given[0] <= numbering.slots:
+    if kind == "report" or not given or not 1 <= given[0] <= numbering.slots:
         return call
     return (kind, line, numbering.train(given[0]), *given[1:])
 

@@ -18,6 +18,10 @@ pub const YARD_OFFSET: usize = 4;
 /// The row of a slot in a report.
 pub const REPORT_RECORD: usize = 16;
 
+/// The words of an update's answer, and of a check's.
+pub const UPDATE_WORDS: usize = 5;
+pub const CHECK_WORDS: usize = 3;
+
 /// A bundle before its occupancy, and the longest bundle.
 pub const BUNDLE_HEADER: usize = 32;
 pub const MAX_BUNDLE: usize = 65_536;

@@ -183,27 +183,29 @@ pub enum Status {
     Faulty(u64),
 }
 
-/// An update: its status or its refusal, the rounds entered and the strays counted.
+/// An update: its status or its refusal, the rounds entered, the strays counted and the steps of the search.
 #[derive(Clone, Copy, Debug, PartialEq, Eq)]
 pub struct Updated {
     pub status: Result<Status, Refusal>,
     pub rounds: u16,
     pub strays: u64,
+    /// Entries into the search loop over all rounds, the refused one too.
+    pub steps: u64,
 }
 
 /// Updates the free path of the train of an image.
 pub fn update(image: &mut [u8], m: Move) -> Updated {
-    let mut words = [0; 4];
+    let mut words = [0; layout::UPDATE_WORDS];
     let status = update_into(image, m, &mut words).map(|()| match words[0] {
         4 => Status::Blocked,
         5 => Status::Faulty(words[1]),
         _ => Status::Success,
     });
-    Updated { status, rounds: words[2] as u16, strays: words[3] }
+    Updated { status, rounds: words[2] as u16, strays: words[3], steps: words[4] }
 }
 
-/// [`update`] with its answer in words, as many as there is room for: the code, the errors, the rounds and the strays, of a
-/// refused update too.
+/// [`update`] with its answer in words, as many as there is room for: the code, the errors, the rounds, the strays and the
+/// steps, of a refused update too.
 pub fn update_into(image: &mut [u8], m: Move, answer: &mut [u64]) -> Result<(), Refusal> {
     // SAFETY: each pointer goes with its own length, and the function keeps to them.
     Refusal::of(unsafe {
@@ -292,7 +294,7 @@ pub enum Checked {
 
 /// Checks every slot of a yard from `begin` on. `report` has [`layout::REPORT_RECORD`] bytes for each slot; [`rows`] reads it.
 pub fn check(yard: &mut [u8], m: Move, begin: u16, report: &mut [u8]) -> Result<Checked, Refusal> {
-    let mut words = [0; 3];
+    let mut words = [0; layout::CHECK_WORDS];
     check_into(yard, m, begin, report, &mut words)?;
     Ok(match words[0] {
         0 => Checked::Done { deadlock: words[1] != 0, next: words[2] as u16 },
@@ -342,4 +344,20 @@ pub fn sheet_into(bundle: &[u8], text: &mut [u8]) -> usize {
 pub fn page(image: &[u8], page: &mut [u8]) -> Result<(), Refusal> {
     // SAFETY: each pointer goes with its own length, and the function keeps to them.
     Refusal::of(unsafe { raw::lavtoeu_page(image.as_ptr(), image.len(), page.as_mut_ptr(), page.len()) })
+}
+
+/// The most search steps of a round of an image's train: 3 E + 1. Refused by 6 to 9 over 4,000 links.
+pub fn ceiling(image: &[u8]) -> Result<u64, Refusal> {
+    let mut words = [0];
+    // SAFETY: each pointer goes with its own length, and the function keeps to them.
+    Refusal::of(unsafe { raw::lavtoeu_ceiling(image.as_ptr(), image.len(), words.as_mut_ptr(), words.len()) })?;
+    Ok(words[0])
+}
+
+/// The most search steps of a check of a yard: the ceiling of each slot times the round limit, a refused image adding 0.
+pub fn yard_ceiling(yard: &[u8], limit: u16) -> Result<u64, Refusal> {
+    let mut words = [0];
+    // SAFETY: each pointer goes with its own length, and the function keeps to them.
+    Refusal::of(unsafe { raw::lavtoeu_yard_ceiling(yard.as_ptr(), yard.len(), limit, words.as_mut_ptr(), words.len()) })?;
+    Ok(words[0])
 }

@@ -46,5 +46,7 @@ extern "C" {
         answer: *mut u64,
         answer_len: usize,
     ) -> u32;
+    pub fn lavtoeu_ceiling(image: *const u8, image_len: usize, answer: *mut u64, answer_len: usize) -> u32;
+    pub fn lavtoeu_yard_ceiling(yard: *const u8, yard_len: usize, limit: u16, answer: *mut u64, answer_len: usize) -> u32;
     pub fn lavtoeu_page(image: *const u8, image_len: usize, page: *mut u8, page_len: usize) -> u32;
 }

@@ -71,6 +71,36 @@ fn the_image_is_judged_before_its_profile() {
 }
 
 #[test]
+fn a_ceiling_is_three_steps_for_each_est_record_and_one() {
+    let image = laid_out(1, 4);
+    assert_eq!(ceiling(&image), Ok(16));
+    assert_eq!(ceiling(&with_float(&image, 64 + 32, f64::NAN)), Err(Refusal { number: 7, place: 1 }));
+    assert_eq!(ceiling(&[]), Err(Refusal { number: 6, place: 0 }));
+}
+
+#[test]
+fn a_yards_ceiling_is_the_sum_of_its_slots_for_every_round() {
+    let mut yard = two_trains();
+    assert_eq!(yard_ceiling(&yard, 1), Ok(32));
+    assert_eq!(yard_ceiling(&yard, u16::MAX), Ok(32 * 65_535));
+    assert_eq!(yard_ceiling(&[], 0), Err(Refusal { number: 5, place: 0 }));
+    assert_eq!(yard_ceiling(&[], 1), Err(Refusal { number: 14, place: 0 }));
+    // A spare byte of the first image: it is refused, and adds nothing.
+    yard[16 + 43] = 1;
+    assert_eq!(yard_ceiling(&yard, 3), Ok(48));
+}
+
+#[test]
+fn the_steps_of_an_update_keep_to_its_ceiling() {
+    for (occupancy, blocking) in [([0, 2, 0, 0], vec![1]), ([0, 2, 2, 0], vec![1, 2]), ([0, 0, 0, 0], vec![1])] {
+        let image = laid_out(1, 4);
+        let updated = update(&mut image.clone(), Move { occupancy: &occupancy, blocking: &blocking, ..MOVE });
+        assert!(updated.steps > 0);
+        assert!(updated.steps <= ceiling(&image).unwrap() * u64::from(updated.rounds));
+    }
+}
+
+#[test]
 fn a_refused_layout_leaves_the_buffer() {
     let mut image = vec![0xaa; image_size(5, 4)];
     let refusal = lay_out(&siding(), order(0, 4), &mut image).unwrap_err();
@@ -81,7 +111,7 @@ fn a_refused_layout_leaves_the_buffer() {
 #[test]
 fn an_update_takes_the_siding() {
     let mut image = laid_out(1, 4);
-    assert_eq!(update(&mut image, MOVE), Updated { status: Ok(Status::Success), rounds: 2, strays: 0 });
+    assert_eq!(update(&mut image, MOVE), Updated { status: Ok(Status::Success), rounds: 2, strays: 0, steps: 3 });
     assert_eq!(path(&image), [0, 2, 3, 4]);
     assert_eq!(judge(&image, 4), Ok(()));
 }
@@ -90,18 +120,18 @@ fn an_update_takes_the_siding() {
 fn a_blocked_update_keeps_its_path() {
     let mut image = laid_out(1, 4);
     let m = Move { occupancy: &[0, 2, 2, 0], blocking: &[1, 2], ..MOVE };
-    assert_eq!(update(&mut image, m), Updated { status: Ok(Status::Blocked), rounds: 1, strays: 0 });
+    assert_eq!(update(&mut image, m), Updated { status: Ok(Status::Blocked), rounds: 1, strays: 0, steps: 3 });
     assert_eq!(path(&image), [0, 1, 4]);
 }
 
 #[test]
 fn refused_updates_leave_the_image_and_say_how_far_they_came() {
-    for (room, limit, number, rounds) in [(2, 5, 11, 1), (4, 1, 12, 1), (4, 0, 5, 0)] {
+    for (room, limit, number, rounds, steps) in [(2, 5, 11, 1, 3), (4, 1, 12, 1, 3), (4, 0, 5, 0, 0)] {
         let mut image = laid_out(1, room);
         let before = image.clone();
         let m = Move { limit, ..MOVE };
         let status = Err(Refusal { number, place: 0 });
-        assert_eq!(update(&mut image, m), Updated { status, rounds, strays: 0 });
+        assert_eq!(update(&mut image, m), Updated { status, rounds, strays: 0, steps });
         assert_eq!(image, before);
     }
 }

@@ -43,6 +43,8 @@ fn header_and_crate_have_the_same_sizes() {
         ("YARD_HEADER", YARD_HEADER),
         ("YARD_OFFSET", YARD_OFFSET),
         ("REPORT_RECORD", REPORT_RECORD),
+        ("UPDATE_WORDS", UPDATE_WORDS),
+        ("CHECK_WORDS", CHECK_WORDS),
         ("BUNDLE_HEADER", BUNDLE_HEADER),
         ("SHEET_ROOM", SHEET_ROOM),
         ("PAGE_LINE", PAGE_LINE),

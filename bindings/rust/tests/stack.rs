@@ -96,7 +96,7 @@ fn occupancy() -> Vec<u16> {
 }
 
 /// The calls with the stack that each may take, as bindings/README.md has it.
-const BOUNDS: [(&str, usize); 9] = [
+const BOUNDS: [(&str, usize); 11] = [
     ("version", 1 << 10),
     ("mark", 1 << 10),
     ("judge", 20 << 10),
@@ -106,10 +106,12 @@ const BOUNDS: [(&str, usize); 9] = [
     ("sheet", 320 << 10),
     ("page", 20 << 10),
     ("profile", 20 << 10),
+    ("ceiling", 20 << 10),
+    ("yard_ceiling", 20 << 10),
 ];
 
 /// The stack of each call of `BOUNDS` over images that `image` makes of a train's number.
-fn stacks(image: fn(u16) -> Vec<u8>, m: Move) -> [usize; 9] {
+fn stacks(image: fn(u16) -> Vec<u8>, m: Move) -> [usize; 11] {
     let (one, mut spare) = (image(1), image(1));
     let header = Image::from_bytes(&one).unwrap();
     let est = est_bytes(&header.ests);
@@ -130,13 +132,16 @@ fn stacks(image: fn(u16) -> Vec<u8>, m: Move) -> [usize; 9] {
     let mut lines = vec![0; PAGE_LINE * header.path.len()];
     let (paged, pages) = stack_of(|| page(&one, &mut lines));
     let (profiled, profiles) = stack_of(|| profile(&one));
+    let (most, ceilings) = stack_of(|| ceiling(&one));
+    let (all, yard_ceilings) = stack_of(|| yard_ceiling(&yard, m.limit));
 
     assert_eq!((number, marked, judged, laid), (VERSION, Ok(()), Ok(()), Ok(())));
-    assert_eq!(updated, Updated { status: Ok(Status::Success), rounds: 2, strays: 0 });
+    assert_eq!(updated, Updated { status: Ok(Status::Success), rounds: 2, strays: 0, steps: 3 });
     assert_eq!(checked, Ok(Checked::Done { deadlock: false, next: 1 }));
     assert!(text[..printed].starts_with(b"yard 2 deadlock no next 1\n1 success 2"));
     assert_eq!((paged, profiled), (Ok(()), Ok(())));
-    [versions, marks, judges, lays, updates, checks, sheets, pages, profiles]
+    assert_eq!((most.is_ok(), all.is_ok()), (true, true));
+    [versions, marks, judges, lays, updates, checks, sheets, pages, profiles, ceilings, yard_ceilings]
 }
 
 #[test]

@@ -20,6 +20,10 @@ pub(crate) const PAGE: u32 = 13;
 
 pub(crate) const PROFILE: u32 = 14;
 
+pub(crate) const CEILING: u32 = 15;
+
+pub(crate) const YARD_CEILING: u32 = 16;
+
 // ---- the head: size, operation, tag, line, 8 arguments, 4 lengths of inputs, 8 numbers of the answer, 2 lengths of outputs
 
 pub(crate) fn operation(head: &[u8]) -> u32 {

@@ -15,6 +15,8 @@ mod print;
 mod sheet;
 mod update;
 
+use ceiling;
+use ceiling::StepCeiling;
 use libc::STDERR_FILENO;
 use track_profile;
 
@@ -192,6 +194,12 @@ fn answer(head: &[u8], body: &[u8], sums: bool) -> bool {
     if operation == case::PROFILE {
         return answer_profile(head, body);
     }
+    if operation == case::CEILING {
+        return print_ceiling(ceiling::ceiling(case::first_input(head, body)));
+    }
+    if operation == case::YARD_CEILING {
+        return answer_yard_ceiling(head, body);
+    }
     if operation == case::LIST {
         return list::answer(head, body, sums);
     }
@@ -202,6 +210,23 @@ fn answer(head: &[u8], body: &[u8], sums: bool) -> bool {
 fn answer_profile(head: &[u8], body: &[u8]) -> bool {
     let f = track_profile::profile_fault(case::first_input(head, body));
     if print::fault(f) {
+        return print::end();
+    }
+    false
+}
+
+// The ceiling of a yard. Argument: the round limit.
+fn answer_yard_ceiling(head: &[u8], body: &[u8]) -> bool {
+    let limit = (case::argument(head, 0) % 65536) as u16;
+    print_ceiling(ceiling::yard_ceiling(case::first_input(head, body), limit))
+}
+
+fn print_ceiling(c: StepCeiling) -> bool {
+    let f = c.fault;
+    if f.number == 0 {
+        return print::number_line(b"ceiling ", c.steps);
+    }
+    if print::refused(f) {
         return print::end();
     }
     false

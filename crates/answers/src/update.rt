@@ -55,7 +55,7 @@ fn answer_by(
     if sums {
         return print_left(head, body, x, image);
     }
-    print::end()
+    print_steps(x)
 }
 
 fn print_status(x: Updated) -> bool {
@@ -68,12 +68,26 @@ fn print_status(x: Updated) -> bool {
     }
 }
 
+// A refused update has no more to say.
+fn print_steps(x: Updated) -> bool {
+    let status = x.status;
+    match status {
+        Status::Success => print::number_line(b" steps ", x.tally.steps),
+        Status::Blocked => print::number_line(b" steps ", x.tally.steps),
+        Status::Faulty(n) => print::number_line(b" steps ", x.tally.steps),
+        Status::Refused(r) => print::end(),
+    }
+}
+
 // What is counted, the image that is left, and what 6 to 9 say of the image that was there.
 fn print_left(head: &[u8], body: &[u8], x: Updated, image: &[u8]) -> bool {
     if !print::number(b" rounds ", x.tally.rounds as u64) {
         return false;
     }
     if !print::number(b" strays ", x.tally.strays) {
+        return false;
+    }
+    if !print::number(b" steps ", x.tally.steps) {
         return false;
     }
     if !print::number(b" image ", print::sum_of(image)) {

@@ -1,5 +1,5 @@
 -- Answers as numbers, for C. Assumes nothing.
-use Prim.Native.Nat.{ℕ, _+_, _*_}
+use Prim.Native.Nat.{ℕ, zero, suc, _+_, _*_}
 use mathlib.Core.Path.{_≡_}
 use mathlib.Core.Bool.{Bool, cond}
 use mathlib.Core.List.{List}
@@ -13,6 +13,7 @@ use Rattle.train_disp.specs.declared.Settings.{Settings}
 use Rattle.update_definition.specs.Update.{Status, Success, Blocked, Faulty, Refused as RefusedBy}
 use Rattle.update_definition.specs.UpdateImage.{UpdatedImage}
 use Rattle.yard_check.specs.Check as Check
+use Rattle.ceiling.specs.declared.StepCeiling.{StepCeiling}
 
 -- 0 where there is no fault, else document 01's number, with the place in the upper 16 bits
 abbrev pub faultWord : Refusal → ℕ
@@ -60,15 +61,27 @@ errorsOf Blocked = 0
 errorsOf (Faulty n) = n
 errorsOf (RefusedBy r) = 0
 
--- code, errors, rounds and strays in the first four words; a word past the end stays out
+-- code, errors, rounds, strays and search steps in the first five words; a word past the end stays out
 abbrev pub updateWords : UpdatedImage → List ℕ → List ℕ
-updateWords u ws = set (set (set (set ws 0 (codeOf (u .answer .status))) 1 (errorsOf (u .answer .status))) 2 (u .answer .tally .rounds)) 3 (u .answer .tally .strays)
+updateWords u ws = set (set (set (set (set ws 0 (codeOf (u .answer .status))) 1 (errorsOf (u .answer .status))) 2 (u .answer .tally .rounds)) 3 (u .answer .tally .strays)) 4 (u .answer .tally .steps)
 
 -- the update u as C sees it: the number that is returned, the image and the words that are left
 pub record Told (u : UpdatedImage) (r : ℕ) (image ws₀ ws : List ℕ) : Type 0 where
   pub word : r ≡ statusWord (u .answer .status)
   pub bytes : image ≡ u .image
   pub words : ws ≡ updateWords u ws₀
+
+-- ---- a ceiling
+
+-- the first word; a refused call leaves the words as they were
+abbrev pub ceilingWords : ℕ → ℕ → List ℕ → List ℕ
+ceilingWords zero steps ws = set ws 0 steps
+ceilingWords (suc n) steps ws = ws
+
+-- a ceiling as C sees it: the number that is returned, and the words that are left
+pub record ToldCeiling (c : StepCeiling) (r : ℕ) (ws₀ ws : List ℕ) : Type 0 where
+  pub word : r ≡ faultWord (c .fault)
+  pub words : ws ≡ ceilingWords (c .fault .number) (c .steps) ws₀
 
 -- ---- a check
 

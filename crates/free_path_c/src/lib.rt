@@ -6,6 +6,7 @@ ghost use mathlib.Core.Path.{_≡_};
 ghost use Rattle.link_rules.specs.AdvanceRewind.{markOf};
 ghost use Rattle.image_fault.specs.ImageFault.{imageFault};
 ghost use Rattle.track_profile.specs.Profile.{profileFault};
+ghost use Rattle.ceiling.specs.Ceiling.{ceilingOf, yardCeilingOf};
 ghost use Rattle.train_disp.specs.TrainDisp.{laidOut};
 ghost use lib.ListN.{set};
 ghost use Rattle.update_definition.specs.UpdateImage.{updatedImage};
@@ -15,7 +16,9 @@ ghost use Rattle.yard_check.specs.Checks.{answeredOf};
 ghost use Rattle.yard_check.specs.Sheet.{sheetText};
 ghost use Rattle.text.specs.Text.{textOf, written};
 ghost use Rattle.path_page.specs.Page.{drawingRule, pageFault, pageAfter};
-ghost use Rattle.free_path_c.specs.Words.{answerWord, faultWord, settingsOf, flagOf, statusWord, codeOf, errorsOf, Told, checkWord, bitOf, threeWords, checkWords, ToldCheck};
+ghost use Rattle.free_path_c.specs.Words.{answerWord, faultWord, settingsOf, flagOf, statusWord, codeOf, errorsOf, Told, ceilingWords, ToldCeiling, checkWord, bitOf, threeWords, checkWords, ToldCheck};
+use ceiling;
+use ceiling::StepCeiling;
 use disp_structs::Metres;
 use image_fault;
 use link_rules::advance_rewind;
@@ -70,6 +73,38 @@ pub extern "C" fn lavtoeu_profile(image: &[u8]) -> u32
     fault_word(track_profile::profile_fault(image))
 }
 
+// The ceiling of search steps in a round of an update of the image: refused by 6 to 9 over 4,000 links, else the first word of `answer` gets it.
+// Answers as lavtoeu_image_fault does; a refused call leaves `answer`.
+#[no_mangle]
+pub extern "C" fn lavtoeu_ceiling(image: &[u8], answer: &mut [u64]) -> u32
+    ensures { λ r. ⌜ ToldCeiling (ceilingOf (now (image .entry))) r (now (answer .entry)) (now (answer .exit)) ⌝ }
+{
+    let c = ceiling::ceiling(image);
+    put_ceiling(answer, c);
+    fault_word(c.fault)
+}
+
+// The ceiling of search steps in a check of the yard with this round limit: refused by 5 (limit 0), then 14, else the first word of `answer` gets it.
+// Answers as lavtoeu_image_fault does; a refused call leaves `answer`.
+#[no_mangle]
+pub extern "C" fn lavtoeu_yard_ceiling(yard: &[u8], limit: u16, answer: &mut [u64]) -> u32
+    ensures { λ r. ⌜ ToldCeiling (yardCeilingOf (now (yard .entry)) limit) r (now (answer .entry)) (now (answer .exit)) ⌝ }
+{
+    let c = ceiling::yard_ceiling(yard, limit);
+    put_ceiling(answer, c);
+    fault_word(c.fault)
+}
+
+// A refused call leaves the words as they were.
+fn put_ceiling(answer: &mut [u64], c: StepCeiling)
+    ensures { λ _. ⌜ now (answer .exit) ≡ ceilingWords (c .fault .number) (c .steps) (now (answer .entry)) ⌝ }
+{
+    if c.fault.number == 0 {
+        put_word(answer, 0, c.steps);
+        return;
+    }
+}
+
 // Lays a new train out in an image buffer: est records, the train, dist_disp_path_search, dist_fixed_max, Q and L. Answers as lavtoeu_mark does.
 #[no_mangle]
 pub extern "C" fn lavtoeu_lay_out(
@@ -94,8 +129,8 @@ pub extern "C" fn lavtoeu_lay_out(
     answer_word(train_disp::lay_out(est, settings, image))
 }
 
-// Updates the train of an image. Answers 0, or the refusal's number with its place in the upper 16 bits, and puts into the first four words of `answer`
-// document 01's code (3 success, 4 blocked, 5 faulty, 16 + n refused by n), the number of errors, the rounds and the strays. Any local but 0 is yes.
+// Updates the train of an image. Answers 0, or the refusal's number with its place in the upper 16 bits, and puts into the first five words of `answer`
+// document 01's code (3 success, 4 blocked, 5 faulty, 16 + n refused by n), the number of errors, the rounds, the strays and the search steps. Any local but 0 is yes.
 #[no_mangle]
 pub extern "C" fn lavtoeu_update(
     image: &mut [u8],
@@ -121,6 +156,7 @@ pub extern "C" fn lavtoeu_update(
     put_word(answer, 1, errors_of(s));
     put_word(answer, 2, x.tally.rounds as u64);
     put_word(answer, 3, x.tally.strays);
+    put_word(answer, 4, x.tally.steps);
     status_word(s)
 }
 

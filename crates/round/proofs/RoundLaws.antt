@@ -18,12 +18,12 @@ use Rattle.free_path.specs.LinkOptType.{Sentinels, calcIdxSentinels, contains, 
 use Rattle.free_path.proofs.CountLaws.{answer-no}
 use Rattle.update_definition.specs.State.{atEnd}
 use Rattle.update_definition.specs.Update as Update
-use Rattle.update_definition.specs.Update.{apart, meeting, splitPoint, beginOf, roundOf}
+use Rattle.update_definition.specs.Update.{apart, meeting, splitPoint, beginOf, roundOf, roundSteps}
 use Rattle.update_laws.proofs.Rounds.{sentinel-low, split-low}
 use Rattle.search.specs.Read.{divsOf, pathOf}
 use Rattle.splice.specs.Read.{trainOf}
 use Rattle.round_start.proofs.SplitLaws.{split-is}
-use Rattle.round.specs.Rounds.{Held, givenOf, roundFrom}
+use Rattle.round.specs.Rounds.{Held, givenOf, roundFrom, stepsBy}
 use Rattle.round.specs.declared.Given.{Given}
 
 module _ (occ img dt dn col : List ℕ) (h : PathHeader) (gv : Given) (blocking start : List LinkIdx) (split divSplit : ℕ) (path : listed (h .«path_count») (linkAt col) ≡ linkIdxPath (pathOf img (h .«path_count»))) where
@@ -37,6 +37,10 @@ module _ (occ img dt dn col : List ℕ) (h : PathHeader) (gv : Given) (blocking 
     pub sentinels-refused : (c ≡ 0 → ⊥) → no c ≡ roundOf given train split divSplit
     unfolding roundOf beginOf trainOf
     sentinels-refused n = rw (← q, answer-no c z n)
+
+    pub sentinels-steps : (c ≡ 0 → ⊥) → 0 ≡ roundSteps given train split divSplit
+    unfolding roundSteps beginOf trainOf
+    sentinels-steps n = rw (← q, answer-no c z n)
 
     module _ (o : c ≡ 0) where
       sentinels-are : calcIdxSentinels divSplit (gv .«train_idx_moved») (train .«div_nodes») ≡ ok z
@@ -52,6 +56,10 @@ module _ (occ img dt dn col : List ℕ) (h : PathHeader) (gv : Given) (blocking 
         unfolding roundOf beginOf
         split-refused n = rw (sentinels-are, ← split-point, answer-no d i n)
 
+        pub split-steps : (d ≡ 0 → ⊥) → 0 ≡ roundSteps given train split divSplit
+        unfolding roundSteps beginOf
+        split-steps n = rw (sentinels-are, ← split-point, answer-no d i n)
+
         module _ (e : d ≡ 0) where
           split-at : splitPoint given train split (z .node) ≡ ok i
           split-at = sym split-point ∙ ap (λ (n : ℕ). answer n i) e
@@ -63,6 +71,14 @@ module _ (occ img dt dn col : List ℕ) (h : PathHeader) (gv : Given) (blocking 
           pub round-end : h .«path_count» ≤ i → ok atEnd ≡ roundOf given train split divSplit
           unfolding roundOf beginOf
           round-end l = rw (sentinels-are, split-at, le-leb (length (train .«disp_path»)) i (omega (arith, long)))
+
+          pub end-steps : h .«path_count» ≤ i → 0 ≡ roundSteps given train split divSplit
+          unfolding roundSteps beginOf
+          end-steps l = rw (sentinels-are, split-at, le-leb (length (train .«disp_path»)) i (omega (arith, long)))
+
+          pub on-steps : i < h .«path_count» → stepsBy given train i divSplit z ≡ roundSteps given train split divSplit
+          unfolding roundSteps beginOf
+          on-steps l = rw (sentinels-are, split-at, lt-leb (length (train .«disp_path»)) i (omega (arith, long)))
 
           pub round-on : i < h .«path_count» → roundFrom given train i divSplit z ≡ roundOf given train split divSplit
           unfolding roundOf beginOf

@@ -28,7 +28,7 @@ use Rattle.free_path.specs.SearchLimit.{offsetCancel}
 use Rattle.free_path.proofs.ColumnLaws.{listed-read}
 use Rattle.update_definition.specs.State as State
 use Rattle.update_definition.specs.Update as Update
-use Rattle.update_definition.specs.Update.{searchFrom, turnLimit, searchAt, roundAt, divPoint, savePoint}
+use Rattle.update_definition.specs.Update.{searchFrom, stepsFrom, turnLimit, searchAt, roundAt, divPoint, savePoint}
 use Rattle.update_definition.specs.Fits.{Fits}
 use Rattle.update_laws.specs.FitsGood.{TrainFits, DivFits}
 use Rattle.update_laws.proofs.Answers.{ok-same, no-ok, bind-ok}
@@ -40,9 +40,9 @@ use Rattle.search.specs.declared.Place.{Place}
 use Rattle.search.specs.Runs.{SearchBegins}
 use Rattle.splice.specs.Read.{trainOf}
 use Rattle.round_start.specs.Start.{partedAt, dividedAt, withLimit}
-use Rattle.round_start.proofs.LimitLaws.{same-limit}
-use Rattle.round_start.proofs.DivideLaws.{round-is}
-use Rattle.round.specs.Rounds.{Held, Numbers, Searching, givenOf, startAt, zeros, zeroed, zeroedIn, roundFrom}
+use Rattle.round_start.proofs.LimitLaws.{same-limit, same-steps}
+use Rattle.round_start.proofs.DivideLaws.{begin-is, round-is}
+use Rattle.round.specs.Rounds.{Held, Numbers, Searching, givenOf, startAt, zeros, zeroed, zeroedIn, roundFrom, stepsBy}
 use Rattle.round.specs.declared.Given.{Given}
 use Rattle.round.proofs.FitLaws.{train-is, round-accepted, path-long, divs-long}
 
@@ -119,6 +119,24 @@ module _ (occ img dt dn : List ℕ) (h : PathHeader) (gv : Given) (blocking star
   searched : whole ≡ (dividedAt (divsOf (h .«diverge_count») dt dn) split divSplit z >>= λ d. savePoint (pathOf img (h .«path_count»)) (h .fixed) split >>= λ save. begun d save)
   unfolding trainOf
   searched = round-is (givenOf gv occ blocking start) (trainOf img dt dn h) split divSplit z (nodeAt img split) (listed-read (h .«path_count») (nodeAt img) split high)
+
+  begun-is : Update.beginAt (trainOf img dt dn h) split divSplit z
+      ≡ (dividedAt (divsOf (h .«diverge_count») dt dn) split divSplit z >>= λ d. savePoint (pathOf img (h .«path_count»)) (h .fixed) split >>= λ save. ok (Update.searches (record { node = nodeAt img split; «idx_split» = split; «div_idx_split» = d; «idx_save» = save })))
+  unfolding trainOf
+  begun-is = begin-is (givenOf gv occ blocking start) (trainOf img dt dn h) split divSplit z (nodeAt img split) (listed-read (h .«path_count») (nodeAt img) split high)
+
+  abbrev steps : ℕ
+  steps = stepsBy (givenOf gv occ blocking start) (trainOf img dt dn h) split divSplit z
+
+  pub divide-steps : (c i : ℕ) → answer c i ≡ dividedAt (divsOf (h .«diverge_count») dt dn) split divSplit z → (c ≡ 0 → ⊥) → 0 ≡ steps
+  divide-steps c i q n = rw (begun-is, ← q, answer-no c i n)
+
+  pub save-steps : (d c i : ℕ) → ok d ≡ dividedAt (divsOf (h .«diverge_count») dt dn) split divSplit z → answer c i ≡ savePoint (pathOf img (h .«path_count»)) (h .fixed) split → (c ≡ 0 → ⊥) → 0 ≡ steps
+  save-steps d c i p q n = rw (begun-is, ← p, ← q, answer-no c i n)
+
+  pub saved-steps : (d save : ℕ) → ok d ≡ dividedAt (divsOf (h .«diverge_count») dt dn) split divSplit z → ok save ≡ savePoint (pathOf img (h .«path_count»)) (h .fixed) split
+      → stepsFrom (turnLimit (trainOf img dt dn h)) (roundAt (givenOf gv occ blocking start) (trainOf img dt dn h) (nodeAt img split) split) (searchAt (trainOf img dt dn h) split d save) ≡ steps
+  saved-steps d save p q = rw (begun-is, ← p, ← q)
 
   pub divide-refused : (c i : ℕ) → answer c i ≡ dividedAt (divsOf (h .«diverge_count») dt dn) split divSplit z → (c ≡ 0 → ⊥) → no c ≡ whole
   divide-refused c i q n = rw (searched, ← q, answer-no c i n)
@@ -205,3 +223,12 @@ module _ (occ img on dt dn : List ℕ) (h : PathHeader) (g : Held occ img on dt 
           ∙ ap (λ (y : State.Round). searchFrom (turnLimit train) y (searchAt train split d save)) round-same
           ∙ same-limit (turnLimit train) (roundAt given train (nodeAt img split) split) (r .«offset_cancel») (searchAt train split d save) limit
           ∙ divide-saved occ img dt dn h gv blocking start split divSplit z high d save div-is save-is
+
+      pub steps-is : stepsFrom (turnLimit (round .train)) round first ≡ stepsBy given train split divSplit z
+      unfolding trainOf
+      steps-is =
+          ap (λ (s : State.Search). stepsFrom (turnLimit (round .train)) round s) first-is
+          ∙ ap (λ (t : Train). stepsFrom (turnLimit t) round (searchAt t split d save)) (train-is img dt dn h r m)
+          ∙ ap (λ (y : State.Round). stepsFrom (turnLimit train) y (searchAt train split d save)) round-same
+          ∙ same-steps (turnLimit train) (roundAt given train (nodeAt img split) split) (r .«offset_cancel») (searchAt train split d save) limit
+          ∙ saved-steps occ img dt dn h gv blocking start split divSplit z high d save div-is save-is

@@ -34,37 +34,41 @@ use Rattle.round.specs.declared.RoundEnd.{RoundEnd}
 abbrev pub endedIn : (x : RoundEnd) (img dt dn : List ℕ) → Res State.Ended
 endedIn x img dt dn = endedOf x (trainOf img dt dn (x .header))
 
--- ---- by what the search left; f, which follows a search that goes on, is any
+-- ---- by what the search left after so many steps; f, which follows a search that goes on, is any
 
 -- an effect after which no search goes on
-abbrev pub EndsByEffect : (effect : Effect) (h : PathHeader) (x : RoundEnd) → Type 0
-EndsByEffect effect h x =
+abbrev pub EndsByEffect : (effect : Effect) (h : PathHeader) (steps : ℕ) (x : RoundEnd) → Type 0
+EndsByEffect effect h steps x =
     ((img dt dn : List ℕ) (R : State.Round) (S : State.Search) (f : State.Search → Res State.Ended) → R .train ≡ trainOf img dt dn h → endedIn x img dt dn ≡ endOf f (effectOf R S effect))
     × (isAtEnd (x .end) ≡ false)
+    × (x .steps ≡ steps)
 
 -- a splice
-abbrev pub EndsBySplice : (a : Again) (x : RoundEnd) → Type 0
-EndsBySplice a x =
+abbrev pub EndsBySplice : (a : Again) (steps : ℕ) (x : RoundEnd) → Type 0
+EndsBySplice a steps x =
     ((t : Train) (f : State.Search → Res State.Ended) → endedOf x t ≡ endOf f (answer (a .code) (State.ends (State.again t (a .split) (a .«div_split»)))))
     × (x .header ≡ a .header)
     × (endRefused (x .end) ≡ false → a .code ≡ 0)
     × (isAtEnd (x .end) ≡ false)
+    × (x .steps ≡ steps)
 
 -- the join of each search that stands there
-abbrev pub EndsByJoin : (h : PathHeader) (q : Reached) (here : Here) (img fresh dt dn nt nn : List ℕ) (x : RoundEnd) (img₁ dt₁ dn₁ : List ℕ) → Type 0
-EndsByJoin h q here img fresh dt dn nt nn x img₁ dt₁ dn₁ =
+abbrev pub EndsByJoin : (h : PathHeader) (q : Reached) (here : Here) (steps : ℕ) (img fresh dt dn nt nn : List ℕ) (x : RoundEnd) (img₁ dt₁ dn₁ : List ℕ) → Type 0
+EndsByJoin h q here steps img fresh dt dn nt nn x img₁ dt₁ dn₁ =
     ((R : State.Round) (S : State.Search) (f : State.Search → Res State.Ended) → Stands img dt dn h q (here .«est_curr») R (hereOf here) S → Joins fresh nt nn q (here .«disp_node_curr») (hereOf here) S
     → endedIn x img₁ dt₁ dn₁ ≡ endOf f (Joined.join R (hereOf here) S))
     × (endRefused (x .end) ≡ false → Kept img₁ img)
     × (isAtEnd (x .end) ≡ false)
+    × (x .steps ≡ steps)
 
 -- the change of diverge nodes of each search that stands there, of n est records
-abbrev pub EndsByChange : (h : PathHeader) (q : Reached) (here : Here) (p : Place) (n : ℕ) (img dt dn : List ℕ) (a : Arrays) (x : RoundEnd) (dt₁ dn₁ : List ℕ) → Type 0
-EndsByChange h q here p n img dt dn a x dt₁ dn₁ =
+abbrev pub EndsByChange : (h : PathHeader) (q : Reached) (here : Here) (p : Place) (n steps : ℕ) (img dt dn : List ℕ) (a : Arrays) (x : RoundEnd) (dt₁ dn₁ : List ℕ) → Type 0
+EndsByChange h q here p n steps img dt dn a x dt₁ dn₁ =
     ((R : State.Round) (S : State.Search) (f : State.Search → Res State.Ended) → Stands img dt dn h q (here .«est_curr») R (hereOf here) S
     → Changes (a .pool) (p .«pool_count») (here .«est_curr» .«idx_next_alt») (State.viewOf (viewsOf n (a .begins) (a .ends)) (here .«est_curr» .«idx_next»)) q (hereOf here) S
     → endedIn x img dt₁ dn₁ ≡ endOf f (changeDiverge R (hereOf here) S))
     × (isAtEnd (x .end) ≡ false)
+    × (x .steps ≡ steps)
 
 -- ---- searches and rounds
 
@@ -87,3 +91,7 @@ RoundAt img g h split r =
 -- x is f of what the update does not change and the train, whatever the lists of links are that are for the strays alone
 abbrev pub EndsAs : (f : Update.Given → Train → Res State.Ended) (occ img dt dn : List ℕ) (g : Given) (h : PathHeader) (x : RoundEnd) (img₁ dt₁ dn₁ : List ℕ) → Type 0
 EndsAs f occ img dt dn g h x img₁ dt₁ dn₁ = (blocking start : List LinkIdx) → endedIn x img₁ dt₁ dn₁ ≡ f (givenOf g occ blocking start) (trainOf img dt dn h)
+
+-- and its steps are f of the same
+abbrev pub StepsAs : (f : Update.Given → Train → ℕ) (occ img dt dn : List ℕ) (g : Given) (h : PathHeader) (x : RoundEnd) → Type 0
+StepsAs f occ img dt dn g h x = (blocking start : List LinkIdx) → x .steps ≡ f (givenOf g occ blocking start) (trainOf img dt dn h)

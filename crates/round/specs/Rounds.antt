@@ -86,6 +86,10 @@ givenOf g occ blocking start =
 abbrev pub roundFrom : Update.Given → Train → ℕ → ℕ → Sentinels → Res Ended
 roundFrom g t split divSplit z = Update.beginAt t split divSplit z >>= Update.endFrom g t
 
+-- and the steps of its search
+abbrev pub stepsBy : Update.Given → Train → ℕ → ℕ → Sentinels → ℕ
+stepsBy g t split divSplit z = Update.stepsIn g t (Update.beginAt t split divSplit z)
+
 -- where a search begins
 abbrev pub startAt : PathHeader → ℕ → ℕ → ℕ → Place
 startAt h split divSplit save =
@@ -155,6 +159,7 @@ SearchEnded occ img dt dn h r s x img₁ dt₁ dn₁ =
     (endedOf x (trainOf img₁ dt₁ dn₁ (x .header)) ≡ Update.searchFrom (Update.turnLimit (roundOf (trainOf img dt dn h) occ img dt dn r .train)) (roundOf (trainOf img dt dn h) occ img dt dn r) s)
     × (endRefused (x .end) ≡ false → Kept img₁ img)
     × (isAtEnd (x .end) ≡ false)
+    × (x .steps ≡ Update.stepsFrom (Update.turnLimit (roundOf (trainOf img dt dn h) occ img dt dn r .train)) (roundOf (trainOf img dt dn h) occ img dt dn r) s)
 
 -- a search whose pool, views and new diverge nodes are zeros, in arrays for e est records and q diverge nodes
 abbrev pub zerosIn : ℕ → Arrays

@@ -22,37 +22,38 @@ use splice::change;
 use splice::join;
 use update_definition::Move;
 
-fn ended(end: End, h: PathHeader) -> RoundEnd
-    ensures { λ x. ⌜ x ≡ record { end = end; header = h; split = 0; «div_split» = 0 } ⌝ }
+fn ended(end: End, h: PathHeader, steps: u64) -> RoundEnd
+    ensures { λ x. ⌜ x ≡ record { end = end; header = h; split = 0; «div_split» = 0; steps = steps } ⌝ }
 {
     RoundEnd {
         end: end,
         header: h,
         split: 0,
         div_split: 0,
+        steps: steps,
     }
 }
 
 // disp_node_idx_free = disp_node_idx_fixed
-fn blocked(h: PathHeader) -> RoundEnd
-    ensures { λ x. ⌜ x ≡ record { end = End.Blocked; header = withFree h; split = 0; «div_split» = 0 } ⌝ }
+fn blocked(h: PathHeader, steps: u64) -> RoundEnd
+    ensures { λ x. ⌜ x ≡ record { end = End.Blocked; header = withFree h; split = 0; «div_split» = 0; steps = steps } ⌝ }
 {
     let mut q = h;
     q.free = h.fixed;
-    ended(End::Blocked, q)
+    ended(End::Blocked, q, steps)
 }
 
 // By an effect after which no search goes on.
-pub(crate) fn by_effect(effect: Effect, h: PathHeader) -> RoundEnd
+pub(crate) fn by_effect(effect: Effect, h: PathHeader, steps: u64) -> RoundEnd
     requires { ⌜ onward effect ≡ false ⌝ }
-    ensures { λ x. ⌜ EndsByEffect effect h x ⌝ }
+    ensures { λ x. ⌜ EndsByEffect effect h steps x ⌝ }
 {
     match effect {
-        Effect::Refused(c) => ended(End::Refused(c), h),
-        Effect::Push(n) => ended(End::Refused(13), h),
-        Effect::Pop => ended(End::Refused(13), h),
-        Effect::Stay => ended(End::Refused(13), h),
-        Effect::GiveUp => blocked(h),
+        Effect::Refused(c) => ended(End::Refused(c), h, steps),
+        Effect::Push(n) => ended(End::Refused(13), h, steps),
+        Effect::Pop => ended(End::Refused(13), h, steps),
+        Effect::Stay => ended(End::Refused(13), h, steps),
+        Effect::GiveUp => blocked(h, steps),
     }
 }
 
@@ -88,18 +89,19 @@ pub(crate) fn reached(r: Round, s: Searched) -> Reached
     }
 }
 
-fn by_splice(a: Again) -> RoundEnd
-    ensures { λ x. ⌜ EndsBySplice a x ⌝ }
+fn by_splice(a: Again, steps: u64) -> RoundEnd
+    ensures { λ x. ⌜ EndsBySplice a steps x ⌝ }
 {
     let h = a.header;
     if a.code != 0 {
-        return ended(End::Refused(a.code), h);
+        return ended(End::Refused(a.code), h, steps);
     }
     RoundEnd {
         end: End::Again,
         header: h,
         split: a.split as usize,
         div_split: a.div_split,
+        steps: steps,
     }
 }
 
@@ -114,14 +116,15 @@ pub(crate) fn joined(
     dn: &mut [u32],
     nt: &mut [u32],
     nn: &mut [u32],
+    steps: u64,
 ) -> RoundEnd
     requires { ⌜ JoinFits (now img) (now fresh) (now dt) (now dn) (now nt) (now nn) h q (here .«est_curr» .«idx_next») ⌝ }
-    ensures { λ x. ⌜ EndsByJoin h q here (now (img .entry)) (now (fresh .entry)) (now (dt .entry)) (now (dn .entry)) (now (nt .entry)) (now (nn .entry)) x
+    ensures { λ x. ⌜ EndsByJoin h q here steps (now (img .entry)) (now (fresh .entry)) (now (dt .entry)) (now (dn .entry)) (now (nt .entry)) (now (nn .entry)) x
         (now (img .exit)) (now (dt .exit)) (now (dn .exit)) ⌝ }
 {
     let n = here.disp_node_curr;
     let e = here.est_curr;
-    by_splice(join::join(img, fresh, h, q, n, e, dt, dn, nt, nn))
+    by_splice(join::join(img, fresh, h, q, n, e, dt, dn, nt, nn), steps)
 }
 
 // The trains that block the next est become those of the split node.
@@ -139,24 +142,28 @@ pub(crate) fn changed(
     dn: &mut [u32],
     nt: &mut [u32],
     nn: &mut [u32],
+    steps: u64,
 ) -> RoundEnd
     requires { ⌜ ChangeFits (now img) (now dt) (now dn) (now nt) (now nn) (now pool) (p .«pool_count») h q ⌝ }
-    ensures { λ x. ⌜ EndsByChange h q here p n (now (img .entry)) (now (dt .entry)) (now (dn .entry)) (arrays (now (pool .entry)) (now (begins .entry)) (now (ends .entry))) x
+    ensures { λ x. ⌜ EndsByChange h q here p n steps (now (img .entry)) (now (dt .entry)) (now (dn .entry)) (arrays (now (pool .entry)) (now (begins .entry)) (now (ends .entry))) x
         (now (dt .exit)) (now (dn .exit)) ⌝ }
 {
     let e = here.est_curr;
     let v = views::view_at(begins, ends, n, e.idx_next);
-    by_splice(change::change_diverge(
-        img,
-        h,
-        q,
-        e.idx_next_alt,
-        v,
-        pool,
-        p.pool_count,
-        dt,
-        dn,
-        nt,
-        nn,
-    ))
+    by_splice(
+        change::change_diverge(
+            img,
+            h,
+            q,
+            e.idx_next_alt,
+            v,
+            pool,
+            p.pool_count,
+            dt,
+            dn,
+            nt,
+            nn,
+        ),
+        steps,
+    )
 }

@@ -25,10 +25,11 @@ pub enum End {
     Again,
 }
 
-// How a round ends; the header's numbers that are left, and the next idx_split and div_idx_split.
+// How a round ends; the header's numbers that are left, the next idx_split and div_idx_split, and how often the loop of its search was entered.
 pub struct RoundEnd {
     pub end: End,
     pub header: PathHeader,
     pub split: usize,
     pub div_split: usize,
+    pub steps: u64,
 }

@@ -59,12 +59,12 @@ fn search_round(
     let go = s.go;
     if !turn::is_left(go) {
         let e = s.effect;
-        return ending::by_effect(e, h);
+        return ending::by_effect(e, h, s.steps);
     }
     let q = ending::reached(r, s);
     let here = s.here;
     if ending::is_join(go) {
-        return ending::joined(img, fresh, h, q, here, dt, dn, nt, nn);
+        return ending::joined(img, fresh, h, q, here, dt, dn, nt, nn, s.steps);
     }
     let p = s.place;
     ending::changed(
@@ -81,6 +81,7 @@ fn search_round(
         dn,
         nt,
         nn,
+        s.steps,
     )
 }
 

@@ -7,11 +7,11 @@ ghost use Rattle.disp_structs.specs.Listed.{listed};
 ghost use Rattle.image.specs.Image.{divergeRoom};
 ghost use Rattle.free_path.specs.Columns.{linkAt};
 ghost use Rattle.free_path.specs.LinkOptType.{linkIdxPath};
-ghost use Rattle.update_definition.specs.Update.{roundOf};
+ghost use Rattle.update_definition.specs.Update.{roundOf, roundSteps};
 ghost use Rattle.search.specs.Read.{pathOf};
 ghost use Rattle.splice.specs.Read.{trainOf, Kept};
-ghost use Rattle.round.specs.Rounds.{Held, roundFrom, startAt, endRefused, isAtEnd};
-ghost use Rattle.round.specs.Ends.{RoundAt, EndsAs};
+ghost use Rattle.round.specs.Rounds.{Held, roundFrom, stepsBy, startAt, endRefused, isAtEnd};
+ghost use Rattle.round.specs.Ends.{RoundAt, EndsAs, StepsAs};
 use crate::End;
 use crate::Given;
 use crate::RoundEnd;
@@ -28,24 +28,26 @@ use search::Place;
 use search::Round;
 
 fn refused(code: u32, h: PathHeader) -> RoundEnd
-    ensures { λ x. ⌜ x ≡ record { end = End.Refused code; header = h; split = 0; «div_split» = 0 } ⌝ }
+    ensures { λ x. ⌜ x ≡ record { end = End.Refused code; header = h; split = 0; «div_split» = 0; steps = 0 } ⌝ }
 {
     RoundEnd {
         end: End::Refused(code),
         header: h,
         split: 0,
         div_split: 0,
+        steps: 0,
     }
 }
 
 fn at_end(h: PathHeader) -> RoundEnd
-    ensures { λ x. ⌜ x ≡ record { end = End.AtEnd; header = h; split = 0; «div_split» = 0 } ⌝ }
+    ensures { λ x. ⌜ x ≡ record { end = End.AtEnd; header = h; split = 0; «div_split» = 0; steps = 0 } ⌝ }
 {
     RoundEnd {
         end: End::AtEnd,
         header: h,
         split: 0,
         div_split: 0,
+        steps: 0,
     }
 }
 
@@ -103,7 +105,8 @@ fn search_at(
     ensures { λ x. ⌜ EndsAs (λ G t. roundFrom G t split «div_split» (record { node = z .node; divs = z .divs })) (now (occ .entry)) (now (img .entry)) (now (dt .entry)) (now (dn .entry)) g h x
         (now (img .exit)) (now (dt .exit)) (now (dn .exit))
         × (endRefused (x .end) ≡ false → Kept (now (img .exit)) (now (img .entry)))
-        × (isAtEnd (x .end) ≡ false) ⌝ }
+        × (isAtEnd (x .end) ≡ false)
+        × StepsAs (λ G t. stepsBy G t split «div_split» (record { node = z .node; divs = z .divs })) (now (occ .entry)) (now (img .entry)) (now (dt .entry)) (now (dn .entry)) g h x ⌝ }
 {
     let m = h.diverge_count as usize;
     let d = diverge::div_at(dn, m, split, div_split, z.node, z.divs);
@@ -139,7 +142,8 @@ pub fn round(
     ensures { λ x. ⌜ EndsAs (λ G t. roundOf G t split «div_split») (now (occ .entry)) (now (img .entry)) (now (dt .entry)) (now (dn .entry)) g h x
         (now (img .exit)) (now (dt .exit)) (now (dn .exit))
         × (endRefused (x .end) ≡ false → Kept (now (img .exit)) (now (img .entry)))
-        × (isAtEnd (x .end) ≡ true → trainOf (now (img .exit)) (now (dt .exit)) (now (dn .exit)) (x .header) ≡ trainOf (now (img .entry)) (now (dt .entry)) (now (dn .entry)) h) ⌝ }
+        × (isAtEnd (x .end) ≡ true → trainOf (now (img .exit)) (now (dt .exit)) (now (dn .exit)) (x .header) ≡ trainOf (now (img .entry)) (now (dt .entry)) (now (dn .entry)) h)
+        × StepsAs (λ G t. roundSteps G t split «div_split») (now (occ .entry)) (now (img .entry)) (now (dt .entry)) (now (dn .entry)) g h x ⌝ }
 {
     let n = h.path_count;
     let m = h.diverge_count as usize;

@@ -152,14 +152,18 @@ module _ (g : Given) (t : Train) (split divSplit : ℕ) (z : Sentinels) where
       each n (ok d) = parted-then (t .«div_nodes») split d (saved n)
       each n (no j) = refl
 
-  -- with the node at the split point, the search comes after its two indices
+  -- with the node at the split point, what the search begins with comes after its two indices
+  abbrev after : DispNode → Res Entry
+  after y = dividedAt (t .«div_nodes») split divSplit z >>= λ d. savePoint (t .«disp_path») (t .«disp_node_idx_fixed») split >>= λ save. ok (beginning y d save)
+
+  pub begin-is : (n : DispNode) → at (t .«disp_path») split ≡ ok n → beginAt t split divSplit z ≡ after n
+  begin-is n e = begins-is ∙ ap (λ (x : Res DispNode). x >>= λ y. after y) e
+
+  -- and so does the search
   pub round-is : (n : DispNode) → at (t .«disp_path») split ≡ ok n → (beginAt t split divSplit z >>= endFrom g t)
       ≡ (dividedAt (t .«div_nodes») split divSplit z >>= λ d. savePoint (t .«disp_path») (t .«disp_node_idx_fixed») split >>= λ save. searchFrom (turnLimit t) (roundAt g t n split) (searchAt t split d save))
   round-is n e =
-      ap (λ (x : Res Entry). x >>= endFrom g t) (begins-is ∙ ap (λ (x : Res DispNode). x >>= λ y. after y) e)
+      ap (λ (x : Res Entry). x >>= endFrom g t) (begin-is n e)
       ∙ bind-then (dividedAt (t .«div_nodes») split divSplit z) (λ d. savePoint (t .«disp_path») (t .«disp_node_idx_fixed») split >>= λ save. ok (beginning n d save)) (endFrom g t)
       ∙ ap (λ (f : ℕ → Res Ended). dividedAt (t .«div_nodes») split divSplit z >>= f)
       (fun-ext (λ d. bind-then (savePoint (t .«disp_path») (t .«disp_node_idx_fixed») split) (λ save. ok (beginning n d save)) (endFrom g t)))
-    where
-      after : DispNode → Res Entry
-      after y = dividedAt (t .«div_nodes») split divSplit z >>= λ d. savePoint (t .«disp_path») (t .«disp_node_idx_fixed») split >>= λ save. ok (beginning y d save)

@@ -1,5 +1,5 @@
 -- The search reads offset_cancel by one comparison alone. Assumes nothing.
-use mathlib.Core.Path.{_≡_, refl}
+use mathlib.Core.Path.{_≡_, refl, ap, _∙_}
 use Prim.Native.Nat.{ℕ, zero, suc}
 use lib.Ieee.{Float, lt}
 use Rattle.disp_structs.specs.declared.Metres.{Metres}
@@ -9,7 +9,7 @@ use Rattle.update_definition.specs.Look.{Here, storedTrains, occupiedNext, move
 use Rattle.update_definition.specs.Look as Look
 use Rattle.update_definition.specs.Moves.{oneBack, rewind, alternate, changeDiverge, pushSaved, blockEmpty}
 use Rattle.update_definition.specs.Join as Join
-use Rattle.update_definition.specs.Update.{doMove, searchStep, searchFrom}
+use Rattle.update_definition.specs.Update.{doMove, searchStep, searchFrom, stepsAfter, stepsFrom}
 use Rattle.update_definition.specs.declared.Move.{Move}
 use Rattle.update_definition.specs.declared.Move.the-variants.{Rewind, Alternate, ChangeDiverge, PushSaved, BlockEmpty, Advance, Join}
 use Rattle.round_start.specs.Start.{withLimit}
@@ -44,6 +44,16 @@ same-limit (suc k) r m s e = rw (step-same r m e s) (go (searchStep r s) (λ u. 
   where
     go : (t : Res Turn) → ((u : Search) → searchFrom k (withLimit r m) u ≡ searchFrom k r u)
         → _>>=_ {B = Ended} t (λ t. elim t [ goOn u ↦ searchFrom k (withLimit r m) u | ends e ↦ ok e ]) ≡ _>>=_ {B = Ended} t (λ t. elim t [ goOn u ↦ searchFrom k r u | ends e ↦ ok e ])
+    go (ok (goOn u)) h = h u
+    go (ok (ends x)) h = refl
+    go (no n) h = refl
+
+pub same-steps : (n : ℕ) (r : Round) (m : Metres) (s : Search) → ((x : Float) → lt (m .0) x ≡ lt (r .«offset_cancel» .0) x) → stepsFrom n (withLimit r m) s ≡ stepsFrom n r s
+unfolding stepsFrom
+same-steps zero r m s e = refl
+same-steps (suc k) r m s e = ap (λ (x : Res Turn). suc (stepsAfter (λ u. stepsFrom k (withLimit r m) u) x)) (step-same r m e s) ∙ ap suc (go (searchStep r s) (λ u. same-steps k r m u e))
+  where
+    go : (t : Res Turn) → ((u : Search) → stepsFrom k (withLimit r m) u ≡ stepsFrom k r u) → stepsAfter (λ u. stepsFrom k (withLimit r m) u) t ≡ stepsAfter (λ u. stepsFrom k r u) t
     go (ok (goOn u)) h = h u
     go (ok (ends x)) h = refl
     go (no n) h = refl

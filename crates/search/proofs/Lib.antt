@@ -8,4 +8,5 @@ pub mod PushLaws
 pub mod DepositLaws
 pub mod RewindLaws
 pub mod TurnLaws
+pub mod StepLaws
 pub mod LoopLaws

@@ -26,7 +26,7 @@ use Rattle.free_path.proofs.ColumnLaws.{listed-read}
 use Rattle.update_definition.specs.State as State
 use Rattle.update_definition.specs.Look as Look
 use Rattle.update_definition.specs.Look.{current}
-use Rattle.update_definition.specs.Update.{searchStep, searchFrom, turnLimit}
+use Rattle.update_definition.specs.Update.{searchStep, searchFrom, stepsAfter, stepsFrom, turnLimit}
 use Rattle.update_definition.specs.Accepted.{Accepted, timeAccepted}
 use Rattle.update_definition.specs.declared.Move.{Move}
 use Rattle.update_definition.specs.declared.Move.the-variants.{Advance}
@@ -46,6 +46,7 @@ use Rattle.disp_structs.proofs.FloatLaws.{reach-number}
 use Rattle.splice.proofs.NodeLaws.{put-kept, put-other, put-same, kept-eq}
 use Rattle.splice.specs.Parts.{Sound}
 use Rattle.splice.specs.Read.{Kept}
+use Rattle.search.proofs.StepLaws.{turn-stops}
 use Rattle.search.specs.Runs.{endOf, counted, slotOf, Follows, FollowsTurn, SearchBegins, Going, Ran}
 
 -- what the rule of an array read gives past the end
@@ -260,30 +261,47 @@ time-number (fin s m e) h = tt
 
 module _ (links : ℕ) (r : State.Round) (s₀ : State.Search) (b : SearchBegins links r s₀) where
   -- as it begins
-  pub going-first : (n : ℕ) → Going (b .top) links r n s₀ n s₀
-  going-first n = record { good = b .good; fits = b .fits; same = refl }
+  pub going-first : (n : ℕ) → Going (b .top) links r n s₀ n 0 s₀
+  going-first n = record { good = b .good; fits = b .fits; same = refl; counts = omega arith }
 
-  module _ (n₀ n : ℕ) (s : State.Search) (g : Going (b .top) links r n₀ s₀ (suc n) s) (x : Res State.Turn) (q : x ≡ searchStep r s) where
+  module _ (n₀ n steps : ℕ) (s : State.Search) (g : Going (b .top) links r n₀ s₀ (suc n) steps s) (x : Res State.Turn) (q : x ≡ searchStep r s) where
     pub going-ends : searchFrom n₀ r s₀ ≡ endOf (searchFrom n r) x
     unfolding searchFrom
     going-ends = sym (g .same) ∙ ap (endOf (searchFrom n r)) (sym q)
 
+    -- this entry counts, and those after it
+    going-steps : steps + suc (stepsAfter (λ u. stepsFrom n r u) x) ≡ stepsFrom n₀ r s₀
+    unfolding stepsFrom
+    going-steps = ap (λ (y : Res State.Turn). steps + suc (stepsAfter (λ u. stepsFrom n r u) y)) q ∙ g .counts
+
+    -- it is the last
+    pub going-last : stepsAfter (λ u. stepsFrom n r u) x ≡ 0 → steps + 1 ≡ stepsFrom n₀ r s₀
+    going-last z = ap (λ (k : ℕ). steps + suc k) (sym z) ∙ going-steps
+
+    going-more : (u : State.Search) → x ≡ ok (State.goOn u) → steps + suc (stepsFrom n r u) ≡ stepsFrom n₀ r s₀
+    going-more u y = ap (λ (z : Res State.Turn). steps + suc (stepsAfter (λ w. stepsFrom n r w) z)) (sym y) ∙ going-steps
+
     -- one turn that goes on
-    pub going-on : (u : State.Search) → x ≡ ok (State.goOn u) → Going (b .top) links r n₀ s₀ n u
+    pub going-on : (u : State.Search) → x ≡ ok (State.goOn u) → Going (b .top) links r n₀ s₀ n (steps + 1) u
     going-on u y = record {
       good = step-good links r (b .accepted) s u (g .good) (sym q ∙ y);
       fits = step-fits (b .top) r (b .room) links (b .accepted) s u (g .good) (g .fits) (sym q ∙ y);
       same = sym (going-ends ∙ ap (endOf (searchFrom n r)) y);
+      counts = omega (arith, going-more u y);
     }
 
   -- no turn is left
-  pub going-out : (n₀ : ℕ) (s : State.Search) → Going (b .top) links r n₀ s₀ 0 s → searchFrom n₀ r s₀ ≡ no 13
+  pub going-out : (n₀ steps : ℕ) (s : State.Search) → Going (b .top) links r n₀ s₀ 0 steps s → searchFrom n₀ r s₀ ≡ no 13
   unfolding searchFrom
-  going-out n₀ s g = sym (g .same)
+  going-out n₀ steps s g = sym (g .same)
+
+  pub going-out-steps : (n₀ steps : ℕ) (s : State.Search) → Going (b .top) links r n₀ s₀ 0 steps s → steps ≡ stepsFrom n₀ r s₀
+  unfolding stepsFrom
+  going-out-steps n₀ steps s g = let z : steps + 0 ≡ steps = omega arith in sym z ∙ g .counts
 
 -- a node of the new path is one that a path record holds
-node-sound : (links : ℕ) (r : State.Round) (s₀ : State.Search) (b : SearchBegins links r s₀) (n₀ n : ℕ) (s : State.Search) (g : Going (b .top) links r n₀ s₀ n s) (i : ℕ) (x : DispNode) → at (s .«disp_path_new») i ≡ ok x → Sound x
-node-sound links r s₀ b n₀ n s g i x q =
+node-sound : (links : ℕ) (r : State.Round) (s₀ : State.Search) (b : SearchBegins links r s₀) (n₀ n steps : ℕ) (s : State.Search) (g : Going (b .top) links r n₀ s₀ n steps s) (i : ℕ) (x : DispNode) → at (s .«disp_path_new») i ≡ ok x → Sound x
+node-sound links r s₀ b n₀ n steps s g i x q =
     let y = g .good .nodes-good i x q in
     let z = g .fits .nodes i x q in
     record {
@@ -297,8 +315,8 @@ node-sound links r s₀ b n₀ n s g i x q =
 -- ---- the loop's own values: the new path as the buffer has it, and p says how many nodes of it count
 
 module _ (occ img dt dn : List ℕ) (r : Round) (t : Train) (s₀ : State.Search) (b : SearchBegins (length occ) (roundOf t occ img dt dn r) s₀)
-    (n₀ left : ℕ) (p : Place) (fresh nt nn : List ℕ) (a : Arrays)
-    (g : Going (b .top) (length occ) (roundOf t occ img dt dn r) n₀ s₀ left (searchIn (r .«est_count») p (listed (p .«new_count») (nodeAt fresh)) (divsOf (p .«div_count») nt nn) a)) where
+    (n₀ left steps : ℕ) (p : Place) (fresh nt nn : List ℕ) (a : Arrays)
+    (g : Going (b .top) (length occ) (roundOf t occ img dt dn r) n₀ s₀ left steps (searchIn (r .«est_count») p (listed (p .«new_count») (nodeAt fresh)) (divsOf (p .«div_count») nt nn) a)) where
   abbrev round : State.Round
   round = roundOf t occ img dt dn r
 
@@ -326,38 +344,40 @@ module _ (occ img dt dn : List ℕ) (r : Round) (t : Train) (s₀ : State.Search
     abbrev after : State.Search
     after = searchIn (r .«est_count») q new (divsOf (q .«div_count») nt′ nn′) a′
 
-    left-one : Going (b .top) (length occ) round n₀ s₀ (suc m) (searchIn (r .«est_count») p new (divsOf (p .«div_count») nt nn) a)
-    left-one = subst (λ (j : ℕ). Going (b .top) (length occ) round n₀ s₀ j (searchIn (r .«est_count») p new (divsOf (p .«div_count») nt nn) a)) n g
+    left-one : Going (b .top) (length occ) round n₀ s₀ (suc m) steps (searchIn (r .«est_count») p new (divsOf (p .«div_count») nt nn) a)
+    left-one = subst (λ (j : ℕ). Going (b .top) (length occ) round n₀ s₀ j steps (searchIn (r .«est_count») p new (divsOf (p .«div_count») nt nn) a)) n g
 
     -- it goes on with this new path
     abbrev longer : List DispNode
     longer = take (x .count) (new ++ (x .node ∷ []))
 
-    goes-on : x .goes ≡ true → Going (b .top) (length occ) round n₀ s₀ m (State.setNew after longer)
-    goes-on y = going-on (length occ) round s₀ b n₀ m _ left-one (turnOf go e round h after) (w .0) (State.setNew after longer) (f .node y round h after new-long)
+    goes-on : x .goes ≡ true → Going (b .top) (length occ) round n₀ s₀ m (steps + 1) (State.setNew after longer)
+    goes-on y = going-on (length occ) round s₀ b n₀ m steps _ left-one (turnOf go e round h after) (w .0) (State.setNew after longer) (f .node y round h after new-long)
 
     pub turn-sound : x .goes ≡ true → x .count ≡ p .«new_count» + 1 → Sound (x .node)
     turn-sound y z =
         let u : longer ≡ new ++ (x .node ∷ []) = take-all (x .count) (new ++ (x .node ∷ [])) (omega (arith, length-append new (x .node ∷ []), new-long, z)) in
         let v : at (new ++ (x .node ∷ [])) (p .«new_count») ≡ ok (x .node) = at-in (new ++ (x .node ∷ [])) (p .«new_count») (x .node) (omega (arith, length-append new (x .node ∷ []), new-long)) ∙ ap ok (getD-at new (x .node) [] (x .node) (p .«new_count») new-long) in
-        node-sound (length occ) round s₀ b n₀ m (State.setNew after longer) (goes-on y) (p .«new_count») (x .node) (ap (λ (ns : List DispNode). at ns (p .«new_count»)) u ∙ v)
+        node-sound (length occ) round s₀ b n₀ m (steps + 1) (State.setNew after longer) (goes-on y) (p .«new_count») (x .node) (ap (λ (ns : List DispNode). at ns (p .«new_count»)) u ∙ v)
 
-    pub turn-on : x .goes ≡ true → (fresh1 : List ℕ) → listed (x .count) (nodeAt fresh1) ≡ longer → Going (b .top) (length occ) round n₀ s₀ m (searchIn (r .«est_count») (counted q (x .count)) (listed (x .count) (nodeAt fresh1)) (divsOf (q .«div_count») nt′ nn′) a′)
-    turn-on y fresh1 z = subst (λ (ns : List DispNode). Going (b .top) (length occ) round n₀ s₀ m (searchIn (r .«est_count») (counted q (x .count)) ns (divsOf (q .«div_count») nt′ nn′) a′)) (sym z) (goes-on y)
+    pub turn-on : x .goes ≡ true → (fresh1 : List ℕ) → listed (x .count) (nodeAt fresh1) ≡ longer → Going (b .top) (length occ) round n₀ s₀ m (steps + 1) (searchIn (r .«est_count») (counted q (x .count)) (listed (x .count) (nodeAt fresh1)) (divsOf (q .«div_count») nt′ nn′) a′)
+    turn-on y fresh1 z = subst (λ (ns : List DispNode). Going (b .top) (length occ) round n₀ s₀ m (steps + 1) (searchIn (r .«est_count») (counted q (x .count)) ns (divsOf (q .«div_count») nt′ nn′) a′)) (sym z) (goes-on y)
 
-    pub turn-ends : x .goes ≡ false → n₀ ≡ turnLimit (round .train) → Ran (length occ) round s₀ go e h after
+    pub turn-ends : x .goes ≡ false → n₀ ≡ turnLimit (round .train) → Ran (length occ) round s₀ go e h (steps + 1) after
     turn-ends y o = record {
       after = searchFrom m round;
-      is = ap (λ (j : ℕ). searchFrom j round s₀) (sym o) ∙ going-ends (length occ) round s₀ b n₀ m _ left-one (turnOf go e round h after) (w .0);
+      is = ap (λ (j : ℕ). searchFrom j round s₀) (sym o) ∙ going-ends (length occ) round s₀ b n₀ m steps _ left-one (turnOf go e round h after) (w .0);
+      counts = going-last (length occ) round s₀ b n₀ m steps _ left-one (turnOf go e round h after) (w .0) (turn-stops (λ u. stepsFrom m round u) go e round h after (λ c. f .stops y c)) ∙ ap (λ (j : ℕ). stepsFrom j round s₀) o;
       ended = λ c. f .stops y c;
       left = λ c. record { top = searchIn (r .«est_count») p new (divsOf (p .«div_count») nt nn) a; good = g .good; looked = w .1 c };
     }
 
 -- no turn was left
-pub turns-out : (links : ℕ) (r : State.Round) (s₀ s u : State.Search) (b : SearchBegins links r s₀) (h : Look.Here) (n₀ left : ℕ) → Going (b .top) links r n₀ s₀ left s → left ≡ 0 → n₀ ≡ turnLimit (r .train) → Ran links r s₀ Advance (Refused 13) h u
-turns-out links r s₀ s u b h n₀ left g z o = record {
+pub turns-out : (links : ℕ) (r : State.Round) (s₀ s u : State.Search) (b : SearchBegins links r s₀) (h : Look.Here) (n₀ left steps : ℕ) → Going (b .top) links r n₀ s₀ left steps s → left ≡ 0 → n₀ ≡ turnLimit (r .train) → Ran links r s₀ Advance (Refused 13) h steps u
+turns-out links r s₀ s u b h n₀ left steps g z o = record {
   after = λ v. no 13;
-  is = ap (λ (j : ℕ). searchFrom j r s₀) (sym o) ∙ going-out links r s₀ b n₀ s (subst (λ (j : ℕ). Going (b .top) links r n₀ s₀ j s) z g);
+  is = ap (λ (j : ℕ). searchFrom j r s₀) (sym o) ∙ going-out links r s₀ b n₀ steps s (subst (λ (j : ℕ). Going (b .top) links r n₀ s₀ j steps s) z g);
+  counts = going-out-steps links r s₀ b n₀ steps s (subst (λ (j : ℕ). Going (b .top) links r n₀ s₀ j steps s) z g) ∙ ap (λ (j : ℕ). stepsFrom j r s₀) o;
   ended = λ c. refl;
   left = λ c. clash false c refl;
 }

@@ -11,7 +11,7 @@ use Rattle.image.specs.Image.{estCount, estPlace, nodeAt, nodePlace}
 use Rattle.free_path.specs.Base.{Res, ok, _>>=_}
 use Rattle.update_definition.specs.State as State
 use Rattle.update_definition.specs.Look as Look
-use Rattle.update_definition.specs.Update.{searchFrom, turnLimit}
+use Rattle.update_definition.specs.Update.{searchFrom, stepsFrom, turnLimit}
 use Rattle.update_definition.specs.Accepted.{Accepted}
 use Rattle.update_definition.specs.declared.Move.{Move}
 use Rattle.update_laws.specs.Good.{Good}
@@ -81,11 +81,12 @@ pub record Ready (img occ on dt dn : List ℕ) (r : Round) (start : Place) (fres
   pub train : Train
   pub begins : SearchBegins (length occ) (roundOf train occ img dt dn r) (searchAt r start [] a nt nn)
 
--- the search s as it is at the beginning of a turn, top being the largest train, with n of n₀ turns left, when it began as s₀
-pub record Going (top links : ℕ) (r : State.Round) (n₀ : ℕ) (s₀ : State.Search) (n : ℕ) (s : State.Search) : Type 0 where
+-- the search s as it is at the beginning of a turn, top being the largest train, with n of n₀ turns left and after so many entries, when it began as s₀
+pub record Going (top links : ℕ) (r : State.Round) (n₀ : ℕ) (s₀ : State.Search) (n steps : ℕ) (s : State.Search) : Type 0 where
   pub good : Good links r s
   pub fits : SearchFits top s
   pub same : searchFrom n r s ≡ searchFrom n₀ r s₀
+  pub counts : steps + stepsFrom n r s ≡ stepsFrom n₀ r s₀
 
 -- a search that had looked and left its move to do
 pub record Leaves (links : ℕ) (r : State.Round) (h : Look.Here) (u : State.Search) : Type 0 where
@@ -93,10 +94,11 @@ pub record Leaves (links : ℕ) (r : State.Round) (h : Look.Here) (u : State.Sea
   pub good : Good links r top
   pub looked : Looked r top h u
 
--- the search from s has ended: the answer is that of the move go, which is left to do, or of the effect e
-pub record Ran (links : ℕ) (r : State.Round) (s : State.Search) (go : Move) (e : Effect) (h : Look.Here) (u : State.Search) : Type 0 where
+-- the search from s has ended: the answer is that of the move go, which is left to do, or of the effect e, and the loop was entered so often
+pub record Ran (links : ℕ) (r : State.Round) (s : State.Search) (go : Move) (e : Effect) (h : Look.Here) (steps : ℕ) (u : State.Search) : Type 0 where
   pub after : State.Search → Res State.Ended
   pub is : searchFrom (turnLimit (r .train)) r s ≡ endOf after (turnOf go e r h u)
+  pub counts : steps ≡ stepsFrom (turnLimit (r .train)) r s
   pub ended : leaves go ≡ false → onward e ≡ false
   pub left : leaves go ≡ true → Leaves links r h u
 
@@ -104,5 +106,5 @@ pub record Ran (links : ℕ) (r : State.Round) (s : State.Search) (go : Move) (e
 abbrev pub Searches : (occ img dt dn : List ℕ) (r : Round) (start : Place) (a : Arrays) (nt nn : List ℕ) (x : Searched) (fresh : List ℕ) (b : Arrays) (nt₁ nn₁ : List ℕ) → Type 0
 Searches occ img dt dn r start a nt nn x fresh b nt₁ nn₁ =
     (t : Train) → SearchBegins (length occ) (roundOf t occ img dt dn r) (searchAt r start [] a nt nn)
-    → Ran (length occ) (roundOf t occ img dt dn r) (searchAt r start [] a nt nn) (x .go) (x .effect) (hereOf (x .here))
+    → Ran (length occ) (roundOf t occ img dt dn r) (searchAt r start [] a nt nn) (x .go) (x .effect) (hereOf (x .here)) (x .steps)
     (searchAt r (x .place) (listed (x .«new_count») (nodeAt fresh)) b nt₁ nn₁)

@@ -19,13 +19,14 @@ ghost use Rattle.search.specs.Read.{arrays};
 ghost use Rattle.splice.specs.Read.{Kept};
 ghost use Rattle.search.specs.Runs.{slotOf, Follows, FollowsTurn, Ready, counted, Searches};
 
-// How the search ended: the move that is left to do or its effect, where it stood and stands, and how many nodes the new path has.
+// How the search ended: the move that is left to do or its effect, where it stood and stands, how many nodes the new path has, and how often the loop was entered.
 pub struct Searched {
     pub go: Move,
     pub effect: Effect,
     pub here: Here,
     pub place: Place,
     pub new_count: usize,
+    pub steps: u64,
 }
 
 // Does the search go on? Then the node that is written behind the new path, and how many nodes of it count.
@@ -136,8 +137,8 @@ fn at_count(p: Place, k: usize) -> Place
 }
 
 // The turns are at an end, which no search of an accepted train meets. Where it stood does not count.
-fn out_of_turns(curr: DispNode, p: Place) -> Searched
-    ensures { λ x. ⌜ (x .go ≡ Move.Advance) × (x .effect ≡ Effect.Refused 13) × (x .place ≡ p) × (x .«new_count» ≡ 0) ⌝ }
+fn out_of_turns(curr: DispNode, p: Place, steps: u64) -> Searched
+    ensures { λ x. ⌜ (x .go ≡ Move.Advance) × (x .effect ≡ Effect.Refused 13) × (x .place ≡ p) × (x .«new_count» ≡ 0) × (x .steps ≡ steps) ⌝ }
 {
     let here = look::nowhere(curr);
     Searched {
@@ -146,6 +147,7 @@ fn out_of_turns(curr: DispNode, p: Place) -> Searched
         here: here,
         place: p,
         new_count: 0,
+        steps: steps,
     }
 }
 
@@ -176,7 +178,9 @@ pub fn run(
     let mut curr = codec::whole_node(img, one_less(p.idx_split) as u32);
     let mut new = [codec::zero_node(); 64];
     let mut left = 3 * r.est_count + 1;
+    let mut steps = 0u64;
     while 0 < left {
+        steps += 1;
         let k = p.new_count;
         let t = turn::turn(img, occ, on, dt, dn, r, p, curr, pool, begins, ends, nt, nn);
         let go = t.go;
@@ -191,6 +195,7 @@ pub fn run(
                 here: here,
                 place: place,
                 new_count: k,
+                steps: steps,
             };
         }
         let n = a.node;
@@ -202,5 +207,5 @@ pub fn run(
         curr = current(img, fresh, p.idx_split, k, a, new[top]);
         left -= 1;
     }
-    out_of_turns(curr, p)
+    out_of_turns(curr, p, steps)
 }

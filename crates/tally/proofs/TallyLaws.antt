@@ -3,7 +3,7 @@ use mathlib.Core.Path.{_≡_, ap, _∙_}
 use Prim.Native.Nat.{ℕ, _+_, _-_, _≤_, _<_, _^_}
 use native.Mathlib.Omega.{arith}
 use borrow.Author.Tests.{lt-ltb, le-leb}
-use Rattle.tally.specs.Tally.{counted, faulted, roundsAfter, sumOf, countedRound, countedFaults}
+use Rattle.tally.specs.Tally.{counted, faulted, stepped, roundsAfter, sumOf, countedRound, countedFaults, countedSteps}
 use Rattle.tally.specs.declared.Tally.{Tally}
 
 rounds-within : (n : ℕ) → n + 1 < 2 ^ 16 → roundsAfter n ≡ n + 1
@@ -21,5 +21,8 @@ counted-within t strays r s f =
 pub faulted-within : (t : Tally) (n : ℕ) → t .faults + n < 2 ^ 64 → countedFaults t n ≡ faulted t n
 faulted-within t n f = rw (sum-within (t .faults) n f)
 
+pub stepped-within : (t : Tally) (n : ℕ) → t .steps + n < 2 ^ 64 → countedSteps t n ≡ stepped t n
+stepped-within t n f = rw (sum-within (t .steps) n f)
+
 pub faulted-none : (t : Tally) → faulted t 0 ≡ t
-faulted-none t = let z : t .faults + 0 ≡ t .faults = omega arith in ap (λ (n : ℕ). record { rounds = t .rounds; strays = t .strays; faults = n }) z
+faulted-none t = let z : t .faults + 0 ≡ t .faults = omega arith in ap (λ (n : ℕ). record { rounds = t .rounds; strays = t .strays; faults = n; steps = t .steps }) z

@@ -1,13 +1,14 @@
-// The tally of an update (document 01): rounds, strays and faults, lent to one thin function that each round calls.
+// The tally of an update (document 01): rounds, strays and faults, lent to one thin function that each round calls; and the steps of its searches (Q-9).
 // `count_round` and `counted_round` are proved by walks of their MIR, by hand; whoever calls `counted_round`, which takes the tally by value, needs none.
 // The crate assumes nothing of its own, and no public function has a `requires`.
 ghost use mathlib.Core.Path.{_≡_};
-ghost use Rattle.tally.specs.Tally.{started, roundsAfter, sumOf, countedRound, countedFaults};
+ghost use Rattle.tally.specs.Tally.{started, roundsAfter, sumOf, countedRound, countedFaults, countedSteps};
 
 pub struct Tally {
     pub rounds: u16,
     pub strays: u64,
     pub faults: u64,
+    pub steps: u64,
 }
 
 // ---- over numbers
@@ -40,6 +41,7 @@ pub fn started(strays: u64) -> Tally
         rounds: 0,
         strays: strays,
         faults: 0,
+        steps: 0,
     }
 }
 
@@ -50,6 +52,7 @@ fn after_round(t: Tally, strays: u64, faults: u64) -> Tally
         rounds: rounds_after(t.rounds),
         strays: sum_of(t.strays, strays),
         faults: sum_of(t.faults, faults),
+        steps: t.steps,
     }
 }
 
@@ -77,5 +80,18 @@ pub fn counted_faults(t: Tally, faults: u64) -> Tally
         rounds: t.rounds,
         strays: t.strays,
         faults: sum_of(t.faults, faults),
+        steps: t.steps,
+    }
+}
+
+// The search of a round has ended after so many steps.
+pub fn counted_steps(t: Tally, steps: u64) -> Tally
+    ensures { λ r. ⌜ r ≡ countedSteps t steps ⌝ }
+{
+    Tally {
+        rounds: t.rounds,
+        strays: t.strays,
+        faults: t.faults,
+        steps: sum_of(t.steps, steps),
     }
 }

@@ -18,7 +18,7 @@ use Rattle.update_definition.specs.Fits.{TrainsWithin}
 use Rattle.tally.specs.Tally.{counted}
 use Rattle.tally.specs.declared.Tally.{Tally}
 use Rattle.link_rules.specs.Refusals.{refused}
-use Rattle.update_definition.specs.Update.{Given, Status, Success, Blocked, Faulty, Refused, Updated, Between, faultsOf, finish, afterRound, due, roundsFrom, roundOf, straysOf, startOf, givenOf, updateFrom, updateFreePath}
+use Rattle.update_definition.specs.Update.{Given, Status, Success, Blocked, Faulty, Refused, Updated, Between, faultsOf, finish, afterRound, searched, due, roundsFrom, roundOf, straysOf, startOf, givenOf, updateFrom, updateFreePath}
 use Rattle.update_laws.proofs.Answers.{no-ok, ok-same, bind-ok, need-ok}
 use Rattle.link_rules.specs.declared.link_idx.LinkIdx.{LinkIdx}
 use Rattle.link_rules.specs.declared.link_idx.TrainIdx.{TrainIdx}
@@ -139,7 +139,7 @@ module _ (g : Given) (was : Train) where
   unfolding roundsFrom
   rounds-right zero w = cond-right (due w) _ _ (λ h. other-no (Refused (refused 12 0)) refl h) (finish-right (faultsOf g (w .train)) (w .tally) (w .train) refl)
   rounds-right (suc k) w =
-      cond-right (due w) _ _ (after-right (roundOf g (w .train) (w .«idx_split») (w .«div_idx_split»)) (λ x. roundsFrom k g was x) w (λ y. rounds-right k y))
+      cond-right (due w) _ _ (after-right (roundOf g (w .train) (w .«idx_split») (w .«div_idx_split»)) (λ x. roundsFrom k g was x) (searched g w) (λ y. rounds-right k y))
       (finish-right (faultsOf g (w .train)) (w .tally) (w .train) refl)
 
 pub update-right : (occ : List ℕ) (blocking : List LinkIdx) (moved : TrainIdx) (local : Bool) (limit : ℕ) (t : Train)

@@ -14,7 +14,7 @@ use Rattle.disp_structs.specs.Train.{Train}
 use Rattle.disp_structs.specs.declared.Metres.{Metres}
 use Rattle.disp_structs.specs.declared.DispNode.{DispNode}
 use Rattle.disp_structs.specs.declared.DivergeNode.{DivergeNode}
-use Rattle.tally.specs.Tally.{started, counted, faulted}
+use Rattle.tally.specs.Tally.{started, counted, faulted, stepped}
 use Rattle.tally.specs.declared.Tally.{Tally}
 use Rattle.free_path.specs.Base.{Res, ok, no, _>>=_, _>>_, need, at, before, walkFrom}
 use Rattle.free_path.specs.LinkOptType.{linksOnPath, contains, linkIdxPath, least, linkOptType, Sentinels, calcIdxSentinels, findTrainIntersect}
@@ -269,6 +269,10 @@ afterRound (ok atEnd) next g was w = finish (faultsOf g (w .train)) (counted (w 
 afterRound (ok (blockedAt t)) next g was w = answered Blocked (counted (w .tally) 0) t
 afterRound (ok (again t split divSplit)) next g was w = next (between t split divSplit (counted (w .tally) (straysOf g t)))
 
+-- the entries into the search loop of its round are counted, however the round ends
+abbrev pub searched : Given → Between → Between
+searched g w = between (w .train) (w .«idx_split») (w .«div_idx_split») (stepped (w .tally) (roundSteps g (w .train) (w .«idx_split») (w .«div_idx_split»)))
+
 -- is another round due? (278)
 abbrev pub due : Between → Bool
 due w = ltb (w .«idx_split») (length (w .train .«disp_path»))
@@ -280,7 +284,7 @@ roundsFrom zero g was w =
     cond (due w) (refused 12 (w .tally) was) end
 roundsFrom (suc k) g was w =
     let end = finish (faultsOf g (w .train)) (w .tally) was (w .train) in
-    let more = afterRound (roundOf g (w .train) (w .«idx_split») (w .«div_idx_split»)) (λ x. roundsFrom k g was x) g was w in
+    let more = afterRound (roundOf g (w .train) (w .«idx_split») (w .«div_idx_split»)) (λ x. roundsFrom k g was x) g was (searched g w) in
     cond (due w) more end
 
 -- ---- update_free_path

@@ -1,5 +1,5 @@
 -- The loop over rounds by how each round ends, and what it keeps of the train in the image. Assumes nothing.
-use mathlib.Core.Path.{_≡_, refl, sym, ap, _∙_}
+use mathlib.Core.Path.{_≡_, refl, sym, ap, ap₂, _∙_}
 use mathlib.Core.Bool.{Bool, true, false, cond, _&&_, false≢true}
 use mathlib.Core.List.{List, []}
 use Prim.Native.Nat.{ℕ, zero, suc, _+_, _-_, _≤_, _<_}
@@ -19,7 +19,7 @@ use Rattle.free_path.specs.Columns.{linkAt, flagged}
 use Rattle.free_path.specs.LinkOptType.{linkIdxPath}
 use Rattle.free_path.specs.Validate.{strayLink}
 use Rattle.free_path.proofs.ColumnLaws.{listed-read}
-use Rattle.tally.specs.Tally.{counted}
+use Rattle.tally.specs.Tally.{counted, stepped}
 use Rattle.tally.specs.declared.Tally.{Tally}
 use Rattle.update_definition.specs.State as State
 use Rattle.update_definition.specs.State.{again}
@@ -28,6 +28,7 @@ use Rattle.update_definition.specs.Accepted.{Accepted}
 use Rattle.update_definition.specs.Fits.{Fits}
 use Rattle.update_laws.proofs.Rounds.{round-good}
 use Rattle.update_laws.proofs.Updates.{round-fits}
+use Rattle.update_laws.proofs.Steps.{round-few, round-answers}
 use Rattle.update_laws.specs.AfterRound.{StaysAccepted, NextRound}
 use Rattle.search.specs.Read.{pathOf, Marked}
 use Rattle.splice.specs.Read.{trainOf, Kept}
@@ -54,32 +55,39 @@ module _ (g : Update.Given) (was : Train) (w : Update.Between) where
   abbrev rounded : Res State.Ended
   rounded = Update.roundOf g (w .train) (w .«idx_split») (w .«div_idx_split»)
 
+  abbrev took : ℕ
+  took = Update.roundSteps g (w .train) (w .«idx_split») (w .«div_idx_split»)
+
   module _ (k : ℕ) (d : Update.due w ≡ true) where
-    entered : Update.afterRound rounded (λ x. Update.roundsFrom k g was x) g was w ≡ Update.roundsFrom (suc k) g was w
+    entered : Update.afterRound rounded (λ x. Update.roundsFrom k g was x) g was (Update.searched g w) ≡ Update.roundsFrom (suc k) g was w
     unfolding Update.roundsFrom
     entered = rw d
 
     -- another round follows
-    rounds-again : (u : Train) (i j s : ℕ) → ok (again u i j) ≡ rounded → s ≡ Update.straysOf g u
-        → Update.roundsFrom k g was (Update.between u i j (counted (w .tally) s)) ≡ Update.roundsFrom (suc k) g was w
+    rounds-again : (u : Train) (i j n s : ℕ) → ok (again u i j) ≡ rounded → n ≡ took → s ≡ Update.straysOf g u
+        → Update.roundsFrom k g was (Update.between u i j (counted (stepped (w .tally) n) s)) ≡ Update.roundsFrom (suc k) g was w
     unfolding Update.afterRound
-    rounds-again u i j s e q =
-        ap (λ (z : ℕ). Update.roundsFrom k g was (Update.between u i j (counted (w .tally) z))) q
-        ∙ ap (λ x. Update.afterRound x (λ y. Update.roundsFrom k g was y) g was w) e
+    rounds-again u i j n s e p q =
+        ap₂ (λ (m z : ℕ). Update.roundsFrom k g was (Update.between u i j (counted (stepped (w .tally) m) z))) p q
+        ∙ ap (λ x. Update.afterRound x (λ y. Update.roundsFrom k g was y) g was (Update.searched g w)) e
         ∙ entered
 
     -- no other follows
-    rounds-stop : (e : End) (u : Train) (h : PathHeader) (i j s : ℕ) → isLast e ≡ true → endBy e u i j ≡ rounded → (isAtEnd e ≡ true → u ≡ w .train) → s ≡ Update.straysOf g (w .train)
-        → ranIn g was (stoppedBy e h (w .tally) s) u ≡ Update.roundsFrom (suc k) g was w
+    stops-at : (e : End) (u : Train) (h : PathHeader) (i j s : ℕ) → isLast e ≡ true → endBy e u i j ≡ rounded → (isAtEnd e ≡ true → u ≡ w .train) → s ≡ Update.straysOf g (w .train)
+        → ranIn g was (stoppedBy e h (w .tally) took s) u ≡ Update.roundsFrom (suc k) g was w
     unfolding Update.afterRound
-    rounds-stop (Ends.Refused c) u h i j s a e l q = ap (λ x. Update.afterRound x (λ y. Update.roundsFrom k g was y) g was w) e ∙ entered
-    rounds-stop Ends.AtEnd u h i j s a e l q =
-        ap (λ (z : Train). Update.finish (Update.faultsOf g z) (counted (w .tally) s) was z) (l refl)
-        ∙ ap (λ (z : ℕ). Update.finish (Update.faultsOf g (w .train)) (counted (w .tally) z) was (w .train)) q
-        ∙ ap (λ x. Update.afterRound x (λ y. Update.roundsFrom k g was y) g was w) e
+    stops-at (Ends.Refused c) u h i j s a e l q = ap (λ x. Update.afterRound x (λ y. Update.roundsFrom k g was y) g was (Update.searched g w)) e ∙ entered
+    stops-at Ends.AtEnd u h i j s a e l q =
+        ap (λ (z : Train). Update.finish (Update.faultsOf g z) (counted (stepped (w .tally) took) s) was z) (l refl)
+        ∙ ap (λ (z : ℕ). Update.finish (Update.faultsOf g (w .train)) (counted (stepped (w .tally) took) z) was (w .train)) q
+        ∙ ap (λ x. Update.afterRound x (λ y. Update.roundsFrom k g was y) g was (Update.searched g w)) e
         ∙ entered
-    rounds-stop Ends.Blocked u h i j s a e l q = ap (λ x. Update.afterRound x (λ y. Update.roundsFrom k g was y) g was w) e ∙ entered
-    rounds-stop Ends.Again u h i j s a e l q = absurd (false≢true a)
+    stops-at Ends.Blocked u h i j s a e l q = ap (λ x. Update.afterRound x (λ y. Update.roundsFrom k g was y) g was (Update.searched g w)) e ∙ entered
+    stops-at Ends.Again u h i j s a e l q = absurd (false≢true a)
+
+    rounds-stop : (e : End) (u : Train) (h : PathHeader) (i j n s : ℕ) → isLast e ≡ true → endBy e u i j ≡ rounded → (isAtEnd e ≡ true → u ≡ w .train) → n ≡ took → s ≡ Update.straysOf g (w .train)
+        → ranIn g was (stoppedBy e h (w .tally) n s) u ≡ Update.roundsFrom (suc k) g was w
+    rounds-stop e u h i j n s a q l p z = ap (λ (m : ℕ). ranIn g was (stoppedBy e h (w .tally) m s) u) p ∙ stops-at e u h i j s a q l z
 
   -- none is due
   rounds-end : (k : ℕ) → Update.due w ≡ false → Update.finish (Update.faultsOf g (w .train)) (w .tally) was (w .train) ≡ Update.roundsFrom k g was w
@@ -145,25 +153,25 @@ kept-goes Ends.Again a = refl
 abbrev ran-at : List ℕ → List ℕ → List ℕ → List ℕ → Train → Ran → Update.Updated
 ran-at occ img dt dn was r = ranBy (r .stop) (errorsOf img occ (r .header)) (r .tally) was (trainOf img dt dn (r .header))
 
-stopped-at : (occ img dt dn : List ℕ) (g : Given) (blocking start : List LinkIdx) (was : Train) (e : End) (h : PathHeader) (n : Tally) (s : ℕ)
-    → ran-at occ img dt dn was (stoppedBy e h n s) ≡ ranIn (givenOf g occ blocking start) was (stoppedBy e h n s) (trainOf img dt dn h)
+stopped-at : (occ img dt dn : List ℕ) (g : Given) (blocking start : List LinkIdx) (was : Train) (e : End) (h : PathHeader) (n : Tally) (m s : ℕ)
+    → ran-at occ img dt dn was (stoppedBy e h n m s) ≡ ranIn (givenOf g occ blocking start) was (stoppedBy e h n m s) (trainOf img dt dn h)
 unfolding trainOf
-stopped-at occ img dt dn g blocking start was (Ends.Refused c) h n s = refl
-stopped-at occ img dt dn g blocking start was Ends.AtEnd h n s = refl
-stopped-at occ img dt dn g blocking start was Ends.Blocked h n s = refl
-stopped-at occ img dt dn g blocking start was Ends.Again h n s = refl
+stopped-at occ img dt dn g blocking start was (Ends.Refused c) h n m s = refl
+stopped-at occ img dt dn g blocking start was Ends.AtEnd h n m s = refl
+stopped-at occ img dt dn g blocking start was Ends.Blocked h n m s = refl
+stopped-at occ img dt dn g blocking start was Ends.Again h n m s = refl
 
-stop-refused : (e : End) (h : PathHeader) (n : Tally) (s : ℕ) → stopRefused (stoppedBy e h n s .stop) ≡ false → Rounds.endRefused e ≡ false
-stop-refused (Ends.Refused c) h n s q = absurd (false≢true (sym q))
-stop-refused Ends.AtEnd h n s q = refl
-stop-refused Ends.Blocked h n s q = refl
-stop-refused Ends.Again h n s q = refl
+stop-refused : (e : End) (h : PathHeader) (n : Tally) (m s : ℕ) → stopRefused (stoppedBy e h n m s .stop) ≡ false → Rounds.endRefused e ≡ false
+stop-refused (Ends.Refused c) h n m s q = absurd (false≢true (sym q))
+stop-refused Ends.AtEnd h n m s q = refl
+stop-refused Ends.Blocked h n m s q = refl
+stop-refused Ends.Again h n m s q = refl
 
-stop-faultless : (e : End) (h : PathHeader) (n : Tally) (s : ℕ) → n .faults ≡ 0 → stoppedBy e h n s .tally .faults ≡ 0
-stop-faultless (Ends.Refused c) h n s q = q
-stop-faultless Ends.AtEnd h n s q = q
-stop-faultless Ends.Blocked h n s q = q
-stop-faultless Ends.Again h n s q = q
+stop-faultless : (e : End) (h : PathHeader) (n : Tally) (m s : ℕ) → n .faults ≡ 0 → stoppedBy e h n m s .tally .faults ≡ 0
+stop-faultless (Ends.Refused c) h n m s q = q
+stop-faultless Ends.AtEnd h n m s q = q
+stop-faultless Ends.Blocked h n m s q = q
+stop-faultless Ends.Again h n m s q = q
 
 module _ (occ img col on dt dn flags : List ℕ) (g : Given) (w : Between) (t : Top occ img col on dt dn w) where
   abbrev train : Train
@@ -172,7 +180,14 @@ module _ (occ img col on dt dn flags : List ℕ) (g : Given) (w : Between) (t : 
   abbrev given : List LinkIdx → List LinkIdx → Update.Given
   given blocking start = givenOf g occ blocking start
 
-  module _ (img′ dt′ dn′ : List ℕ) (x : RoundEnd) (e : (blocking start : List LinkIdx) → endedOf x (trainOf img′ dt′ dn′ (x .header)) ≡ Update.roundOf (given blocking start) train (w .split) (w .«div_split»)) where
+  -- the steps of a round
+  pub steps-few : (n : ℕ) → ((blocking start : List LinkIdx) → n ≡ Update.roundSteps (given blocking start) train (w .split) (w .«div_split»)) → n ≤ 1024
+  steps-few n q =
+      let a = t .held .accepted in
+      omega (arith, q [] [], round-few (length occ) (given [] []) train a (w .split) (w .«div_split») (t .split-low) (t .div-low) (round-answers (length occ) (given [] []) train a (w .split) (w .«div_split») (t .split-low) (t .div-low)), a .ests .few)
+
+  module _ (img′ dt′ dn′ : List ℕ) (x : RoundEnd) (e : (blocking start : List LinkIdx) → endedOf x (trainOf img′ dt′ dn′ (x .header)) ≡ Update.roundOf (given blocking start) train (w .split) (w .«div_split»))
+      (o : (blocking start : List LinkIdx) → x .steps ≡ Update.roundSteps (given blocking start) train (w .split) (w .«div_split»)) where
     abbrev train′ : Train
     train′ = trainOf img′ dt′ dn′ (x .header)
 
@@ -207,6 +222,7 @@ module _ (occ img col on dt dn flags : List ℕ) (g : Given) (w : Between) (t : 
             split-low = good .1 .low;
             div-low = good .1 .point .low;
             few = omega (arith, t .few);
+            paced = omega (arith, t .paced, steps-few (x .steps) o);
             faultless = t .faultless;
           }
 
@@ -214,15 +230,15 @@ module _ (occ img col on dt dn flags : List ℕ) (g : Given) (w : Between) (t : 
           → roundsAt occ g blocking start limit img′ dt′ dn′ was (nextOf w x s) ≡ roundsAt occ g blocking start limit img dt dn was w
       next-same limit l d blocking start was s q =
           let n : limit - w .tally .rounds ≡ suc (limit - (w .tally .rounds + 1)) = omega arith in
-          rounds-again (given blocking start) was (betweenOf img dt dn w) (limit - (w .tally .rounds + 1)) (due-same img dt dn w ∙ d) train′ (x .split) (x .«div_split») s (sym (goes blocking start)) q
+          rounds-again (given blocking start) was (betweenOf img dt dn w) (limit - (w .tally .rounds + 1)) (due-same img dt dn w ∙ d) train′ (x .split) (x .«div_split») (x .steps) s (sym (goes blocking start)) (o blocking start) q
           ∙ ap (λ (z : ℕ). Update.roundsFrom z (given blocking start) was (betweenOf img dt dn w)) (sym n)
 
     stop-same : isLast (x .end) ≡ true → (isAtEnd (x .end) ≡ true → train′ ≡ train) → (limit : ℕ) → w .tally .rounds < limit → dueAt w ≡ true → (blocking start : List LinkIdx) (was : Train) (s : ℕ) → s ≡ Update.straysOf (given blocking start) train
-        → ran-at occ img′ dt′ dn′ was (stoppedBy (x .end) (x .header) (w .tally) s) ≡ roundsAt occ g blocking start limit img dt dn was w
+        → ran-at occ img′ dt′ dn′ was (stoppedBy (x .end) (x .header) (w .tally) (x .steps) s) ≡ roundsAt occ g blocking start limit img dt dn was w
     stop-same a l limit r d blocking start was s q =
         let n : limit - w .tally .rounds ≡ suc (limit - (w .tally .rounds + 1)) = omega arith in
-        stopped-at occ img′ dt′ dn′ g blocking start was (x .end) (x .header) (w .tally) s
-        ∙ rounds-stop (given blocking start) was (betweenOf img dt dn w) (limit - (w .tally .rounds + 1)) (due-same img dt dn w ∙ d) (x .end) train′ (x .header) (x .split) (x .«div_split») s a (e blocking start) l q
+        stopped-at occ img′ dt′ dn′ g blocking start was (x .end) (x .header) (w .tally) (x .steps) s
+        ∙ rounds-stop (given blocking start) was (betweenOf img dt dn w) (limit - (w .tally .rounds + 1)) (due-same img dt dn w ∙ d) (x .end) train′ (x .header) (x .split) (x .«div_split») (x .steps) s a (e blocking start) l (o blocking start) q
         ∙ ap (λ (z : ℕ). Update.roundsFrom z (given blocking start) was (betweenOf img dt dn w)) (sym n)
 
     -- ---- what the loop keeps and answers
@@ -240,11 +256,11 @@ module _ (occ img col on dt dn flags : List ℕ) (g : Given) (w : Between) (t : 
 
       pub ended-stopped : isLast (x .end) ≡ true → (isAtEnd (x .end) ≡ true → train′ ≡ train) → (Rounds.endRefused (x .end) ≡ false → Kept img′ img)
           → (s : ℕ) → s ≡ count (strayLink occ (flagged flags)) (drop (w .header .free) (listed (w .header .«path_count») (linkAt col)))
-          → RoundsEnded occ flags g limit img₀ dt₀ dn₀ w₀ img′ dt′ dn′ (stoppedBy (x .end) (x .header) (w .tally) s)
+          → RoundsEnded occ flags g limit img₀ dt₀ dn₀ w₀ img′ dt′ dn′ (stoppedBy (x .end) (x .header) (w .tally) (x .steps) s)
       ended-stopped a l k s c =
           record {
-            kept = λ q. kept-then img′ img img₀ (k (stop-refused (x .end) (x .header) (w .tally) s q)) (v .kept);
-            faultless = stop-faultless (x .end) (x .header) (w .tally) s (t .faultless);
+            kept = λ q. kept-then img′ img img₀ (k (stop-refused (x .end) (x .header) (w .tally) (x .steps) s q)) (v .kept);
+            faultless = stop-faultless (x .end) (x .header) (w .tally) (x .steps) s (t .faultless);
             is = λ blocking start f was.
                 stop-same a l limit r d blocking start was s (c ∙ strays-are occ img dt dn (w .header) (t .held .accepted) (t .held .links) col flags (t .column) g blocking start f) ∙ v .same blocking start f was;
           }

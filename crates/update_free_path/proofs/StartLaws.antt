@@ -115,6 +115,7 @@ module _ (img occ : List ℕ) (h : PathHeader) (b : UpdateBegins img occ h) (byt
             split-low = omega arith;
             div-low = omega arith;
             few = omega arith;
+            paced = omega arith;
             faultless = refl;
           }
 

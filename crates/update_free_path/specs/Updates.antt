@@ -29,7 +29,7 @@ use Rattle.round.specs.declared.Given.{Given}
 use Rattle.round.specs.declared.End.{End}
 use Rattle.round.specs.declared.End.the-variants as Ends
 use Rattle.round.specs.declared.RoundEnd.{RoundEnd}
-use Rattle.tally.specs.Tally.{started, counted}
+use Rattle.tally.specs.Tally.{started, counted, stepped}
 use Rattle.tally.specs.declared.Tally.{Tally}
 use Rattle.update_free_path.specs.declared.rounds.Between.{Between}
 use Rattle.update_free_path.specs.declared.rounds.Ran.{Ran}
@@ -122,23 +122,24 @@ isLast Ends.Again = false
 abbrev pub ranOf : Stop → PathHeader → Tally → Ran
 ranOf stop h tally = record { stop = stop; header = h; tally = tally }
 
--- by the end of the last round, before which the tally was t, s being the strays of its path
-abbrev pub stoppedBy : End → PathHeader → Tally → ℕ → Ran
-stoppedBy (Ends.Refused c) h t s = ranOf (Stops.Refused c) h (counted t 0)
-stoppedBy Ends.AtEnd h t s = ranOf Stops.Ended h (counted t s)
-stoppedBy Ends.Blocked h t s = ranOf Stops.Blocked h (counted t 0)
-stoppedBy Ends.Again h t s = ranOf Stops.Ended h (counted t 0)
+-- by the end of the last round, before which the tally was t, n being its steps and s the strays of its path
+abbrev pub stoppedBy : End → PathHeader → Tally → ℕ → ℕ → Ran
+stoppedBy (Ends.Refused c) h t n s = ranOf (Stops.Refused c) h (counted (stepped t n) 0)
+stoppedBy Ends.AtEnd h t n s = ranOf Stops.Ended h (counted (stepped t n) s)
+stoppedBy Ends.Blocked h t n s = ranOf Stops.Blocked h (counted (stepped t n) 0)
+stoppedBy Ends.Again h t n s = ranOf Stops.Ended h (counted (stepped t n) 0)
 
 -- after a round that another may follow, s being the strays of the path that it left
 abbrev pub nextOf : Between → RoundEnd → ℕ → Between
-nextOf w x s = record { header = x .header; split = x .split; «div_split» = x .«div_split»; tally = counted (w .tally) s }
+nextOf w x s = record { header = x .header; split = x .split; «div_split» = x .«div_split»; tally = counted (stepped (w .tally) (x .steps)) s }
 
 -- no round follows
 abbrev pub closedAt : Between → Ran
 closedAt w = cond (dueAt w) (ranOf (Stops.Refused 12) (w .header) (w .tally)) (ranOf Stops.Ended (w .header) (w .tally))
 
--- one more round and these strays fit the tally, in which no fault is counted before the rounds have ended
-pub record Counting (t : Tally) (s : ℕ) : Type 0 where
+-- one more round, its n steps and s strays fit the tally, in which no fault is counted before the rounds have ended
+pub record Counting (t : Tally) (n s : ℕ) : Type 0 where
+  pub steps : t .steps + n < 2 ^ 64
   pub rounds : t .rounds + 1 < 2 ^ 16
   pub strays : t .strays + s < 2 ^ 64
   pub faultless : t .faults ≡ 0
@@ -168,6 +169,7 @@ pub record Top (occ img col on dt dn : List ℕ) (w : Between) : Type 0 where
   pub split-low : 1 ≤ w .split
   pub div-low : 1 ≤ w .«div_split»
   pub few : w .tally .strays ≤ 512 * (w .tally .rounds + 1)
+  pub paced : w .tally .steps ≤ 1024 * w .tally .rounds
   pub faultless : w .tally .faults ≡ 0
 
 -- the answer of the loop over rounds from w on

@@ -20,7 +20,7 @@ ghost use Rattle.free_path.specs.Columns.{linkAt, flagged};
 ghost use Rattle.free_path.specs.LinkOptType.{linkIdxPath};
 ghost use Rattle.free_path.specs.Validate.{strayLink};
 ghost use Rattle.search.specs.Read.{pathOf, Marked};
-ghost use Rattle.tally.specs.Tally.{counted};
+ghost use Rattle.tally.specs.Tally.{counted, stepped};
 ghost use Rattle.update_free_path.specs.Updates.{dueAt, isLast, ranOf, stoppedBy, nextOf, closedAt, Counting, Sizes, Top, RoundsEnded};
 
 // Between two rounds: the header's numbers, idx_split and div_idx_split, and document 01's tally.
@@ -82,31 +82,31 @@ fn ran_with(stop: Stop, h: PathHeader, t: Tally) -> Ran
     }
 }
 
-// The tally with one more round. The strays are those of a path; faults are counted once no round follows.
-fn tallied(t: Tally, strays: usize) -> Tally
-    requires { ⌜ Counting t strays ⌝ }
-    ensures { λ r. ⌜ r ≡ counted t strays ⌝ }
+// The tally with one more round and the steps of its search. The strays are those of a path; faults are counted once no round follows.
+fn tallied(t: Tally, steps: u64, strays: usize) -> Tally
+    requires { ⌜ Counting t steps strays ⌝ }
+    ensures { λ r. ⌜ r ≡ counted (stepped t steps) strays ⌝ }
 {
-    tally::counted_round(t, strays as u64, 0)
+    tally::counted_round(tally::counted_steps(t, steps), strays as u64, 0)
 }
 
-// A round has ended and no other follows; strays are those of its path.
-fn stopped(w: Between, end: End, h: PathHeader, strays: usize) -> Ran
-    requires { ⌜ Counting (w .tally) strays ⌝ }
-    ensures { λ r. ⌜ r ≡ stoppedBy end h (w .tally) strays ⌝ }
+// A round has ended after so many steps and no other follows; strays are those of its path.
+fn stopped(w: Between, end: End, h: PathHeader, steps: u64, strays: usize) -> Ran
+    requires { ⌜ Counting (w .tally) steps strays ⌝ }
+    ensures { λ r. ⌜ r ≡ stoppedBy end h (w .tally) steps strays ⌝ }
 {
     let t = w.tally;
     match end {
-        End::Refused(c) => ran_with(Stop::Refused(c), h, tallied(t, 0)),
-        End::AtEnd => ran_with(Stop::Ended, h, tallied(t, strays)),
-        End::Blocked => ran_with(Stop::Blocked, h, tallied(t, 0)),
-        End::Again => ran_with(Stop::Ended, h, tallied(t, 0)),
+        End::Refused(c) => ran_with(Stop::Refused(c), h, tallied(t, steps, 0)),
+        End::AtEnd => ran_with(Stop::Ended, h, tallied(t, steps, strays)),
+        End::Blocked => ran_with(Stop::Blocked, h, tallied(t, steps, 0)),
+        End::Again => ran_with(Stop::Ended, h, tallied(t, steps, 0)),
     }
 }
 
 // A round has ended and another may follow; strays are those of the path that it left.
 fn next(w: Between, x: RoundEnd, strays: usize) -> Between
-    requires { ⌜ Counting (w .tally) strays ⌝ }
+    requires { ⌜ Counting (w .tally) (x .steps) strays ⌝ }
     ensures { λ r. ⌜ r ≡ nextOf w x strays ⌝ }
 {
     let h = x.header;
@@ -115,7 +115,7 @@ fn next(w: Between, x: RoundEnd, strays: usize) -> Between
         header: h,
         split: x.split,
         div_split: x.div_split,
-        tally: tallied(t, strays),
+        tally: tallied(t, x.steps, strays),
     }
 }
 
@@ -169,7 +169,7 @@ pub(crate) fn rounds(
         let end = x.end;
         let h = x.header;
         if is_last(end) {
-            return stopped(w, end, h, strays_of(col, w.header, occ, known));
+            return stopped(w, end, h, x.steps, strays_of(col, w.header, occ, known));
         }
         derive(img, h.path_count, col, on);
         w = next(w, x, strays_of(col, h, occ, known));

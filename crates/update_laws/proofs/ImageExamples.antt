@@ -17,7 +17,7 @@ use Rattle.image.specs.Image.{typeOf, pathHeader, estFrom, nodeFrom, divergeFro
 use Rattle.image.specs.Codec.{decoded, putEach, putRecords, storedInto}
 use Rattle.link_rules.specs.Refusals.{refused}
 use Rattle.image_fault.specs.ImageFault.{firstUnfit, countsFit, partsFit, trainFits, estTypeFits, nodeTypeFits, zeroWord, unusedZero, recordsFit, imageFits, floatFits, timeFits, distFits, eventFits, estLinksFit, estFits, nodeFits, indicesFit, headerFits, valueFault, cycleFault, stepsTo as steps, comesFrom, endsAt, arrivesOn, arrived, firstArrival, onRoute, innerFits, divergeFits, routeFault, imageFault}
-use Rattle.update_definition.specs.Update.{Success, Faulty, answerOf, splitPoint, beginOf, roundOf, finish, afterRound, roundsFrom, adjustSentinel, updateFreePath}
+use Rattle.update_definition.specs.Update.{Success, Faulty, answerOf, splitPoint, beginOf, roundOf, roundSteps, finish, afterRound, roundsFrom, adjustSentinel, updateFreePath}
 use Rattle.update_definition.specs.UpdateImage.{linksBelow, callFault, refusedAnswer, updateFault, updatedImage}
 
 -- numbers of 4 bytes
@@ -40,16 +40,16 @@ slot free end =
 
 -- what the examples compute with
 unfoldable everything : ℕ
-unfolding ofBits toBits add sub div neg lt le eq ne leAt putLe allBelow occupied realOf bitsOf inReach magnitude nearFloat listed follow via reach firstAt at walkFrom stepsTo count any linksOnPath contains classWalk linkOptType calcIdxSentinels isStray strays stepsNext badStep badSteps inConflict validateFreePath typeOf pathHeader estFrom nodeFrom divergeFrom putNode putDiverge zeroWords putPathHeader decoded putEach putRecords storedInto firstUnfit countsFit partsFit trainFits estTypeFits nodeTypeFits zeroWord unusedZero recordsFit imageFits floatFits timeFits distFits eventFits estLinksFit estFits nodeFits indicesFit headerFits valueFault cycleFault steps comesFrom endsAt arrivesOn arrived firstArrival onRoute innerFits divergeFits routeFault imageFault splitPoint beginOf roundOf finish afterRound roundsFrom adjustSentinel updateFreePath words slot linksBelow callFault updateFault updatedImage
+unfolding ofBits toBits add sub div neg lt le eq ne leAt putLe allBelow occupied realOf bitsOf inReach magnitude nearFloat listed follow via reach firstAt at walkFrom stepsTo count any linksOnPath contains classWalk linkOptType calcIdxSentinels isStray strays stepsNext badStep badSteps inConflict validateFreePath typeOf pathHeader estFrom nodeFrom divergeFrom putNode putDiverge zeroWords putPathHeader decoded putEach putRecords storedInto firstUnfit countsFit partsFit trainFits estTypeFits nodeTypeFits zeroWord unusedZero recordsFit imageFits floatFits timeFits distFits eventFits estLinksFit estFits nodeFits indicesFit headerFits valueFault cycleFault steps comesFrom endsAt arrivesOn arrived firstArrival onRoute innerFits divergeFits routeFault imageFault splitPoint beginOf roundOf roundSteps finish afterRound roundsFrom adjustSentinel updateFreePath words slot linksBelow callFault updateFault updatedImage
 everything = 0
 
 -- the update of the sheet example: train 2 moved, nothing held, one round; the last diverge node gets train 2
-success : updatedImage (slot 0 196608) (0 ∷ 0 ∷ 0 ∷ []) [] 2 false 1 ≡ record { answer = answerOf Success (record { rounds = 1; strays = 0; faults = 0 }); image = slot 0 196610 }
+success : updatedImage (slot 0 196608) (0 ∷ 0 ∷ 0 ∷ []) [] 2 false 1 ≡ record { answer = answerOf Success (record { rounds = 1; strays = 0; faults = 0; steps = 0 }); image = slot 0 196610 }
 unfolding everything
 success = refl
 
 -- link 1 is held and not in the blocking list: one error, and a stray before the round and after it
-faulty : updatedImage (slot 0 196608) (0 ∷ 9 ∷ 0 ∷ []) [] 2 false 1 ≡ record { answer = answerOf (Faulty 1) (record { rounds = 1; strays = 2; faults = 1 }); image = slot 0 196610 }
+faulty : updatedImage (slot 0 196608) (0 ∷ 9 ∷ 0 ∷ []) [] 2 false 1 ≡ record { answer = answerOf (Faulty 1) (record { rounds = 1; strays = 2; faults = 1; steps = 0 }); image = slot 0 196610 }
 unfolding everything
 faulty = refl
 

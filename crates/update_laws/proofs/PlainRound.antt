@@ -1,5 +1,5 @@
 -- A round of an update that has counted no stray is one of the plain class. Assumes nothing.
-use mathlib.Core.Path.{_≡_, refl, sym}
+use mathlib.Core.Path.{_≡_, refl, sym, ap, _∙_}
 use mathlib.Core.Logic.{_⊎_, inl, inr}
 use mathlib.Core.Bool.{Bool, true, false, cond}
 use mathlib.Core.List.{List}
@@ -12,13 +12,14 @@ use Rattle.link_rules.specs.declared.link_idx.LinkIdx.{LinkIdx}
 use Rattle.link_rules.specs.declared.link_idx.TrainIdx.{TrainIdx}
 use Rattle.disp_structs.specs.Train.{Train}
 use Rattle.disp_structs.specs.declared.Metres.{Metres}
+use Rattle.free_path.specs.Base.{Res, ok, no}
 use Rattle.free_path.specs.LinkOptType.{linksOnPath, contains, linkIdxPath, least, linkOptType, isNone, findTrainIntersect, calcIdxSentinels, plainly}
 use Rattle.free_path.specs.declared.link_opt_type.LinkOptType.{LinkOptType}
 use Rattle.free_path.specs.declared.link_opt_type.LinkOptType.the-variants.{None, Single, Range, Check}
 use Rattle.free_path.proofs.ListLaws.{All}
 use Rattle.free_path.proofs.PlainLaws.{Link32, same-index}
 use Rattle.free_path.proofs.MapLaws.{map-id, id-map, bind-same}
-use Rattle.update_definition.specs.Update.{Given, apart, searchBegin, meeting, splitPoint, Entry, pathEnds, searches, beginAt, beginOf, endFrom, roundOf, straysOf}
+use Rattle.update_definition.specs.Update.{Given, apart, searchBegin, meeting, splitPoint, Entry, pathEnds, searches, beginAt, beginOf, endFrom, roundOf, stepsIn, roundSteps, straysOf}
 use Rattle.update_laws.proofs.RoundRenumbering.{given}
 
 apart-plain : (c : LinkOptType) (on : LinkIdx → Bool) → apart (plainly c) on ≡ apart c on
@@ -73,6 +74,15 @@ module _ (occ : List ℕ) (bs ls : List LinkIdx) (b : All Link32 bs) (z : occupi
         (bind-same (λ x. x) (calcIdxSentinels divSplit moved (t .«div_nodes»)) _ _ _ refl λ y.
         bind-same (λ x. x) (splitPoint (g class) t split (y .node)) _ _ _ (splitPoint-plain split (y .node)) λ i.
         id-map _ _ refl)
+
+    stepsIn-plain : (x : Res Entry) → stepsIn (g (plainly class)) t x ≡ stepsIn (g class) t x
+    stepsIn-plain (no n) = refl
+    stepsIn-plain (ok pathEnds) = refl
+    stepsIn-plain (ok (searches b)) = refl
+
+    pub roundSteps-plain : (split divSplit : ℕ) → roundSteps (g (plainly class)) t split divSplit ≡ roundSteps (g class) t split divSplit
+    unfolding roundSteps
+    roundSteps-plain split divSplit = ap (stepsIn (g (plainly class)) t) (beginOf-plain split divSplit) ∙ stepsIn-plain (beginOf (g class) t split divSplit)
 
     endFrom-plain : (x : Entry) → endFrom (g (plainly class)) t x ≡ endFrom (g class) t x
     endFrom-plain pathEnds = refl

@@ -27,7 +27,7 @@ use Rattle.update_definition.specs.Join.{without, removeLinks, insertLinks, shi
 use Rattle.tally.specs.declared.Tally.{Tally}
 use Rattle.link_rules.specs.Refusals as Refusals
 use Rattle.link_rules.specs.declared.refusal.Refusal.{Refusal}
-use Rattle.update_definition.specs.Update.{Given, Between, Updated, Refused, doMove, searchStep, searchFrom, meeting, splitPoint, Entry, pathEnds, searches, beginAt, beginOf, endFrom, roundOf, finish, afterRound, due, faultsOf, refused, roundsFrom}
+use Rattle.update_definition.specs.Update.{Given, Between, Updated, Refused, doMove, searchStep, searchFrom, meeting, splitPoint, Entry, pathEnds, searches, beginAt, beginOf, endFrom, roundOf, finish, afterRound, searched, due, faultsOf, refused, roundsFrom}
 use Rattle.update_definition.specs.declared.Move.{Move}
 use Rattle.update_definition.specs.declared.Move.the-variants.{Rewind, Alternate, ChangeDiverge, PushSaved, BlockEmpty, Advance, Join}
 
@@ -372,7 +372,7 @@ unfolding roundsFrom
 low-rounds zero g was w = low-cond (due w) (low-refused 12 (w .tally) was (omega arith)) (low-faults g (w .tally) was (w .train))
 low-rounds (suc k) g was w =
     low-cond (due w)
-    (low-after (few-round g (w .train) (w .«idx_split») (w .«div_idx_split»)) (λ x. roundsFrom k g was x) g was w (λ v. low-rounds k g was v))
+    (low-after (few-round g (w .train) (w .«idx_split») (w .«div_idx_split»)) (λ x. roundsFrom k g was x) g was (searched g w) (λ v. low-rounds k g was v))
     (low-faults g (w .tally) was (w .train))
 
 -- a refusal of the loop over rounds is 11, 12 or 13

@@ -15,7 +15,7 @@ use Rattle.disp_structs.specs.Renumbered.{rEst, rNode, rDiv, rTrainDisp}
 use Rattle.disp_structs.specs.declared.Metres.{Metres}
 use Rattle.disp_structs.specs.declared.DispNode.{DispNode}
 use Rattle.disp_structs.specs.declared.DivergeNode.{DivergeNode}
-use Rattle.free_path.specs.Base.{ok, _>>=_, need, at, before}
+use Rattle.free_path.specs.Base.{Res, ok, no, _>>=_, need, at, before}
 use Rattle.free_path.specs.LinkOptType.{linksOnPath, contains, linkIdxPath, Sentinels, calcIdxSentinels, plainly}
 use Rattle.free_path.specs.declared.link_opt_type.LinkOptType.{LinkOptType}
 use Rattle.free_path.specs.declared.link_opt_type.LinkOptType.the-variants.{None, Single, Range, Check}
@@ -25,7 +25,7 @@ use Rattle.free_path.proofs.MapLaws.{mapRes, map-id, id-map, bind-map, bind-sam
 use Rattle.update_definition.specs.State.{Round, Search, Turn, goOn, ends, Ended, atEnd}
 use Rattle.update_definition.specs.Look.{Here, lookHere, storedTrains, occupiedNext, moveOf}
 use Rattle.update_definition.specs.Moves.{notFake}
-use Rattle.update_definition.specs.Update.{doMove, searchStep, searchFrom, turnLimit, Given, apart, searchBegin, meeting, splitPoint, atSentinel, divPoint, savePoint, searchAt, roundAt, Begin, Entry, pathEnds, searches, beginAt, beginOf, endFrom, roundOf}
+use Rattle.update_definition.specs.Update.{doMove, searchStep, searchFrom, stepsAfter, stepsFrom, turnLimit, Given, apart, searchBegin, meeting, splitPoint, atSentinel, divPoint, savePoint, searchAt, roundAt, Begin, Entry, pathEnds, searches, beginAt, beginOf, endFrom, roundOf, stepsIn, roundSteps}
 use Rattle.update_definition.specs.declared.Move.{Move}
 use Rattle.update_definition.specs.declared.Move.the-variants.{Rewind, Alternate, ChangeDiverge, PushSaved, BlockEmpty, Advance, Join}
 use Rattle.update_laws.proofs.StateRenumbering.{rRound, rSearch, rHere, rEnded, rTurn, noTrain-r}
@@ -69,6 +69,17 @@ module _ (p q : ℕ → ℕ) (topT : ℕ) (rq : Renumbering topT q) (occ′ : Li
           → (elim (rTurn p q t) [ goOn u ↦ searchFrom k R u | ends e ↦ ok e ]) ≡ mapRes (rEnded p q) (elim t [ goOn u ↦ searchFrom k r u | ends e ↦ ok e ])
       go (goOn u) ih = ih u
       go (ends e) ih = refl
+
+  -- and it is entered as often
+  stepsFrom-r : (k : ℕ) (s : Search) → stepsFrom k R (rSearch p q s) ≡ stepsFrom k r s
+  unfolding stepsFrom
+  stepsFrom-r zero s = refl
+  stepsFrom-r (suc k) s = ap (λ (x : Res Turn). suc (stepsAfter (λ u. stepsFrom k R u) x)) (searchStep-r s) ∙ ap suc (go (searchStep r s) (stepsFrom-r k))
+    where
+      go : (x : Res Turn) → ((u : Search) → stepsFrom k R (rSearch p q u) ≡ stepsFrom k r u) → stepsAfter (λ u. stepsFrom k R u) (mapRes (rTurn p q) x) ≡ stepsAfter (λ u. stepsFrom k r u) x
+      go (no n) ih = refl
+      go (ok (goOn u)) ih = ih u
+      go (ok (ends e)) ih = refl
 
 -- ---- the points where a search begins
 
@@ -184,6 +195,18 @@ module _ (p q : ℕ → ℕ) (topT : ℕ) (rq : Renumbering topT q) (occ occ′ 
         let r = roundAt g t (b .node) (b .«idx_split») in
         ap₂ (λ k s. searchFrom (3 * k + 1) (rRound p q occ′ r) s) (length-map (t .«est_times») (rEst p)) (searchAt-r p q topT rq t (b .«idx_split») (b .«div_idx_split») (b .«idx_save»))
         ∙ searchFrom-r p q topT rq occ′ r rp m (turnLimit t) (searchAt t (b .«idx_split») (b .«div_idx_split») (b .«idx_save»))
+
+    stepsIn-r : (x : Res Entry) → stepsIn g′ (rTrainDisp p q t) (mapRes (rEntry p) x) ≡ stepsIn g t x
+    stepsIn-r (no n) = refl
+    stepsIn-r (ok pathEnds) = refl
+    stepsIn-r (ok (searches b)) =
+        let r = roundAt g t (b .node) (b .«idx_split») in
+        ap₂ (λ k s. stepsFrom (3 * k + 1) (rRound p q occ′ r) s) (length-map (t .«est_times») (rEst p)) (searchAt-r p q topT rq t (b .«idx_split») (b .«div_idx_split») (b .«idx_save»))
+        ∙ stepsFrom-r p q topT rq occ′ r rp m (turnLimit t) (searchAt t (b .«idx_split») (b .«div_idx_split») (b .«idx_save»))
+
+    pub roundSteps-r : (split divSplit : ℕ) → roundSteps g′ (rTrainDisp p q t) split divSplit ≡ roundSteps g t split divSplit
+    unfolding roundSteps
+    roundSteps-r split divSplit = ap (stepsIn g′ (rTrainDisp p q t)) (beginOf-r split divSplit) ∙ stepsIn-r (beginOf g t split divSplit)
 
     pub roundOf-r : (split divSplit : ℕ) → roundOf g′ (rTrainDisp p q t) split divSplit ≡ mapRes E (roundOf g t split divSplit)
     unfolding roundOf

@@ -22,14 +22,14 @@ use Rattle.free_path.proofs.PathRenumbering.{strays-r, validateFreePath-r}
 use Rattle.free_path.proofs.ListLaws.{All}
 use Rattle.free_path.proofs.PlainLaws.{Link32}
 use Rattle.free_path.proofs.MapLaws.{mapRes, cond-map}
-use Rattle.tally.specs.Tally.{counted}
+use Rattle.tally.specs.Tally.{counted, stepped}
 use Rattle.tally.specs.declared.Tally.{Tally}
 use Rattle.update_definition.specs.State.{Ended, atEnd, blockedAt, again}
-use Rattle.update_definition.specs.Update.{Given, Updated, Between, between, roundOf, straysOf, faultsOf, finish, afterRound, due, roundsFrom}
+use Rattle.update_definition.specs.Update.{Given, Updated, Between, between, roundOf, straysOf, faultsOf, finish, afterRound, searched, roundSteps, due, roundsFrom}
 use Rattle.update_definition.specs.Renumbered.{rUpdated}
 use Rattle.update_laws.proofs.StateRenumbering.{rEnded}
-use Rattle.update_laws.proofs.RoundRenumbering.{given, roundOf-r}
-use Rattle.update_laws.proofs.PlainRound.{roundOf-plain}
+use Rattle.update_laws.proofs.RoundRenumbering.{given, roundOf-r, roundSteps-r}
+use Rattle.update_laws.proofs.PlainRound.{roundOf-plain, roundSteps-plain}
 
 -- ---- the strays counted never fall
 
@@ -58,7 +58,7 @@ unfolding roundsFrom
 rounds-strays zero g was w = cond-strays (due w) _ _ (w .tally .strays) (omega arith) (omega (arith, finish-strays (faultsOf g (w .train)) (w .tally) was (w .train)))
 rounds-strays (suc k) g was w =
     cond-strays (due w) _ _ (w .tally .strays)
-    (after-strays (roundOf g (w .train) (w .«idx_split») (w .«div_idx_split»)) (λ x. roundsFrom k g was x) (λ x. rounds-strays k g was x) g was w)
+    (after-strays (roundOf g (w .train) (w .«idx_split») (w .«div_idx_split»)) (λ x. roundsFrom k g was x) (λ x. rounds-strays k g was x) g was (searched g w))
     (omega (arith, finish-strays (faultsOf g (w .train)) (w .tally) was (w .train)))
 
 -- ---- between two rounds, renumbered
@@ -94,6 +94,16 @@ module _ (p q : ℕ → ℕ) (topT : ℕ) (rq : Renumbering topT q) (occ occ′ 
       ∙ roundOf-r p q topT rq occ occ′ rp m bs bs′ ls ls′ moved local lowest (linkOptType bs (contains ls)) t i d
       ∙ ap (mapRes (rEnded p q)) (roundOf-plain occ bs ls b z moved local lowest t s i d)
 
+  steps-r : (t : Train) → straysOf g t ≡ 0 → (i d : ℕ) → roundSteps g′ (W t) i d ≡ roundSteps g t i d
+  steps-r t s i d =
+      sym (roundSteps-plain occ′ bs′ ls′ b′ z′ (rTrain q moved) local lowest (W t) (straysOf-r t ∙ s) i d)
+      ∙ ap (λ c. roundSteps (given c occ′ bs′ ls′ (rTrain q moved) local lowest) (W t) i d) classes
+      ∙ roundSteps-r p q topT rq occ occ′ rp m bs bs′ ls ls′ moved local lowest (linkOptType bs (contains ls)) t i d
+      ∙ roundSteps-plain occ bs ls b z moved local lowest t s i d
+
+  searched-r : (w : Between) → straysOf g (w .train) ≡ 0 → searched g′ (rBetween p q w) ≡ rBetween p q (searched g w)
+  searched-r w s = ap (λ n. between (W (w .train)) (w .«idx_split») (w .«div_idx_split») (stepped (w .tally) n)) (steps-r (w .train) s (w .«idx_split») (w .«div_idx_split»))
+
   finish-r : (n : Res ℕ) (tally : Tally) (was t : Train) → finish n tally (W was) (W t) ≡ rUpdated p q (finish n tally was t)
   unfolding finish
   finish-r (ok n) tally was t = refl
@@ -121,24 +131,28 @@ module _ (p q : ℕ → ℕ) (topT : ℕ) (rq : Renumbering topT q) (occ occ′ 
   unfolding roundsFrom
   rounds-r zero was w l s = cond-map (rUpdated p q) (due w) _ _ _ _ _ (due-r w) refl (end-r was w)
   rounds-r (suc k) was w l s =
-      ap (λ v. cond v more′ end′) (due-r w) ∙ go (due w) (round-r (w .train) (omega (arith, l, s, rounds-strays (suc k) g was w)) (w .«idx_split») (w .«div_idx_split»)) (rounds-r k was) s
+      ap (λ v. cond v more′ end′) (due-r w) ∙ go (due w) (round-r (w .train) none (w .«idx_split») (w .«div_idx_split»)) (searched-r w none) (rounds-r k was) s
     where
+      none : straysOf g (w .train) ≡ 0
+      none = omega (arith, l, s, rounds-strays (suc k) g was w)
+
       more : Updated
-      more = afterRound (roundOf g (w .train) (w .«idx_split») (w .«div_idx_split»)) (λ x. roundsFrom k g was x) g was w
+      more = afterRound (roundOf g (w .train) (w .«idx_split») (w .«div_idx_split»)) (λ x. roundsFrom k g was x) g was (searched g w)
 
       end : Updated
       end = finish (faultsOf g (w .train)) (w .tally) was (w .train)
 
       more′ : Updated
-      more′ = afterRound (roundOf g′ (W (w .train)) (w .«idx_split») (w .«div_idx_split»)) (λ x. roundsFrom k g′ (W was) x) g′ (W was) (rBetween p q w)
+      more′ = afterRound (roundOf g′ (W (w .train)) (w .«idx_split») (w .«div_idx_split»)) (λ x. roundsFrom k g′ (W was) x) g′ (W was) (searched g′ (rBetween p q w))
 
       end′ : Updated
       end′ = finish (faultsOf g′ (W (w .train))) (w .tally) (W was) (W (w .train))
 
       go : (v : Bool) → roundOf g′ (W (w .train)) (w .«idx_split») (w .«div_idx_split») ≡ mapRes (rEnded p q) (roundOf g (w .train) (w .«idx_split») (w .«div_idx_split»))
+          → searched g′ (rBetween p q w) ≡ rBetween p q (searched g w)
           → ((x : Between) → straysOf g (x .train) ≤ x .tally .strays → straysIn (roundsFrom k g was x) ≡ 0 → roundsFrom k g′ (W was) (rBetween p q x) ≡ rUpdated p q (roundsFrom k g was x))
           → straysIn (cond v more end) ≡ 0 → cond v more′ end′ ≡ rUpdated p q (cond v more end)
-      go false e ih h = end-r was w
-      go true e ih h =
-          ap (λ r. afterRound r (λ x. roundsFrom k g′ (W was) x) g′ (W was) (rBetween p q w)) e
-          ∙ after-r (roundOf g (w .train) (w .«idx_split») (w .«div_idx_split»)) (λ x. roundsFrom k g was x) (λ x. roundsFrom k g′ (W was) x) was w ih h
+      go false e u ih h = end-r was w
+      go true e u ih h =
+          ap₂ (λ r v. afterRound r (λ x. roundsFrom k g′ (W was) x) g′ (W was) v) e u
+          ∙ after-r (roundOf g (w .train) (w .«idx_split») (w .«div_idx_split»)) (λ x. roundsFrom k g was x) (λ x. roundsFrom k g′ (W was) x) was (searched g w) ih h

@@ -17,7 +17,7 @@ use Rattle.free_path.specs.Base.{Res, ok, no, need, at, count}
 use Rattle.free_path.specs.Validate.{known, isStray, strays, badStep, badSteps, badPath, inConflict, validateFreePath}
 use Rattle.free_path.specs.LinkOptType.{contains}
 use Rattle.update_definition.specs.State.{Ended, atEnd, blockedAt, again}
-use Rattle.update_definition.specs.Update.{Given, Status, Success, Blocked, Faulty, Refused, Answer, Updated, Between, between, refused, straysOf, faultsOf, finish, afterRound, due, roundsFrom, roundOf, givenOf, startOf, updateFrom, updateFreePath}
+use Rattle.update_definition.specs.Update.{Given, Status, Success, Blocked, Faulty, Refused, Answer, Updated, Between, between, refused, straysOf, faultsOf, finish, afterRound, searched, due, roundsFrom, roundOf, givenOf, startOf, updateFrom, updateFreePath}
 use Rattle.update_definition.specs.Accepted.{Accepted}
 use Rattle.update_laws.specs.AfterRound.{EndsGood}
 use Rattle.update_laws.proofs.Answers.{ok-same, bind-ok, need-ok}
@@ -99,7 +99,7 @@ module _ (links : ℕ) (g : Given) (was : Train) where
   end-few n w k = finish-few n (w .tally) (w .tally) (w .train) (faultsOf g (w .train)) (faults-few links g (w .train) (k .stays .accepted)) (omega arith) (omega arith)
 
   -- what another round hands on
-  abbrev Hands : Ended → Type 0
+  abbrev pub Hands : Ended → Type 0
   Hands atEnd = Unit {0}
   Hands (blockedAt t) = Unit {0}
   Hands (again t split k) = TopGood links was t split k
@@ -118,7 +118,7 @@ module _ (links : ℕ) (g : Given) (was : Train) where
       let r = h y z in
       record { rounds-most = omega (arith, r .rounds-most); strays-most = omega (arith, r .strays-most, strays-few links g t (z .stays .accepted)); errors = r .errors }
 
-  round-hands : (t : Train) (split k : ℕ) (e : Ended) → TopGood links was t split k → roundOf g t split k ≡ ok e → Hands e
+  pub round-hands : (t : Train) (split k : ℕ) (e : Ended) → TopGood links was t split k → roundOf g t split k ≡ ok e → Hands e
   round-hands t split k atEnd w q = tt
   round-hands t split k (blockedAt u) w q = tt
   round-hands t split k (again u i d) w q = top-hands links g was t split k (again u i d) w q
@@ -127,13 +127,17 @@ module _ (links : ℕ) (g : Given) (was : Train) where
   cond-few n from true u v x y = x
   cond-few n from false u v x y = y
 
+  -- steps are of no account here
+  searched-few : (n : ℕ) (w : Between) (a : Answer) → Few n (searched g w .tally) a → Few n (w .tally) a
+  searched-few n w a f = record { rounds-most = f .rounds-most; strays-most = f .strays-most; errors = f .errors }
+
   rounds-few : (n : ℕ) (w : Between) → Top w → Few n (w .tally) (roundsFrom n g was w .answer)
   unfolding roundsFrom
   rounds-few zero w k =
       cond-few 0 (w .tally) (due w) _ _ (record { rounds-most = omega arith; strays-most = omega arith; errors = tt }) (end-few 0 w k)
   rounds-few (suc n) w k =
       cond-few (suc n) (w .tally) (due w) _ _
-      (after-few n (roundOf g (w .train) (w .«idx_split») (w .«div_idx_split»)) (λ x. roundsFrom n g was x) w k (λ e q. round-hands (w .train) (w .«idx_split») (w .«div_idx_split») e k q) (λ y j. rounds-few n y j))
+      (searched-few (suc n) w _ (after-few n (roundOf g (w .train) (w .«idx_split») (w .«div_idx_split»)) (λ x. roundsFrom n g was x) (searched g w) k (λ e q. round-hands (w .train) (w .«idx_split») (w .«div_idx_split») e k q) (λ y j. rounds-few n y j)))
       (end-few (suc n) w k)
 
 -- ---- the update

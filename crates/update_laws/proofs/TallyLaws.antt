@@ -16,7 +16,7 @@ use Rattle.tally.specs.declared.Tally.{Tally}
 use Rattle.free_path.specs.Base.{Res, ok, no, _>>=_, _>>_, need, at, count}
 use Rattle.free_path.specs.Validate.{isStray, strays, badStep, badSteps, badPath, inConflict, validateFreePath}
 use Rattle.update_definition.specs.State.{Ended, atEnd, blockedAt, again}
-use Rattle.update_definition.specs.Update.{Given, Updated, Between, between, faultsIn, roundOf, straysOf, faultsOf, finish, afterRound, due, roundsFrom, givenOf, startOf, updateFrom, updateFreePath}
+use Rattle.update_definition.specs.Update.{Given, Updated, Between, between, faultsIn, roundOf, straysOf, faultsOf, finish, afterRound, searched, due, roundsFrom, givenOf, startOf, updateFrom, updateFreePath}
 
 -- ---- rounds
 
@@ -45,7 +45,7 @@ unfolding roundsFrom
 rounds-le zero g was w = cond-rounds (due w) _ _ (w .tally .rounds + 0) (omega arith) (omega (arith, finish-rounds (faultsOf g (w .train)) (w .tally) was (w .train)))
 rounds-le (suc m) g was w =
     cond-rounds (due w) _ _ (w .tally .rounds + suc m)
-    (after-rounds (roundOf g (w .train) (w .«idx_split») (w .«div_idx_split»)) (λ x. roundsFrom m g was x) m (λ x. rounds-le m g was x) g was w)
+    (after-rounds (roundOf g (w .train) (w .«idx_split») (w .«div_idx_split»)) (λ x. roundsFrom m g was x) m (λ x. rounds-le m g was x) g was (searched g w))
     (omega (arith, finish-rounds (faultsOf g (w .train)) (w .tally) was (w .train)))
 
 -- an update enters at most as many rounds as its limit
@@ -86,7 +86,7 @@ unfolding roundsFrom
 rounds-told zero g was w = cond-told (w .tally) (due w) _ _ (omega arith) (finish-told (faultsOf g (w .train)) (w .tally) was (w .train))
 rounds-told (suc m) g was w =
     cond-told (w .tally) (due w) _ _
-    (after-told (roundOf g (w .train) (w .«idx_split») (w .«div_idx_split»)) (λ x. roundsFrom m g was x) (λ x. rounds-told m g was x) g was w)
+    (after-told (roundOf g (w .train) (w .«idx_split») (w .«div_idx_split»)) (λ x. roundsFrom m g was x) (λ x. rounds-told m g was x) g was (searched g w))
     (finish-told (faultsOf g (w .train)) (w .tally) was (w .train))
 
 -- the faults of an update's tally are n where it answers Faulty n, else 0

@@ -1,20 +1,24 @@
 -- The rounds of an update of an image that passes 6 to 9: none enters its search loop more than 3E + 1 times, refused or not, and no answer stands for the turn limit. Assumes nothing.
-use mathlib.Core.Path.{_≡_}
+use mathlib.Core.Path.{_≡_, refl, subst}
+use mathlib.Core.Bool.{Bool}
 use mathlib.Core.List.{List}
-use Prim.Native.Nat.{ℕ, _+_, _*_, _≤_}
+use Prim.Native.Nat.{ℕ, zero, suc, _+_, _*_, _≤_}
 use native.Mathlib.Omega.{arith}
 use lib.ListN.{length}
+use Rattle.link_rules.specs.declared.refusal.Refusal.{Refusal}
 use Rattle.link_rules.proofs.OctetLaws.{Bytes}
 use Rattle.disp_structs.specs.Train.{Train}
 use Rattle.disp_structs.proofs.ListedLaws.{listed-length}
 use Rattle.image.specs.Image.{estCount, estAt}
 use Rattle.image.specs.Codec.{decoded}
 use Rattle.image_fault.specs.ImageFault.{imageFault}
+use Rattle.image_fault.proofs.AcceptLaws.{or-else-clean}
 use Rattle.free_path.specs.Base.{Res}
 use Rattle.update_definition.specs.State.{Ended}
-use Rattle.update_definition.specs.Update.{Given, roundOf, roundSteps}
+use Rattle.update_definition.specs.Update.{Given, roundOf, roundSteps, Updated, updateFreePath}
 use Rattle.update_laws.specs.Runs.{RoundAnswers, Enters}
-use Rattle.update_laws.proofs.Steps.{rounds-answer, rounds-few}
+use Rattle.update_laws.proofs.Steps.{rounds-answer, rounds-few, Paced, update-paced}
+use Rattle.update_definition.specs.UpdateImage.{callFault, answerBy, linkIdxs, updateFault, updatedImage}
 use Rattle.update_laws.proofs.BytesAccepted.{bytes-accepted}
 
 pub est-count : (img : List ℕ) → length (decoded img .«est_times») ≡ estCount img
@@ -28,3 +32,20 @@ module _ (img : List ℕ) (l : ℕ) (b : Bytes img) (h : imageFault img l .numbe
 
   pub image-rounds-few : {n : ℕ} {x : Res Ended} → RoundAnswers v t split k n x → n ≤ 3 * estCount img + 1
   image-rounds-few a = omega (arith, rounds-few l v (decoded img) (bytes-accepted img l b h .0) e a, est-count img)
+
+-- ---- the steps of an update
+
+answer-paced : (c k : ℕ) (f : Refusal) (u : Updated) (img : List ℕ) → (k ≡ 0 → Paced c (u .answer .tally)) → Paced c (answerBy k f u img .answer .tally)
+answer-paced c zero f u img h = h refl
+answer-paced c (suc k) f u img h = omega arith
+
+-- at most 3E + 1 to each round that it enters, of a refused update too
+pub image-paced : (img occ blocking : List ℕ) (moved : ℕ) (local : Bool) (limit : ℕ) → Bytes img → Paced (3 * estCount img + 1) (updatedImage img occ blocking moved local limit .answer .tally)
+unfolding updatedImage updateFault
+image-paced img occ blocking moved local limit b =
+    let f = updateFault img occ blocking moved limit in
+    let u = updateFreePath occ (linkIdxs blocking) (record { 0 = moved }) local limit (decoded img) in
+    answer-paced (3 * estCount img + 1) (f .number) f u img (λ e.
+    subst (λ (n : ℕ). Paced (3 * n + 1) (u .answer .tally)) (est-count img)
+    (update-paced (length occ) occ (linkIdxs blocking) (record { 0 = moved }) local limit (decoded img)
+    (bytes-accepted img (length occ) b (or-else-clean (callFault occ blocking moved limit) (imageFault img (length occ)) e .1) .0)))

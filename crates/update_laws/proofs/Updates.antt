@@ -16,7 +16,7 @@ use Rattle.tally.specs.Tally.{counted}
 use Rattle.tally.specs.declared.Tally.{Tally}
 use Rattle.free_path.specs.Base.{Res, ok, no, at}
 use Rattle.update_definition.specs.State.{Ended, atEnd, blockedAt, again, withDivNodes}
-use Rattle.update_definition.specs.Update.{Given, Updated, Between, between, refused, straysOf, faultsOf, finish, afterRound, due, roundsFrom, roundOf, adjustSentinel, givenOf, startOf, updateFrom, updateFreePath, turnLimit}
+use Rattle.update_definition.specs.Update.{Given, Updated, Between, between, refused, straysOf, faultsOf, finish, afterRound, searched, due, roundsFrom, roundOf, adjustSentinel, givenOf, startOf, updateFrom, updateFreePath, turnLimit}
 use Rattle.update_definition.specs.Accepted.{Each, Accepted, DivsAccepted}
 use Rattle.update_definition.specs.Fits.{TrainsUpTo, TrainsWithin, NodeFits, Fits}
 use Rattle.update_laws.specs.AfterRound.{SameTrip, StaysAccepted, EndsGood, Leaves}
@@ -112,8 +112,8 @@ module _ (g : Given) (was : Train) (L : Train → Type 0) (K : Train → ℕ →
         go true = refl
         go false = finish-leaves (faultsOf g (w .train)) (w .tally) (w .train) (top (w .train) (w .«idx_split») (w .«div_idx_split») k)
     rounds-leave (suc n) w k =
-        go (due w) (afterRound (roundOf g (w .train) (w .«idx_split») (w .«div_idx_split»)) (λ x. roundsFrom n g was x) g was w)
-        (after-leaves (roundOf g (w .train) (w .«idx_split») (w .«div_idx_split»)) (λ x. roundsFrom n g was x) w (top (w .train) (w .«idx_split») (w .«div_idx_split») k) (λ e q. round (w .train) (w .«idx_split») (w .«div_idx_split») e k q) (λ y j. rounds-leave n y j))
+        go (due w) (afterRound (roundOf g (w .train) (w .«idx_split») (w .«div_idx_split»)) (λ x. roundsFrom n g was x) g was (searched g w))
+        (after-leaves (roundOf g (w .train) (w .«idx_split») (w .«div_idx_split»)) (λ x. roundsFrom n g was x) (searched g w) (top (w .train) (w .«idx_split») (w .«div_idx_split») k) (λ e q. round (w .train) (w .«idx_split») (w .«div_idx_split») e k q) (λ y j. rounds-leave n y j))
       where
         go : (t : Bool) (more : Updated) → Left more → Left (cond t more (finish (faultsOf g (w .train)) (w .tally) was (w .train)))
         go true more h = h

@@ -16,7 +16,7 @@ pub data Answers (r : Round) : Search → ℕ → Res Ended → Type 0 where
 pub data RoundAnswers (g : Given) (t : Train) (split divSplit : ℕ) : ℕ → Res Ended → Type 0 where
   stops : {n : ℕ} → beginOf g t split divSplit ≡ no n → RoundAnswers g t split divSplit 0 (no n)
   ended : beginOf g t split divSplit ≡ ok pathEnds → RoundAnswers g t split divSplit 0 (ok atEnd)
-  searched : {b : Begin} {k : ℕ} {x : Res Ended} → beginOf g t split divSplit ≡ ok (searches b)
+  comes : {b : Begin} {k : ℕ} {x : Res Ended} → beginOf g t split divSplit ≡ ok (searches b)
       → Answers (roundAt g t (b .node) (b .«idx_split»)) (searchAt t (b .«idx_split») (b .«div_idx_split») (b .«idx_save»)) k x → RoundAnswers g t split divSplit k x
 
 -- a round of the update of was finds this train, idx_split and div_idx_split

@@ -1,7 +1,7 @@
 //! The calls of the proved library, each over a case. Every buffer that is lent is an allocation of just its length.
 
 use lavtoeu::{Move, Order, Refusal};
-use oracle::cases::{Case, CHECK, LAY_OUT, MARK, PAGE, PROFILE, SHEET, UPDATE};
+use oracle::cases::{Case, CEILING, CHECK, LAY_OUT, MARK, PAGE, PROFILE, SHEET, UPDATE, YARD_CEILING};
 use oracle::gen::UpdateCase;
 use oracle::layout::{u16_bytes, u16s, u32s};
 use oracle::model::CheckArgs;
@@ -9,7 +9,7 @@ use oracle::model::CheckArgs;
 /// Where the answer of an operation has the refusal's number.
 pub fn number_at(op: u32) -> usize {
     match op {
-        MARK | LAY_OUT | PAGE | PROFILE => 0,
+        MARK | LAY_OUT | PAGE | PROFILE | CEILING | YARD_CEILING => 0,
         _ => 1,
     }
 }
@@ -26,6 +26,8 @@ pub fn answered(asked: &Case) -> Case {
         SHEET => sheet(&mut case),
         PAGE => page(&mut case),
         PROFILE => (case.answer[0], case.answer[1]) = numbers(lavtoeu::profile(&case.ins[0])),
+        CEILING => number(&mut case, lavtoeu::ceiling(&asked.ins[0])),
+        YARD_CEILING => number(&mut case, lavtoeu::yard_ceiling(&asked.ins[0], asked.args[0] as u16)),
         op => panic!("no operation {op}"),
     }
     case
@@ -34,6 +36,13 @@ pub fn answered(asked: &Case) -> Case {
 /// A refusal's number and place, 0 for none.
 pub fn numbers(answer: Result<(), Refusal>) -> (u32, u32) {
     answer.err().map_or((0, 0), |r| (r.number as u32, r.place as u32))
+}
+
+/// A number in two halves behind the refusal and its place.
+fn number(case: &mut Case, answer: Result<u64, Refusal>) {
+    let n = answer.unwrap_or(0);
+    let (number, place) = numbers(answer.map(|_| ()));
+    case.answer = [number, place, n as u32, (n >> 32) as u32, 0, 0, 0, 0];
 }
 
 fn small(n: u64) -> u32 {
@@ -80,14 +89,15 @@ fn update(case: &mut Case) {
         local: local != 0,
         limit: limit as u16,
     };
-    let mut answer = vec![0; 4];
+    let mut answer = vec![0; lavtoeu::layout::UPDATE_WORDS];
     let (number, place) = numbers(lavtoeu::update_into(&mut image, told, &mut answer));
     let kind = match answer[0] {
         code @ 3..=5 if number == 0 => code as u32 - 3,
         code if number != 0 && code == 16 + number as u64 => 3,
         _ => u32::MAX,
     };
-    case.answer = [kind, number, place, small(answer[1]), small(answer[2]), small(answer[3]), 0, 0];
+    let [_, errors, rounds, strays, steps] = answer[..] else { panic!("{} words", answer.len()) };
+    case.answer = [kind, number, place, small(errors), small(rounds), small(strays), small(steps), 0];
     case.outs = [image, vec![]];
 }
 

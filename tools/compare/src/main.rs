@@ -26,7 +26,7 @@ struct Run {
 }
 
 /// The kinds of cases, each with one step of a run.
-const KINDS: [(&str, fn(&mut Run)); 12] = [
+const KINDS: [(&str, fn(&mut Run)); 14] = [
     ("mark", |r| r.call(calls::mark)),
     ("layout", |r| r.call(calls::lay_out)),
     ("image", Run::image),
@@ -39,6 +39,8 @@ const KINDS: [(&str, fn(&mut Run)); 12] = [
     ("sheet-damaged", |r| r.call(checks::damaged_sheet)),
     ("page", |r| r.call(calls::page)),
     ("profile", |r| r.call(calls::profile)),
+    ("ceiling", |r| r.call(calls::ceiling)),
+    ("yard-ceiling", |r| r.call(calls::yard_ceiling)),
 ];
 
 const TIMES: [(&str, fn(u64)); 4] = [

@@ -225,7 +225,9 @@ impl Case {
             Outcome::Faulty(n) => (2, 0, 0, n),
             Outcome::Refused(r) => (3, r.number as u32, r.place, 0),
         };
-        self.answer = [kind, number, place, faults, u.rounds, u.strays, 0, 0];
+        // at most 3E + 1 for each of 65,535 rounds
+        let steps = u32::try_from(u.steps).expect("steps within their ceiling");
+        self.answer = [kind, number, place, faults, u.rounds, u.strays, steps, 0];
         self.line = u.line;
         self.outs = [image, vec![]];
     }

@@ -35,14 +35,15 @@ fn image_fault(c: &Case) -> String {
 }
 
 fn update(c: &Case) -> String {
-    let [kind, number, place, faults, rounds, strays, ..] = c.answer;
+    let [kind, number, place, faults, rounds, strays, steps, _] = c.answer;
     let status = match kind {
         0 => "success".into(),
         1 => "blocked".into(),
         2 => format!("faulty {faults}"),
         _ => refused(number, place),
     };
-    format!("{status} rounds {rounds} strays {strays} image {}{}", sum_of(&c.outs[0]), image_fault(c))
+    let counts = format!("rounds {rounds} strays {strays} steps {steps}");
+    format!("{status} {counts} image {}{}", sum_of(&c.outs[0]), image_fault(c))
 }
 
 /// All eight numbers; the image is not judged by itself.

@@ -51,7 +51,7 @@ blocked-requires c κs = search needs
 
 -- src/ending.rt:54:1
 returns : tie.Need-returns
-returns c = ((λ img dt dn r s f q. rw (c .before .before .effect .given .1, c .ended .ensures)), ap (λ (y : RoundEnd). isAtEnd (y .end)) (c .ended .ensures))
+returns c = ((λ img dt dn r s f q. rw (c .before .before .effect .given .1, c .ended .ensures)), ap (λ (y : RoundEnd). isAtEnd (y .end)) (c .ended .ensures), ap (λ (y : RoundEnd). y .steps) (c .ended .ensures))
 
 -- src/ending.rt:54:1
 returns-2 : tie.Need-returns-2
@@ -67,7 +67,7 @@ returns-4 c = clash true refl (sym (ap onward (c .before .enum-told2 .given .1))
 
 -- src/ending.rt:54:1
 returns-5 : tie.Need-returns-5
-returns-5 c = ((λ img dt dn r s f q. rw (c .before .enum-told3 .given .1, c .blocked .ensures) (ends-blocked img dt dn (c .before .before .before .args .h) r s f q)), ap (λ (y : RoundEnd). isAtEnd (y .end)) (c .blocked .ensures))
+returns-5 c = ((λ img dt dn r s f q. rw (c .before .enum-told3 .given .1, c .blocked .ensures) (ends-blocked img dt dn (c .before .before .before .args .h) r s f q)), ap (λ (y : RoundEnd). isAtEnd (y .end)) (c .blocked .ensures), ap (λ (y : RoundEnd). y .steps) (c .blocked .ensures))
 
 pub by-effect-spec : {M : Type 1} → statement M
 by-effect-spec =

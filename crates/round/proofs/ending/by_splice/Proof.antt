@@ -12,15 +12,15 @@ ended-requires c κs = search needs
 
 -- src/ending.rt:104:9
 returns : tie.Need-returns
-returns c = let a = c .before .before .before .before .args .a in rw (c .ended .ensures) ((λ t f. splice-refused (a .code) t (a .split) (a .«div_split») f (c .before .if1 .taken)), refl, (λ q. clash true refl q), refl)
+returns c = let a = c .before .before .before .before .args .a in rw (c .ended .ensures) ((λ t f. splice-refused (a .code) t (a .split) (a .«div_split») f (c .before .if1 .taken)), refl, (λ q. clash true refl q), refl, refl)
 
 -- src/ending.rt:109:16
-cast-t6 : tie.Need-cast-t6
-cast-t6 c = search needs
+cast-t7 : tie.Need-cast-t7
+cast-t7 c = search needs
 
 -- src/ending.rt:99:1
 returns-2 : tie.Need-returns-2
-returns-2 c = let a = c .before .before .before .before .args .a in ((λ t f. splice-again (a .code) t (a .split) (a .«div_split») f (c .before .if1 .left)), refl, (λ q. c .before .if1 .left), refl)
+returns-2 c = let a = c .before .before .before .before .args .a in ((λ t f. splice-again (a .code) t (a .split) (a .«div_split») f (c .before .if1 .left)), refl, (λ q. c .before .if1 .left), refl, refl)
 
 pub by-splice-spec : {M : Type 1} → statement M
-by-splice-spec = tie.close (tie.spec ended-requires returns cast-t6 returns-2)
+by-splice-spec = tie.close (tie.spec ended-requires returns cast-t7 returns-2)

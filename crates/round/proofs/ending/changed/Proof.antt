@@ -34,7 +34,7 @@ same-length-4 c = search needs
 
 -- src/ending.rt:135:1
 returns : tie.Need-returns
-returns c = let j = c .before .before .before .before .before .before .before .before .before .change-diverge in let x = c .by-splice in ((λ r s f st ch. rw (x .ensures .1) (x .ensures .0 _ f ∙ ap (endOf f) (j .ensures .0 r _ s st (rw (c .before .before .before .before .before .before .before .before .before .before .before .before .before .before .view-at .ensures) ch)))), x .ensures .3)
+returns c = let j = c .before .before .before .before .before .before .before .before .before .change-diverge in let x = c .by-splice in ((λ r s f st ch. rw (x .ensures .1) (x .ensures .0 _ f ∙ ap (endOf f) (j .ensures .0 r _ s st (rw (c .before .before .before .before .before .before .before .before .before .before .before .before .before .before .view-at .ensures) ch)))), x .ensures .3, x .ensures .4)
 
 pub changed-spec : {M : Type 1} → statement M
 changed-spec =

@@ -38,7 +38,7 @@ same-length-6 c = search needs
 
 -- src/ending.rt:116:1
 returns : tie.Need-returns
-returns c = let j = c .before .before .before .before .before .before .before .before .before .before .before .join in let x = c .by-splice in ((λ r s f st jo. rw (x .ensures .1) (x .ensures .0 _ f ∙ ap (endOf f) (j .ensures .0 r _ s st jo))), (λ q. j .ensures .1 (x .ensures .2 q)), x .ensures .3)
+returns c = let j = c .before .before .before .before .before .before .before .before .before .before .before .join in let x = c .by-splice in ((λ r s f st jo. rw (x .ensures .1) (x .ensures .0 _ f ∙ ap (endOf f) (j .ensures .0 r _ s st jo))), (λ q. j .ensures .1 (x .ensures .2 q)), x .ensures .3, x .ensures .4)
 
 pub joined-spec : {M : Type 1} → statement M
 joined-spec =

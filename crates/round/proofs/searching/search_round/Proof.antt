@@ -82,7 +82,7 @@ module _ (o : Over) where
   abbrev looked : State.Search
   looked = searchIn (o .before .before .before .before .before .before .before .before .before .before .before .before .before .before .before .before .before .before .before .before .before .before .before .before .before .before .before .before .before .before .before .before .before .before .before .before .before .before .args .r .«est_count») place (listed count (nodeAt (o .before .before .before .before .before .before .before .before .before .before .before .before .before .run .last .1 .1 .1 .1 .1 .1 .1 .0))) (divsOf (place .«div_count») (o .before .before .before .before .before .before .before .before .before .before .before .before .before .run .last .1 .1 .1 .1 .1 .1 .1 .1 .1 .1 .1 .0) (o .before .before .before .before .before .before .before .before .before .before .before .before .before .run .last .1 .1 .1 .1 .1 .1 .1 .1 .1 .1 .1 .1 .0)) lent
 
-  ran : Ran (length occ) round first (o .before .before .before .before .before .before .before .before .before .before .before .before .before .run .result .go) (o .before .before .before .before .before .before .before .before .before .before .before .before .before .run .result .effect) (hereOf here) looked
+  ran : Ran (length occ) round first (o .before .before .before .before .before .before .before .before .before .before .before .before .before .run .result .go) (o .before .before .before .before .before .before .before .before .before .before .before .before .before .run .result .effect) (hereOf here) (o .before .before .before .before .before .before .before .before .before .before .before .before .before .run .result .steps) looked
   ran = o .before .before .before .before .before .before .before .before .before .before .before .before .before .run .ensures .0 (trainOf img dt dn (o .before .before .before .before .before .before .before .before .before .before .before .before .before .before .before .before .before .before .before .before .before .before .before .before .before .before .before .before .before .before .before .before .before .before .before .before .before .before .args .h)) (o .before .before .before .before .before .before .before .before .before .before .before .before .before .before .before .before .before .before .before .before .before .before .before .before .before .before .before .before .before .before .before .before .before .before .before .before .before .before .pre .2 .begun)
 
   empty : estCount (o .before .before .before .before .before .before .before .before .before .before .before .before .before .run .last .1 .1 .1 .1 .1 .1 .1 .0) ≡ 0
@@ -139,6 +139,7 @@ returns c =
           (sym (turn-done (o .before .before .before .before .before .before .before .before .before .before .before .before .before .run .result .go) (o .before .before .before .before .before .before .before .before .before .before .before .before .before .run .result .effect) (round o) (hereOf (here o)) (looked o) l)),
       (λ q. record { size = refl; below = λ i h. refl }),
       c .by-effect .ensures .1,
+      c .by-effect .ensures .2 ∙ ran o .counts,
     )
 
 reached-requires : tie.Need-reached-requires
@@ -167,6 +168,7 @@ returns-2 c =
           (sym (turn-join (o .before .before .before .before .before .before .before .before .before .before .before .before .before .run .result .go) (o .before .before .before .before .before .before .before .before .before .before .before .before .before .run .result .effect) (round o) (hereOf (here o)) (looked o) (sym (c .before .before .before .before .before .before .before .before .before .before .before .before .before .before .before .before .before .before .before .before .is-join .ensures) ∙ c .before .before .before .before .before .before .before .before .before .before .before .before .before .before .before .before .before .before .before .if2 .taken))),
       c .before .before .before .before .before .before .before .before .before .before .before .before .joined .ensures .1,
       c .before .before .before .before .before .before .before .before .before .before .before .before .joined .ensures .2,
+      c .before .before .before .before .before .before .before .before .before .before .before .before .joined .ensures .3 ∙ ran o .counts,
     )
 
 changed-requires : tie.Need-changed-requires
@@ -186,6 +188,7 @@ returns-3 c =
           (sym (turn-change (o .before .before .before .before .before .before .before .before .before .before .before .before .before .run .result .go) (o .before .before .before .before .before .before .before .before .before .before .before .before .before .run .result .effect) (round o) (hereOf (here o)) (looked o) l (sym (c .before .before .before .before .before .before .before .before .before .before .before .before .before .before .before .before .before .before .before .is-join .ensures) ∙ c .before .before .before .before .before .before .before .before .before .before .before .before .before .before .before .before .before .before .if2 .left))),
       (λ q. record { size = refl; below = λ i h. refl }),
       c .before .before .before .before .before .before .before .before .changed .ensures .1,
+      c .before .before .before .before .before .before .before .before .changed .ensures .2 ∙ ran o .counts,
     )
 
 same-length : tie.Need-same-length

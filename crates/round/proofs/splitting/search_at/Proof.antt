@@ -8,7 +8,7 @@ use Rattle.search.specs.Read.{divsOf, pathOf}
 use Rattle.round_start.specs.Start.{dividedAt}
 use Rattle.round.specs.Rounds.{isAtEnd}
 use Rattle.round.specs.declared.RoundEnd.{RoundEnd}
-use Rattle.round.proofs.StartLaws.{divide-refused, save-refused, searching, search-is}
+use Rattle.round.proofs.StartLaws.{divide-refused, divide-steps, save-refused, save-steps, searching, search-is, steps-is}
 use borrow.Author.Needs.{needs}
 use Rattle.round.proofs.splitting.search_at.Statement.{statement}
 use Rattle.round.proofs.splitting.search_at.Tie as tie
@@ -34,7 +34,7 @@ returns : tie.Need-returns
 returns c =
     let a = c .before .before .before .before .before .before .before .before .before .before .before .args in
     let d = c .before .before .before .div-at in
-    ((λ blocking start. rw (c .refused .ensures) (divide-refused (now (a .occ)) (now (a .img)) (now (a .dt)) (now (a .dn)) (a .h) (a .g) blocking start (a .split) (a .div-split) (record { node = a .z .node; divs = a .z .divs }) (c .before .before .before .before .before .before .before .before .before .before .before .pre .4) (d .result .code) (d .result .index) (d .ensures .0 (now (a .dt))) (c .before .if1 .taken))), (λ q. record { size = refl; below = λ i h. refl }), ap (λ (y : RoundEnd). isAtEnd (y .end)) (c .refused .ensures))
+    ((λ blocking start. rw (c .refused .ensures) (divide-refused (now (a .occ)) (now (a .img)) (now (a .dt)) (now (a .dn)) (a .h) (a .g) blocking start (a .split) (a .div-split) (record { node = a .z .node; divs = a .z .divs }) (c .before .before .before .before .before .before .before .before .before .before .before .pre .4) (d .result .code) (d .result .index) (d .ensures .0 (now (a .dt))) (c .before .if1 .taken))), (λ q. record { size = refl; below = λ i h. refl }), ap (λ (y : RoundEnd). isAtEnd (y .end)) (c .refused .ensures), (λ blocking start. ap (λ (y : RoundEnd). y .steps) (c .refused .ensures) ∙ divide-steps (now (a .occ)) (now (a .img)) (now (a .dt)) (now (a .dn)) (a .h) (a .g) blocking start (a .split) (a .div-split) (record { node = a .z .node; divs = a .z .divs }) (c .before .before .before .before .before .before .before .before .before .before .before .pre .4) (d .result .code) (d .result .index) (d .ensures .0 (now (a .dt))) (c .before .if1 .taken)))
 
 -- src/splitting.rt:113:49
 cast-save-point : tie.Need-cast-save-point
@@ -63,7 +63,7 @@ returns-2 c =
     let d = c .before .before .before .before .before .before .before .before .div-at in
     let s = c .before .before .before .save-point in
     let e : ok (d .result .index) ≡ dividedAt (divsOf (a .h .«diverge_count») (now (a .dt)) (now (a .dn))) (a .split) (a .div-split) (record { node = a .z .node; divs = a .z .divs }) = ap (λ (n : ℕ). answer n (d .result .index)) (sym (c .before .before .before .before .before .before .if1 .left)) ∙ d .ensures .0 (now (a .dt)) in
-    ((λ blocking start. rw (c .refused2 .ensures) (save-refused (now (a .occ)) (now (a .img)) (now (a .dt)) (now (a .dn)) (a .h) (a .g) blocking start (a .split) (a .div-split) (record { node = a .z .node; divs = a .z .divs }) (c .before .before .before .before .before .before .before .before .before .before .before .before .before .before .before .before .pre .4) (d .result .index) (s .result .code) (s .result .index) e (s .ensures .0) (c .before .if2 .taken))), (λ q. record { size = refl; below = λ i h. refl }), ap (λ (y : RoundEnd). isAtEnd (y .end)) (c .refused2 .ensures))
+    ((λ blocking start. rw (c .refused2 .ensures) (save-refused (now (a .occ)) (now (a .img)) (now (a .dt)) (now (a .dn)) (a .h) (a .g) blocking start (a .split) (a .div-split) (record { node = a .z .node; divs = a .z .divs }) (c .before .before .before .before .before .before .before .before .before .before .before .before .before .before .before .before .pre .4) (d .result .index) (s .result .code) (s .result .index) e (s .ensures .0) (c .before .if2 .taken))), (λ q. record { size = refl; below = λ i h. refl }), ap (λ (y : RoundEnd). isAtEnd (y .end)) (c .refused2 .ensures), (λ blocking start. ap (λ (y : RoundEnd). y .steps) (c .refused2 .ensures) ∙ save-steps (now (a .occ)) (now (a .img)) (now (a .dt)) (now (a .dn)) (a .h) (a .g) blocking start (a .split) (a .div-split) (record { node = a .z .node; divs = a .z .divs }) (c .before .before .before .before .before .before .before .before .before .before .before .before .before .before .before .before .pre .4) (d .result .index) (s .result .code) (s .result .index) e (s .ensures .0) (c .before .if2 .taken)))
 
 -- src/splitting.rt:117:9
 round-of-requires : tie.Need-round-of-requires
@@ -108,7 +108,7 @@ returns-3 c =
     let x = c .before .before .before .before .before .before .search in
     let e : ok (d .result .index) ≡ dividedAt (divsOf (a .h .«diverge_count») (now (a .dt)) (now (a .dn))) (a .split) (a .div-split) (record { node = a .z .node; divs = a .z .divs }) = ap (λ (n : ℕ). answer n (d .result .index)) (sym (c .before .before .before .before .before .before .before .before .before .before .before .before .before .before .before .before .before .before .if1 .left)) ∙ d .ensures .0 (now (a .dt)) in
     let f : ok (s .result .index) ≡ savePoint (pathOf (now (a .img)) (a .h .«path_count»)) (a .h .fixed) (a .split) = ap (λ (n : ℕ). answer n (s .result .index)) (sym (c .before .before .before .before .before .before .before .before .before .before .before .before .before .if2 .left)) ∙ s .ensures .0 in
-    ((λ blocking start. x .ensures .0 ∙ rw (c .before .before .before .before .before .before .before .before .before .before .place-of .ensures) (search-is (now (a .occ)) (now (a .img)) (now (a .on)) (now (a .dt)) (now (a .dn)) (a .h) (g .0) (r .result) (r .ensures .0) (a .split) (d .result .index) (s .result .index) (a .g) blocking start (a .div-split) (record { node = a .z .node; divs = a .z .divs }) (g .4) (r .ensures .1) (r .ensures .2) (r .ensures .3) e f)), x .ensures .1, x .ensures .2)
+    ((λ blocking start. x .ensures .0 ∙ rw (c .before .before .before .before .before .before .before .before .before .before .place-of .ensures) (search-is (now (a .occ)) (now (a .img)) (now (a .on)) (now (a .dt)) (now (a .dn)) (a .h) (g .0) (r .result) (r .ensures .0) (a .split) (d .result .index) (s .result .index) (a .g) blocking start (a .div-split) (record { node = a .z .node; divs = a .z .divs }) (g .4) (r .ensures .1) (r .ensures .2) (r .ensures .3) e f)), x .ensures .1, x .ensures .2, (λ blocking start. x .ensures .3 ∙ rw (c .before .before .before .before .before .before .before .before .before .before .place-of .ensures) (steps-is (now (a .occ)) (now (a .img)) (now (a .on)) (now (a .dt)) (now (a .dn)) (a .h) (g .0) (r .result) (r .ensures .0) (a .split) (d .result .index) (s .result .index) (a .g) blocking start (a .div-split) (record { node = a .z .node; divs = a .z .divs }) (g .4) (r .ensures .1) (r .ensures .2) (r .ensures .3) e f)))
 
 pub search-at-spec : {M : Type 1} → statement M
 search-at-spec =

@@ -37,14 +37,14 @@ use Rattle.search.proofs.run.slot_of.Reads as slot-of-reads
 use Rattle.search.proofs.turn.turn.Reads as turn-reads
 
 abbrev Inv-loop : tie.InvT-loop
-Inv-loop img occ on dt dn r fresh₀ pool₀ begins₀ ends₀ nt₀ nn₀ p₀ curr₀ new₀ left₀ fresh pool begins ends nt nn p curr new left =
+Inv-loop img occ on dt dn r fresh₀ pool₀ begins₀ ends₀ nt₀ nn₀ p₀ curr₀ new₀ left₀ steps₀ fresh pool begins ends nt nn p curr new left steps =
     Kept fresh fresh₀ × Lent (r .«est_count») (arrays pool begins ends) × (length nt ≡ length nt₀) × (length nn ≡ length nn₀) × (p .«pool_count» ≤ 2048) × (curr ≡ currentIn img fresh (p .«idx_split») (p .«new_count»))
     × ((t : Train) (b : SearchBegins (length occ) (roundOf t occ img dt dn r) (searchIn (r .«est_count») p₀ [] (divsOf (p₀ .«div_count») nt₀ nn₀) (arrays pool₀ begins₀ ends₀)))
-    → Going (b .top) (length occ) (roundOf t occ img dt dn r) left₀ (searchIn (r .«est_count») p₀ [] (divsOf (p₀ .«div_count») nt₀ nn₀) (arrays pool₀ begins₀ ends₀)) left (searchIn (r .«est_count») p (listed (p .«new_count») (nodeAt fresh)) (divsOf (p .«div_count») nt nn) (arrays pool begins ends)))
-    × (length new ≡ 64) × ((i : ℕ) → i < p .«new_count» → i < 63 → getD new i blank ≡ nodeAt fresh i) × (length begins ≡ length begins₀) × (length ends ≡ length ends₀)
+    → Going (b .top) (length occ) (roundOf t occ img dt dn r) left₀ (searchIn (r .«est_count») p₀ [] (divsOf (p₀ .«div_count») nt₀ nn₀) (arrays pool₀ begins₀ ends₀)) left steps (searchIn (r .«est_count») p (listed (p .«new_count») (nodeAt fresh)) (divsOf (p .«div_count») nt nn) (arrays pool begins ends)))
+    × (length new ≡ 64) × ((i : ℕ) → i < p .«new_count» → i < 63 → getD new i blank ≡ nodeAt fresh i) × (length begins ≡ length begins₀) × (length ends ≡ length ends₀) × (steps + left ≡ left₀)
 
 abbrev μ-loop : tie.MeasureT-loop
-μ-loop img occ on dt dn r fresh₀ pool₀ begins₀ ends₀ nt₀ nn₀ p₀ curr₀ new₀ left₀ fresh pool begins ends nt nn p curr new left = left
+μ-loop img occ on dt dn r fresh₀ pool₀ begins₀ ends₀ nt₀ nn₀ p₀ curr₀ new₀ left₀ steps₀ fresh pool begins ends nt nn p curr new left steps = left
 
 -- ---- at the top of the loop
 
@@ -56,12 +56,12 @@ module _ (o : Top) where
   split : (1 ≤ o .loop .p .«idx_split») × (o .loop .p .«idx_split» ≤ o .before .before .before .before .before .before .before .before .before .before .before .before .before .before .before .before .args .r .«path_count») × (o .loop .p .«idx_split» + o .loop .p .«new_count» ≤ 512) × (o .loop .p .«idx_split» + o .loop .p .«new_count» ≤ o .before .before .before .before .before .before .before .before .before .before .before .before .before .before .before .before .args .r .«est_count»)
   split =
       let v = o .loop in let g = o .before .before .before .before .before .before .before .before .before .before .before .before .before .before .before .before .pre in let a = o .before .before .before .before .before .before .before .before .before .before .before .before .before .before .before .before .args in
-      top-split (now (a .occ)) (now (a .img)) (now (a .dt)) (now (a .dn)) (a .r) (g .train) _ (g .begins) _ (v .left) (v .p) (v .fresh) (v .nt) (v .nn) (arrays (v .pool) (v .begins) (v .ends)) (v .inv .6 (g .train) (g .begins))
+      top-split (now (a .occ)) (now (a .img)) (now (a .dt)) (now (a .dn)) (a .r) (g .train) _ (g .begins) _ (v .left) (v .steps) (v .p) (v .fresh) (v .nt) (v .nn) (arrays (v .pool) (v .begins) (v .ends)) (v .inv .6 (g .train) (g .begins))
 
   small : Small (o .loop .p)
   small =
       let v = o .loop in let g = o .before .before .before .before .before .before .before .before .before .before .before .before .before .before .before .before .pre in let a = o .before .before .before .before .before .before .before .before .before .before .before .before .before .before .before .before .args in
-      top-small (now (a .occ)) (now (a .img)) (now (a .dt)) (now (a .dn)) (a .r) (g .train) _ (g .begins) _ (v .left) (v .p) (v .fresh) (v .nt) (v .nn) (arrays (v .pool) (v .begins) (v .ends)) (v .inv .6 (g .train) (g .begins)) (v .inv .4)
+      top-small (now (a .occ)) (now (a .img)) (now (a .dt)) (now (a .dn)) (a .r) (g .train) _ (g .begins) _ (v .left) (v .steps) (v .p) (v .fresh) (v .nt) (v .nn) (arrays (v .pool) (v .begins) (v .ends)) (v .inv .6 (g .train) (g .begins)) (v .inv .4)
 
   -- there is room for one node more
   room : nodePlace (estCount (o .loop .fresh)) (o .loop .p .«new_count» + 1) ≤ length (o .loop .fresh)
@@ -76,7 +76,7 @@ module _ (d : Done) where
   current-node : Look.current (pathOf (now (d .before .before .before .before .before .before .before .before .before .before .before .before .before .before .before .before .before .before .before .before .before .before .before .before .before .before .before .before .before .before .before .before .before .before .before .before .args .img)) (d .before .before .before .before .before .before .before .before .before .before .before .before .before .before .before .before .before .before .before .before .before .before .before .before .before .before .before .before .before .before .before .before .before .before .before .before .args .r .«path_count»)) (listed (d .before .before .before .before .before .before .before .before .before .before .before .before .before .before .before .before .before .before .before .before .loop .p .«new_count») (nodeAt (d .before .before .before .before .before .before .before .before .before .before .before .before .before .before .before .before .before .before .before .before .loop .fresh))) (d .before .before .before .before .before .before .before .before .before .before .before .before .before .before .before .before .before .before .before .before .loop .p .«idx_split») ≡ ok (d .before .before .before .before .before .before .before .before .before .before .before .before .before .before .before .before .before .before .before .before .loop .curr)
   current-node =
       let v = d .before .before .before .before .before .before .before .before .before .before .before .before .before .before .before .before .before .before .before .before .loop in let g = d .before .before .before .before .before .before .before .before .before .before .before .before .before .before .before .before .before .before .before .before .before .before .before .before .before .before .before .before .before .before .before .before .before .before .before .before .pre in let a = d .before .before .before .before .before .before .before .before .before .before .before .before .before .before .before .before .before .before .before .before .before .before .before .before .before .before .before .before .before .before .before .before .before .before .before .before .args in
-      top-current (now (a .occ)) (now (a .img)) (now (a .dt)) (now (a .dn)) (a .r) (g .train) _ (g .begins) _ (v .left) (v .p) (v .fresh) (v .nt) (v .nn) (arrays (v .pool) (v .begins) (v .ends)) (v .inv .6 (g .train) (g .begins)) ∙ ap ok (sym (v .inv .5))
+      top-current (now (a .occ)) (now (a .img)) (now (a .dt)) (now (a .dn)) (a .r) (g .train) _ (g .begins) _ (v .left) (v .steps) (v .p) (v .fresh) (v .nt) (v .nn) (arrays (v .pool) (v .begins) (v .ends)) (v .inv .6 (g .train) (g .begins)) ∙ ap ok (sym (v .inv .5))
 
   lent : Lent (d .before .before .before .before .before .before .before .before .before .before .before .before .before .before .before .before .before .before .before .before .before .before .before .before .before .before .before .before .before .before .before .before .before .before .before .before .args .r .«est_count») (arrays (d .before .before .before .before .before .before .before .before .before .before .before .before .before .turn .last .1 .1 .1 .1 .1 .1 .1 .1 .0) (d .before .before .before .before .before .before .before .before .before .before .before .before .before .turn .last .1 .1 .1 .1 .1 .1 .1 .1 .1 .0) (d .before .before .before .before .before .before .before .before .before .before .before .before .before .turn .last .1 .1 .1 .1 .1 .1 .1 .1 .1 .1 .0))
   lent = let v = d .before .before .before .before .before .before .before .before .before .before .before .before .before .before .before .before .before .before .before .before .loop in record { est = v .inv .1 .est; trains = d .before .before .before .before .before .before .before .before .before .before .before .before .pool .given ∙ v .inv .1 .trains; first = omega (arith, d .before .before .before .before .before .before .before .before .before .before .begins .given, v .inv .1 .first); last = omega (arith, d .before .before .before .before .before .before .before .before .ends .given, v .inv .1 .last) }
@@ -89,20 +89,20 @@ module _ (d : Done) where
     sound : d .after .result .count ≡ d .before .before .before .before .before .before .before .before .before .before .before .before .before .before .before .before .before .before .before .before .loop .p .«new_count» + 1 → Sound (d .after .result .node)
     sound =
         let v = d .before .before .before .before .before .before .before .before .before .before .before .before .before .before .before .before .before .before .before .before .loop in let g = d .before .before .before .before .before .before .before .before .before .before .before .before .before .before .before .before .before .before .before .before .before .before .before .before .before .before .before .before .before .before .before .before .before .before .before .before .pre in let a = d .before .before .before .before .before .before .before .before .before .before .before .before .before .before .before .before .before .before .before .before .before .before .before .before .before .before .before .before .before .before .before .before .before .before .before .before .args in let u = d .before .before .before .before .before .before .before .before .before .before .before .before .before .turn in
-        turn-sound (now (a .occ)) (now (a .img)) (now (a .dt)) (now (a .dn)) (a .r) (g .train) _ (g .begins) _ (v .left) (v .p) (v .fresh) (v .nt) (v .nn) (arrays (v .pool) (v .begins) (v .ends)) (v .inv .6 (g .train) (g .begins)) (u .last .1 .1 .1 .1 .1 .1 .1 .1 .1 .1 .1 .0) (u .last .1 .1 .1 .1 .1 .1 .1 .1 .1 .1 .1 .1 .0) (arrays (u .last .1 .1 .1 .1 .1 .1 .1 .1 .0) (u .last .1 .1 .1 .1 .1 .1 .1 .1 .1 .0) (u .last .1 .1 .1 .1 .1 .1 .1 .1 .1 .1 .0)) (u .result .go) (u .result .effect) (hereOf (u .result .here)) (u .result .place) (v .left - 1) left-suc (u .ensures .0 (g .train) (listed (v .p .«new_count») (nodeAt (v .fresh))) (listed-length _ _) current-node) (d .after .result) (d .after .ensures) y
+        turn-sound (now (a .occ)) (now (a .img)) (now (a .dt)) (now (a .dn)) (a .r) (g .train) _ (g .begins) _ (v .left) (v .steps) (v .p) (v .fresh) (v .nt) (v .nn) (arrays (v .pool) (v .begins) (v .ends)) (v .inv .6 (g .train) (g .begins)) (u .last .1 .1 .1 .1 .1 .1 .1 .1 .1 .1 .1 .0) (u .last .1 .1 .1 .1 .1 .1 .1 .1 .1 .1 .1 .1 .0) (arrays (u .last .1 .1 .1 .1 .1 .1 .1 .1 .0) (u .last .1 .1 .1 .1 .1 .1 .1 .1 .1 .0) (u .last .1 .1 .1 .1 .1 .1 .1 .1 .1 .1 .0)) (u .result .go) (u .result .effect) (hereOf (u .result .here)) (u .result .place) (v .left - 1) left-suc (u .ensures .0 (g .train) (listed (v .p .«new_count») (nodeAt (v .fresh))) (listed-length _ _) current-node) (d .after .result) (d .after .ensures) y
 
     going : (t : Train) (b : SearchBegins (length (now (d .before .before .before .before .before .before .before .before .before .before .before .before .before .before .before .before .before .before .before .before .before .before .before .before .before .before .before .before .before .before .before .before .before .before .before .before .args .occ))) (roundOf t (now (d .before .before .before .before .before .before .before .before .before .before .before .before .before .before .before .before .before .before .before .before .before .before .before .before .before .before .before .before .before .before .before .before .before .before .before .before .args .occ)) (now (d .before .before .before .before .before .before .before .before .before .before .before .before .before .before .before .before .before .before .before .before .before .before .before .before .before .before .before .before .before .before .before .before .before .before .before .before .args .img)) (now (d .before .before .before .before .before .before .before .before .before .before .before .before .before .before .before .before .before .before .before .before .before .before .before .before .before .before .before .before .before .before .before .before .before .before .before .before .args .dt)) (now (d .before .before .before .before .before .before .before .before .before .before .before .before .before .before .before .before .before .before .before .before .before .before .before .before .before .before .before .before .before .before .before .before .before .before .before .before .args .dn)) (d .before .before .before .before .before .before .before .before .before .before .before .before .before .before .before .before .before .before .before .before .before .before .before .before .before .before .before .before .before .before .before .before .before .before .before .before .args .r)) (searchIn (d .before .before .before .before .before .before .before .before .before .before .before .before .before .before .before .before .before .before .before .before .before .before .before .before .before .before .before .before .before .before .before .before .before .before .before .before .args .r .«est_count») (d .before .before .before .before .before .before .before .before .before .before .before .before .before .before .before .before .before .before .before .before .before .before .before .before .before .before .before .before .before .before .before .before .before .before .before .before .args .start) [] (divsOf (d .before .before .before .before .before .before .before .before .before .before .before .before .before .before .before .before .before .before .before .before .before .before .before .before .before .before .before .before .before .before .before .before .before .before .before .before .args .start .«div_count») (now (d .before .before .before .before .before .before .before .before .before .before .before .before .before .before .before .before .before .before .before .before .before .before .before .before .before .before .before .before .before .before .before .before .before .before .before .before .args .nt)) (now (d .before .before .before .before .before .before .before .before .before .before .before .before .before .before .before .before .before .before .before .before .before .before .before .before .before .before .before .before .before .before .before .before .before .before .before .before .args .nn))) (arrays (now (d .before .before .before .before .before .before .before .before .before .before .before .before .before .before .before .before .before .before .before .before .before .before .before .before .before .before .before .before .before .before .before .before .before .before .before .before .args .pool)) (now (d .before .before .before .before .before .before .before .before .before .before .before .before .before .before .before .before .before .before .before .before .before .before .before .before .before .before .before .before .before .before .before .before .before .before .before .before .args .begins)) (now (d .before .before .before .before .before .before .before .before .before .before .before .before .before .before .before .before .before .before .before .before .before .before .before .before .before .before .before .before .before .before .before .before .before .before .before .before .args .ends)))))
-        → Going (b .top) (length (now (d .before .before .before .before .before .before .before .before .before .before .before .before .before .before .before .before .before .before .before .before .before .before .before .before .before .before .before .before .before .before .before .before .before .before .before .before .args .occ))) (roundOf t (now (d .before .before .before .before .before .before .before .before .before .before .before .before .before .before .before .before .before .before .before .before .before .before .before .before .before .before .before .before .before .before .before .before .before .before .before .before .args .occ)) (now (d .before .before .before .before .before .before .before .before .before .before .before .before .before .before .before .before .before .before .before .before .before .before .before .before .before .before .before .before .before .before .before .before .before .before .before .before .args .img)) (now (d .before .before .before .before .before .before .before .before .before .before .before .before .before .before .before .before .before .before .before .before .before .before .before .before .before .before .before .before .before .before .before .before .before .before .before .before .args .dt)) (now (d .before .before .before .before .before .before .before .before .before .before .before .before .before .before .before .before .before .before .before .before .before .before .before .before .before .before .before .before .before .before .before .before .before .before .before .before .args .dn)) (d .before .before .before .before .before .before .before .before .before .before .before .before .before .before .before .before .before .before .before .before .before .before .before .before .before .before .before .before .before .before .before .before .before .before .before .before .args .r)) (3 * d .before .before .before .before .before .before .before .before .before .before .before .before .before .before .before .before .before .before .before .before .before .before .before .before .before .before .before .before .before .before .before .before .before .before .before .before .args .r .«est_count» + 1) (searchIn (d .before .before .before .before .before .before .before .before .before .before .before .before .before .before .before .before .before .before .before .before .before .before .before .before .before .before .before .before .before .before .before .before .before .before .before .before .args .r .«est_count») (d .before .before .before .before .before .before .before .before .before .before .before .before .before .before .before .before .before .before .before .before .before .before .before .before .before .before .before .before .before .before .before .before .before .before .before .before .args .start) [] (divsOf (d .before .before .before .before .before .before .before .before .before .before .before .before .before .before .before .before .before .before .before .before .before .before .before .before .before .before .before .before .before .before .before .before .before .before .before .before .args .start .«div_count») (now (d .before .before .before .before .before .before .before .before .before .before .before .before .before .before .before .before .before .before .before .before .before .before .before .before .before .before .before .before .before .before .before .before .before .before .before .before .args .nt)) (now (d .before .before .before .before .before .before .before .before .before .before .before .before .before .before .before .before .before .before .before .before .before .before .before .before .before .before .before .before .before .before .before .before .before .before .before .before .args .nn))) (arrays (now (d .before .before .before .before .before .before .before .before .before .before .before .before .before .before .before .before .before .before .before .before .before .before .before .before .before .before .before .before .before .before .before .before .before .before .before .before .args .pool)) (now (d .before .before .before .before .before .before .before .before .before .before .before .before .before .before .before .before .before .before .before .before .before .before .before .before .before .before .before .before .before .before .before .before .before .before .before .before .args .begins)) (now (d .before .before .before .before .before .before .before .before .before .before .before .before .before .before .before .before .before .before .before .before .before .before .before .before .before .before .before .before .before .before .before .before .before .before .before .before .args .ends)))) (d .before .before .before .before .before .before .before .before .before .before .before .before .before .before .before .before .before .before .before .before .loop .left - 1)
+        → Going (b .top) (length (now (d .before .before .before .before .before .before .before .before .before .before .before .before .before .before .before .before .before .before .before .before .before .before .before .before .before .before .before .before .before .before .before .before .before .before .before .before .args .occ))) (roundOf t (now (d .before .before .before .before .before .before .before .before .before .before .before .before .before .before .before .before .before .before .before .before .before .before .before .before .before .before .before .before .before .before .before .before .before .before .before .before .args .occ)) (now (d .before .before .before .before .before .before .before .before .before .before .before .before .before .before .before .before .before .before .before .before .before .before .before .before .before .before .before .before .before .before .before .before .before .before .before .before .args .img)) (now (d .before .before .before .before .before .before .before .before .before .before .before .before .before .before .before .before .before .before .before .before .before .before .before .before .before .before .before .before .before .before .before .before .before .before .before .before .args .dt)) (now (d .before .before .before .before .before .before .before .before .before .before .before .before .before .before .before .before .before .before .before .before .before .before .before .before .before .before .before .before .before .before .before .before .before .before .before .before .args .dn)) (d .before .before .before .before .before .before .before .before .before .before .before .before .before .before .before .before .before .before .before .before .before .before .before .before .before .before .before .before .before .before .before .before .before .before .before .before .args .r)) (3 * d .before .before .before .before .before .before .before .before .before .before .before .before .before .before .before .before .before .before .before .before .before .before .before .before .before .before .before .before .before .before .before .before .before .before .before .before .args .r .«est_count» + 1) (searchIn (d .before .before .before .before .before .before .before .before .before .before .before .before .before .before .before .before .before .before .before .before .before .before .before .before .before .before .before .before .before .before .before .before .before .before .before .before .args .r .«est_count») (d .before .before .before .before .before .before .before .before .before .before .before .before .before .before .before .before .before .before .before .before .before .before .before .before .before .before .before .before .before .before .before .before .before .before .before .before .args .start) [] (divsOf (d .before .before .before .before .before .before .before .before .before .before .before .before .before .before .before .before .before .before .before .before .before .before .before .before .before .before .before .before .before .before .before .before .before .before .before .before .args .start .«div_count») (now (d .before .before .before .before .before .before .before .before .before .before .before .before .before .before .before .before .before .before .before .before .before .before .before .before .before .before .before .before .before .before .before .before .before .before .before .before .args .nt)) (now (d .before .before .before .before .before .before .before .before .before .before .before .before .before .before .before .before .before .before .before .before .before .before .before .before .before .before .before .before .before .before .before .before .before .before .before .before .args .nn))) (arrays (now (d .before .before .before .before .before .before .before .before .before .before .before .before .before .before .before .before .before .before .before .before .before .before .before .before .before .before .before .before .before .before .before .before .before .before .before .before .args .pool)) (now (d .before .before .before .before .before .before .before .before .before .before .before .before .before .before .before .before .before .before .before .before .before .before .before .before .before .before .before .before .before .before .before .before .before .before .before .before .args .begins)) (now (d .before .before .before .before .before .before .before .before .before .before .before .before .before .before .before .before .before .before .before .before .before .before .before .before .before .before .before .before .before .before .before .before .before .before .before .before .args .ends)))) (d .before .before .before .before .before .before .before .before .before .before .before .before .before .before .before .before .before .before .before .before .loop .left - 1) (d .before .before .before .before .before .before .before .before .before .before .before .before .before .before .before .before .before .before .before .before .loop .steps + 1)
         (searchIn (d .before .before .before .before .before .before .before .before .before .before .before .before .before .before .before .before .before .before .before .before .before .before .before .before .before .before .before .before .before .before .before .before .before .before .before .before .args .r .«est_count») (counted (d .before .before .before .before .before .before .before .before .before .before .before .before .before .turn .result .place) (d .after .result .count)) (listed (d .after .result .count) (nodeAt fresh1)) (divsOf (d .before .before .before .before .before .before .before .before .before .before .before .before .before .turn .result .place .«div_count») (d .before .before .before .before .before .before .before .before .before .before .before .before .before .turn .last .1 .1 .1 .1 .1 .1 .1 .1 .1 .1 .1 .0) (d .before .before .before .before .before .before .before .before .before .before .before .before .before .turn .last .1 .1 .1 .1 .1 .1 .1 .1 .1 .1 .1 .1 .0)) (arrays (d .before .before .before .before .before .before .before .before .before .before .before .before .before .turn .last .1 .1 .1 .1 .1 .1 .1 .1 .0) (d .before .before .before .before .before .before .before .before .before .before .before .before .before .turn .last .1 .1 .1 .1 .1 .1 .1 .1 .1 .0) (d .before .before .before .before .before .before .before .before .before .before .before .before .before .turn .last .1 .1 .1 .1 .1 .1 .1 .1 .1 .1 .0)))
     going t b =
         let v = d .before .before .before .before .before .before .before .before .before .before .before .before .before .before .before .before .before .before .before .before .loop in let g = d .before .before .before .before .before .before .before .before .before .before .before .before .before .before .before .before .before .before .before .before .before .before .before .before .before .before .before .before .before .before .before .before .before .before .before .before .pre in let a = d .before .before .before .before .before .before .before .before .before .before .before .before .before .before .before .before .before .before .before .before .before .before .before .before .before .before .before .before .before .before .before .before .before .before .before .before .args in let u = d .before .before .before .before .before .before .before .before .before .before .before .before .before .turn in
-        turn-on (now (a .occ)) (now (a .img)) (now (a .dt)) (now (a .dn)) (a .r) t _ b _ (v .left) (v .p) (v .fresh) (v .nt) (v .nn) (arrays (v .pool) (v .begins) (v .ends)) (v .inv .6 t b) (u .last .1 .1 .1 .1 .1 .1 .1 .1 .1 .1 .1 .0) (u .last .1 .1 .1 .1 .1 .1 .1 .1 .1 .1 .1 .1 .0) (arrays (u .last .1 .1 .1 .1 .1 .1 .1 .1 .0) (u .last .1 .1 .1 .1 .1 .1 .1 .1 .1 .0) (u .last .1 .1 .1 .1 .1 .1 .1 .1 .1 .1 .0)) (u .result .go) (u .result .effect) (hereOf (u .result .here)) (u .result .place) (v .left - 1) left-suc (u .ensures .0 t (listed (v .p .«new_count») (nodeAt (v .fresh))) (listed-length _ _) current-node) (d .after .result) (d .after .ensures) y
+        turn-on (now (a .occ)) (now (a .img)) (now (a .dt)) (now (a .dn)) (a .r) t _ b _ (v .left) (v .steps) (v .p) (v .fresh) (v .nt) (v .nn) (arrays (v .pool) (v .begins) (v .ends)) (v .inv .6 t b) (u .last .1 .1 .1 .1 .1 .1 .1 .1 .1 .1 .1 .0) (u .last .1 .1 .1 .1 .1 .1 .1 .1 .1 .1 .1 .1 .0) (arrays (u .last .1 .1 .1 .1 .1 .1 .1 .1 .0) (u .last .1 .1 .1 .1 .1 .1 .1 .1 .1 .0) (u .last .1 .1 .1 .1 .1 .1 .1 .1 .1 .1 .0)) (u .result .go) (u .result .effect) (hereOf (u .result .here)) (u .result .place) (v .left - 1) left-suc (u .ensures .0 t (listed (v .p .«new_count») (nodeAt (v .fresh))) (listed-length _ _) current-node) (d .after .result) (d .after .ensures) y
         fresh1 (written (v .fresh) fresh1 (v .p .«new_count») (d .after .result .node) (d .after .result .count) e (room (d .before .before .before .before .before .before .before .before .before .before .before .before .before .before .before .before .before .before .before .before)) sound (d .after .ensures .few))
 
     next-split : (1 ≤ d .before .before .before .before .before .before .before .before .before .before .before .before .before .turn .result .place .«idx_split») × (d .before .before .before .before .before .before .before .before .before .before .before .before .before .turn .result .place .«idx_split» ≤ d .before .before .before .before .before .before .before .before .before .before .before .before .before .before .before .before .before .before .before .before .before .before .before .before .before .before .before .before .before .before .before .before .before .before .before .before .args .r .«path_count») × (d .before .before .before .before .before .before .before .before .before .before .before .before .before .turn .result .place .«idx_split» + d .after .result .count ≤ 512) × (d .before .before .before .before .before .before .before .before .before .before .before .before .before .turn .result .place .«idx_split» + d .after .result .count ≤ d .before .before .before .before .before .before .before .before .before .before .before .before .before .before .before .before .before .before .before .before .before .before .before .before .before .before .before .before .before .before .before .before .before .before .before .before .args .r .«est_count»)
     next-split =
         let v = d .before .before .before .before .before .before .before .before .before .before .before .before .before .before .before .before .before .before .before .before .loop in let g = d .before .before .before .before .before .before .before .before .before .before .before .before .before .before .before .before .before .before .before .before .before .before .before .before .before .before .before .before .before .before .before .before .before .before .before .before .pre in let a = d .before .before .before .before .before .before .before .before .before .before .before .before .before .before .before .before .before .before .before .before .before .before .before .before .before .before .before .before .before .before .before .before .before .before .before .before .args in let u = d .before .before .before .before .before .before .before .before .before .before .before .before .before .turn in
-        top-split (now (a .occ)) (now (a .img)) (now (a .dt)) (now (a .dn)) (a .r) (g .train) _ (g .begins) _ (v .left - 1) (counted (u .result .place) (d .after .result .count)) fresh1 (u .last .1 .1 .1 .1 .1 .1 .1 .1 .1 .1 .1 .0) (u .last .1 .1 .1 .1 .1 .1 .1 .1 .1 .1 .1 .1 .0) (arrays (u .last .1 .1 .1 .1 .1 .1 .1 .1 .0) (u .last .1 .1 .1 .1 .1 .1 .1 .1 .1 .0) (u .last .1 .1 .1 .1 .1 .1 .1 .1 .1 .1 .0)) (going (g .train) (g .begins))
+        top-split (now (a .occ)) (now (a .img)) (now (a .dt)) (now (a .dn)) (a .r) (g .train) _ (g .begins) _ (v .left - 1) (v .steps + 1) (counted (u .result .place) (d .after .result .count)) fresh1 (u .last .1 .1 .1 .1 .1 .1 .1 .1 .1 .1 .1 .0) (u .last .1 .1 .1 .1 .1 .1 .1 .1 .1 .1 .1 .1 .0) (arrays (u .last .1 .1 .1 .1 .1 .1 .1 .1 .0) (u .last .1 .1 .1 .1 .1 .1 .1 .1 .1 .0) (u .last .1 .1 .1 .1 .1 .1 .1 .1 .1 .1 .0)) (going (g .train) (g .begins))
 
 one-less-requires : tie.Need-one-less-requires Inv-loop μ-loop
 one-less-requires c κs = search needs
@@ -131,7 +131,11 @@ loop-holds c =
     let g = c .before .before .before .before .before .before .before .before .before .before .before .before .before .before .before .pre in let a = c .before .before .before .before .before .before .before .before .before .before .before .before .before .before .before .args in
     let w = place-split (length (now (a .occ))) _ (g .begins .accepted) (a .r .«est_count») (a .start) [] (now (a .nt)) (now (a .nn)) (arrays (now (a .pool)) (now (a .begins)) (now (a .ends))) (g .begins .good) (sym (g .none)) in
     let n = whole-node (now (a .img)) (c .before .before .before .one-less .result) (omega (arith, c .before .before .before .one-less .ensures, w .0, w .1, listed-length (a .r .«path_count») (nodeAt (now (a .img))), g .nodes)) in
-    (record { size = refl; below = λ i h. refl }, g .lent, refl, refl, g .pooled, rw (g .none) (c .before .before .whole-node .ensures ∙ n ∙ ap (nodeAt _) (c .before .before .before .one-less .ensures)), (λ t b. rw (g .none) (going-first _ _ _ b _)), refl, (λ i h. absurd (omega (arith, g .none, h))), refl, refl)
+    let z : 0 + (3 * a .r .«est_count» + 1) ≡ 3 * a .r .«est_count» + 1 = omega arith in
+    (record { size = refl; below = λ i h. refl }, g .lent, refl, refl, g .pooled, rw (g .none) (c .before .before .whole-node .ensures ∙ n ∙ ap (nodeAt _) (c .before .before .before .one-less .ensures)), (λ t b. rw (g .none) (going-first _ _ _ b _)), refl, (λ i h. absurd (omega (arith, g .none, h))), refl, refl, z)
+
+add-steps : tie.Need-add-steps Inv-loop μ-loop
+add-steps c = let v = c .before .loop in omega (arith, v .inv .11, c .loop-test .taken, c .before .before .before .before .before .before .before .before .before .before .before .before .before .before .before .before .before .pre .sized .est)
 
 turn-requires : tie.Need-turn-requires Inv-loop μ-loop
 turn-requires c κs =
@@ -163,7 +167,7 @@ same-length-6 c = let d = c .before .before in let v = d .before .before .before
 returns : tie.Need-returns Inv-loop μ-loop
 returns c =
     let d = c .before .before in let v = d .before .before .before .before .before .before .before .before .before .before .before .before .before .before .before .before .before .before .before .before .loop in let g = d .before .before .before .before .before .before .before .before .before .before .before .before .before .before .before .before .before .before .before .before .before .before .before .before .before .before .before .before .before .before .before .before .before .before .before .before .pre in let a = d .before .before .before .before .before .before .before .before .before .before .before .before .before .before .before .before .before .before .before .before .before .before .before .before .before .before .before .before .before .before .before .before .before .before .before .before .args in let u = d .before .before .before .before .before .before .before .before .before .before .before .before .before .turn in (
-      (λ t b. turn-ends (now (a .occ)) (now (a .img)) (now (a .dt)) (now (a .dn)) (a .r) t _ b _ (v .left) (v .p) (v .fresh) (v .nt) (v .nn) (arrays (v .pool) (v .begins) (v .ends)) (v .inv .6 t b) (u .last .1 .1 .1 .1 .1 .1 .1 .1 .1 .1 .1 .0) (u .last .1 .1 .1 .1 .1 .1 .1 .1 .1 .1 .1 .1 .0) (arrays (u .last .1 .1 .1 .1 .1 .1 .1 .1 .0) (u .last .1 .1 .1 .1 .1 .1 .1 .1 .1 .0) (u .last .1 .1 .1 .1 .1 .1 .1 .1 .1 .1 .0)) (u .result .go) (u .result .effect) (hereOf (u .result .here)) (u .result .place) (v .left - 1) (left-suc d) (u .ensures .0 t (listed (v .p .«new_count») (nodeAt (v .fresh))) (listed-length _ _) (current-node d)) (d .after .result) (d .after .ensures) (not-true _ (c .if1 .taken)) (ap (λ (j : ℕ). 3 * j + 1) (sym (listed-length (a .r .«est_count») (estAt (now (a .img))))))),
+      (λ t b. turn-ends (now (a .occ)) (now (a .img)) (now (a .dt)) (now (a .dn)) (a .r) t _ b _ (v .left) (v .steps) (v .p) (v .fresh) (v .nt) (v .nn) (arrays (v .pool) (v .begins) (v .ends)) (v .inv .6 t b) (u .last .1 .1 .1 .1 .1 .1 .1 .1 .1 .1 .1 .0) (u .last .1 .1 .1 .1 .1 .1 .1 .1 .1 .1 .1 .1 .0) (arrays (u .last .1 .1 .1 .1 .1 .1 .1 .1 .0) (u .last .1 .1 .1 .1 .1 .1 .1 .1 .1 .0) (u .last .1 .1 .1 .1 .1 .1 .1 .1 .1 .1 .0)) (u .result .go) (u .result .effect) (hereOf (u .result .here)) (u .result .place) (v .left - 1) (left-suc d) (u .ensures .0 t (listed (v .p .«new_count») (nodeAt (v .fresh))) (listed-length _ _) (current-node d)) (d .after .result) (d .after .ensures) (not-true _ (c .if1 .taken)) (ap (λ (j : ℕ). 3 * j + 1) (sym (listed-length (a .r .«est_count») (estAt (now (a .img))))))),
       v .inv .0,
       u .ensures .1 .pool,
     )
@@ -235,6 +239,7 @@ loop-again c =
       rw e same,
       d .before .before .before .before .before .before .before .before .before .before .begins .given ∙ v .inv .9,
       d .before .before .before .before .before .before .before .before .ends .given ∙ v .inv .10,
+      omega (arith, v .inv .11, left-suc d),
     )
 
 out-of-turns-requires : tie.Need-out-of-turns-requires Inv-loop μ-loop
@@ -261,7 +266,7 @@ same-length-12 c = let v = c .before .before .loop in let g = c .before .before 
 returns-2 : tie.Need-returns-2 Inv-loop μ-loop
 returns-2 c =
     let v = c .before .before .loop in let a = c .before .before .before .before .before .before .before .before .before .before .before .before .before .before .before .before .before .before .args in let e = c .out-of-turns .ensures in (
-      (λ t b. rw (e .0, e .1) (turns-out (length (now (a .occ))) (roundOf t (now (a .occ)) (now (a .img)) (now (a .dt)) (now (a .dn)) (a .r)) _ _ _ b _ _ (v .left) (v .inv .6 t b) (omega (arith, c .before .loop-test .left)) (ap (λ (j : ℕ). 3 * j + 1) (sym (listed-length (a .r .«est_count») (estAt (now (a .img)))))))),
+      (λ t b. rw (e .0, e .1, e .4) (turns-out (length (now (a .occ))) (roundOf t (now (a .occ)) (now (a .img)) (now (a .dt)) (now (a .dn)) (a .r)) _ _ _ b _ _ (v .left) (v .steps) (v .inv .6 t b) (omega (arith, c .before .loop-test .left)) (ap (λ (j : ℕ). 3 * j + 1) (sym (listed-length (a .r .«est_count») (estAt (now (a .img)))))))),
       v .inv .0,
       rw (e .2) (v .inv .4),
     )
@@ -279,6 +284,7 @@ run-spec =
     mul-left
     add-left
     loop-holds
+    add-steps
     turn-requires
     after-requires
     same-length

@@ -4,7 +4,7 @@ use denote.Ref.{now}
 use Rattle.update_free_path.specs.Updates.{RoundsEnded}
 use Rattle.update_free_path.specs.declared.rounds.Between.{Between}
 use Rattle.update_free_path.specs.declared.rounds.Ran.{Ran}
-use Rattle.update_free_path.proofs.RoundsLaws.{path-within, path-ests, strays-low, due-turn, kept-goes, next-accepted, next-top, going-start, going-next, ended-stopped, ended-closed}
+use Rattle.update_free_path.proofs.RoundsLaws.{path-within, path-ests, strays-low, steps-few, due-turn, kept-goes, next-accepted, next-top, going-start, going-next, ended-stopped, ended-closed}
 use Prim.Native.Nat.{_-_}
 use Rattle.update_free_path.specs.Updates.{SameSizes, Top, Going}
 use Rattle.image.specs.Image.{estCount, divergeRoom}
@@ -60,7 +60,7 @@ stopped-requires c κs =
     let x = c .before .before .before .before .before .before .before .before .before .before .before .round in
     let d = due-turn (l .w) (a .limit) (sym (c .before .before .before .before .before .before .before .before .before .before .before .before .before .before .before .before .before .before .goes-on .ensures) ∙ c .before .before .before .before .before .before .before .before .before .before .before .before .before .before .before .before .before .if1 .taken) in
     let s = strays-low (now (a .occ)) (l .img) (l .dt) (l .dn) (l .w .header) (l .inv .1 .held .accepted) (l .col) (now (a .known)) (c .strays-of .result) (c .strays-of .ensures) in
-    record { rounds = omega (arith, d .0, c .before .before .before .before .before .before .before .before .before .before .before .before .before .before .before .before .before .before .before .before .before .before .before .before .before .before .before .fits); strays = omega (arith, d .0, c .before .before .before .before .before .before .before .before .before .before .before .before .before .before .before .before .before .before .before .before .before .before .before .before .before .before .before .fits, l .inv .1 .few, s); faultless = l .inv .1 .faultless }
+    record { steps = omega (arith, d .0, c .before .before .before .before .before .before .before .before .before .before .before .before .before .before .before .before .before .before .before .before .before .before .before .before .before .before .before .fits, l .inv .1 .paced, steps-few (now (a .occ)) (l .img) (l .col) (l .on) (l .dt) (l .dn) (now (a .known)) (a .g) (l .w) (l .inv .1) (x .result .steps) (x .ensures .3)); rounds = omega (arith, d .0, c .before .before .before .before .before .before .before .before .before .before .before .before .before .before .before .before .before .before .before .before .before .before .before .before .before .before .before .fits); strays = omega (arith, d .0, c .before .before .before .before .before .before .before .before .before .before .before .before .before .before .before .before .before .before .before .before .before .before .before .before .before .before .before .fits, l .inv .1 .few, s); faultless = l .inv .1 .faultless }
 
 -- src/rounds.rt:179:13
 same-length : tie.Need-same-length Inv-loop μ-loop
@@ -122,7 +122,7 @@ returns c =
     let d = due-turn (l .w) (a .limit) (sym (c .before .before .before .before .before .before .before .before .before .before .before .before .before .before .before .before .before .before .before .goes-on .ensures) ∙ c .before .before .before .before .before .before .before .before .before .before .before .before .before .before .before .before .before .before .if1 .taken) in
     let s = c .before .strays-of in
     subst (λ (r : Ran). RoundsEnded (now (a .occ)) (now (a .known)) (a .g) (a .limit) (now (a .img)) (now (a .dt)) (now (a .dn)) (a .start) (x .last .0) (x .last .1 .1 .1 .1 .1 .1 .1 .1 .0) (x .last .1 .1 .1 .1 .1 .1 .1 .1 .1 .0) r) (sym (c .stopped .ensures))
-    (ended-stopped (now (a .occ)) (l .img) (l .col) (l .on) (l .dt) (l .dn) (now (a .known)) (a .g) (l .w) (l .inv .1) (x .last .0) (x .last .1 .1 .1 .1 .1 .1 .1 .1 .0) (x .last .1 .1 .1 .1 .1 .1 .1 .1 .1 .0) (x .result) (x .ensures .0) (a .limit) (now (a .img)) (now (a .dt)) (now (a .dn)) (a .start) (l .inv .2) (d .0) (d .1)
+    (ended-stopped (now (a .occ)) (l .img) (l .col) (l .on) (l .dt) (l .dn) (now (a .known)) (a .g) (l .w) (l .inv .1) (x .last .0) (x .last .1 .1 .1 .1 .1 .1 .1 .1 .0) (x .last .1 .1 .1 .1 .1 .1 .1 .1 .1 .0) (x .result) (x .ensures .0) (x .ensures .3) (a .limit) (now (a .img)) (now (a .dt)) (now (a .dn)) (a .start) (l .inv .2) (d .0) (d .1)
     (sym (c .before .before .before .before .is-last .ensures) ∙ c .before .before .before .if2 .taken) (x .ensures .2) (x .ensures .1) (s .result) (s .ensures))
 
 -- src/rounds.rt:181:9
@@ -133,7 +133,7 @@ derive-requires c κs =
     let l = c .before .before .before .before .before .before .before .before .before .before .before .before .before .before .before .before .before .before .before .before .loop in
     let x = c .before .before .before .before .before .before .before .before .before .before .before .before .round in
     let d = due-turn (l .w) (a .limit) (sym (c .before .before .before .before .before .before .before .before .before .before .before .before .before .before .before .before .before .before .before .goes-on .ensures) ∙ c .before .before .before .before .before .before .before .before .before .before .before .before .before .before .before .before .before .before .if1 .taken) in
-    let t = next-accepted (now (a .occ)) (l .img) (l .col) (l .on) (l .dt) (l .dn) (now (a .known)) (a .g) (l .w) (l .inv .1) (x .last .0) (x .last .1 .1 .1 .1 .1 .1 .1 .1 .0) (x .last .1 .1 .1 .1 .1 .1 .1 .1 .1 .0) (x .result) (x .ensures .0) (sym (c .before .before .before .before .is-last .ensures) ∙ c .before .before .before .if2 .left) in
+    let t = next-accepted (now (a .occ)) (l .img) (l .col) (l .on) (l .dt) (l .dn) (now (a .known)) (a .g) (l .w) (l .inv .1) (x .last .0) (x .last .1 .1 .1 .1 .1 .1 .1 .1 .0) (x .last .1 .1 .1 .1 .1 .1 .1 .1 .1 .0) (x .result) (x .ensures .0) (x .ensures .3) (sym (c .before .before .before .before .is-last .ensures) ∙ c .before .before .before .if2 .left) in
     let e : estCount (x .last .0) ≡ estCount (now (a .img)) = kept-count (x .last .0) (l .img) (x .ensures .1 (kept-goes (x .result .end) (sym (c .before .before .before .before .is-last .ensures) ∙ c .before .before .before .if2 .left))) ∙ kept-count (l .img) (now (a .img)) (l .inv .2 .kept) in (
       omega (arith, path-within (now (a .occ)) (x .last .0) (x .last .1 .1 .1 .1 .1 .1 .1 .1 .0) (x .last .1 .1 .1 .1 .1 .1 .1 .1 .1 .0) (x .result .header) t, e, l .inv .0 .column, p .0 .column),
       λ i k. omega (arith, path-ests (now (a .occ)) (x .last .0) (x .last .1 .1 .1 .1 .1 .1 .1 .1 .0) (x .last .1 .1 .1 .1 .1 .1 .1 .1 .1 .0) (x .result .header) t i k, e, l .inv .0 .flags, p .0 .flags),
@@ -151,9 +151,9 @@ next-requires c κs =
     let l = c .before .before .before .before .before .before .before .before .before .before .before .before .before .before .before .before .before .before .before .before .before .before .before .before .before .before .before .loop in
     let x = c .before .before .before .before .before .before .before .before .before .before .before .before .before .before .before .before .before .before .before .round in
     let d = due-turn (l .w) (a .limit) (sym (c .before .before .before .before .before .before .before .before .before .before .before .before .before .before .before .before .before .before .before .before .before .before .before .before .before .before .goes-on .ensures) ∙ c .before .before .before .before .before .before .before .before .before .before .before .before .before .before .before .before .before .before .before .before .before .before .before .before .before .if1 .taken) in
-    let t = next-accepted (now (a .occ)) (l .img) (l .col) (l .on) (l .dt) (l .dn) (now (a .known)) (a .g) (l .w) (l .inv .1) (x .last .0) (x .last .1 .1 .1 .1 .1 .1 .1 .1 .0) (x .last .1 .1 .1 .1 .1 .1 .1 .1 .1 .0) (x .result) (x .ensures .0) (sym (c .before .before .before .before .before .before .before .before .before .before .before .is-last .ensures) ∙ c .before .before .before .before .before .before .before .before .before .before .if2 .left) in
+    let t = next-accepted (now (a .occ)) (l .img) (l .col) (l .on) (l .dt) (l .dn) (now (a .known)) (a .g) (l .w) (l .inv .1) (x .last .0) (x .last .1 .1 .1 .1 .1 .1 .1 .1 .0) (x .last .1 .1 .1 .1 .1 .1 .1 .1 .1 .0) (x .result) (x .ensures .0) (x .ensures .3) (sym (c .before .before .before .before .before .before .before .before .before .before .before .is-last .ensures) ∙ c .before .before .before .before .before .before .before .before .before .before .if2 .left) in
     let s = strays-low (now (a .occ)) (x .last .0) (x .last .1 .1 .1 .1 .1 .1 .1 .1 .0) (x .last .1 .1 .1 .1 .1 .1 .1 .1 .1 .0) (x .result .header) t (c .before .before .before .before .before .before .derive .last .1 .1 .0) (now (a .known)) (c .strays-of2 .result) (c .strays-of2 .ensures) in
-    record { rounds = omega (arith, d .0, c .before .before .before .before .before .before .before .before .before .before .before .before .before .before .before .before .before .before .before .before .before .before .before .before .before .before .before .before .before .before .before .before .before .before .before .fits); strays = omega (arith, d .0, c .before .before .before .before .before .before .before .before .before .before .before .before .before .before .before .before .before .before .before .before .before .before .before .before .before .before .before .before .before .before .before .before .before .before .before .fits, l .inv .1 .few, s); faultless = l .inv .1 .faultless }
+    record { steps = omega (arith, d .0, c .before .before .before .before .before .before .before .before .before .before .before .before .before .before .before .before .before .before .before .before .before .before .before .before .before .before .before .before .before .before .before .before .before .before .before .fits, l .inv .1 .paced, steps-few (now (a .occ)) (l .img) (l .col) (l .on) (l .dt) (l .dn) (now (a .known)) (a .g) (l .w) (l .inv .1) (x .result .steps) (x .ensures .3)); rounds = omega (arith, d .0, c .before .before .before .before .before .before .before .before .before .before .before .before .before .before .before .before .before .before .before .before .before .before .before .before .before .before .before .before .before .before .before .before .before .before .before .fits); strays = omega (arith, d .0, c .before .before .before .before .before .before .before .before .before .before .before .before .before .before .before .before .before .before .before .before .before .before .before .before .before .before .before .before .before .before .before .before .before .before .before .fits, l .inv .1 .few, s); faultless = l .inv .1 .faultless }
 
 -- src/rounds.rt:174:5
 loop-less : tie.Need-loop-less Inv-loop μ-loop
@@ -174,16 +174,16 @@ loop-again c =
     let x = c .before .before .before .before .before .before .before .before .before .before .before .before .before .before .before .before .before .before .before .before .round in
     let d = due-turn (l .w) (a .limit) (sym (c .before .before .before .before .before .before .before .before .before .before .before .before .before .before .before .before .before .before .before .before .before .before .before .before .before .before .before .goes-on .ensures) ∙ c .before .before .before .before .before .before .before .before .before .before .before .before .before .before .before .before .before .before .before .before .before .before .before .before .before .before .if1 .taken) in
     let again = sym (c .before .before .before .before .before .before .before .before .before .before .before .before .is-last .ensures) ∙ c .before .before .before .before .before .before .before .before .before .before .before .if2 .left in
-    let t = next-accepted (now (a .occ)) (l .img) (l .col) (l .on) (l .dt) (l .dn) (now (a .known)) (a .g) (l .w) (l .inv .1) (x .last .0) (x .last .1 .1 .1 .1 .1 .1 .1 .1 .0) (x .last .1 .1 .1 .1 .1 .1 .1 .1 .1 .0) (x .result) (x .ensures .0) again in
+    let t = next-accepted (now (a .occ)) (l .img) (l .col) (l .on) (l .dt) (l .dn) (now (a .known)) (a .g) (l .w) (l .inv .1) (x .last .0) (x .last .1 .1 .1 .1 .1 .1 .1 .1 .0) (x .last .1 .1 .1 .1 .1 .1 .1 .1 .1 .0) (x .result) (x .ensures .0) (x .ensures .3) again in
     let v = c .before .before .before .before .before .before .before .derive in
     let s = c .before .strays-of2 in
     let k = x .ensures .1 (kept-goes (x .result .end) again) in
     let low = strays-low (now (a .occ)) (x .last .0) (x .last .1 .1 .1 .1 .1 .1 .1 .1 .0) (x .last .1 .1 .1 .1 .1 .1 .1 .1 .1 .0) (x .result .header) t (v .last .1 .1 .0) (now (a .known)) (s .result) (s .ensures) in (
       record { column = c .before .before .before .before .before .before .col .given ∙ l .inv .0 .column; flags = c .before .before .before .before .on .given ∙ l .inv .0 .flags; trains = c .before .before .before .before .before .before .before .before .before .before .before .before .before .before .before .before .before .dt .given ∙ l .inv .0 .trains; nodes = c .before .before .before .before .before .before .before .before .before .before .before .before .before .before .before .dn .given ∙ l .inv .0 .nodes },
       subst (λ (w : Between). Top (now (a .occ)) (x .last .0) (v .last .1 .1 .0) (v .last .1 .1 .1 .0) (x .last .1 .1 .1 .1 .1 .1 .1 .1 .0) (x .last .1 .1 .1 .1 .1 .1 .1 .1 .1 .0) w) (sym (c .next .ensures))
-          (next-top (now (a .occ)) (l .img) (l .col) (l .on) (l .dt) (l .dn) (now (a .known)) (a .g) (l .w) (l .inv .1) (x .last .0) (x .last .1 .1 .1 .1 .1 .1 .1 .1 .0) (x .last .1 .1 .1 .1 .1 .1 .1 .1 .1 .0) (x .result) (x .ensures .0) again k (v .last .1 .1 .0) (v .last .1 .1 .1 .0) (v .ensures .0) (v .ensures .1) (s .result) low),
+          (next-top (now (a .occ)) (l .img) (l .col) (l .on) (l .dt) (l .dn) (now (a .known)) (a .g) (l .w) (l .inv .1) (x .last .0) (x .last .1 .1 .1 .1 .1 .1 .1 .1 .0) (x .last .1 .1 .1 .1 .1 .1 .1 .1 .1 .0) (x .result) (x .ensures .0) (x .ensures .3) again k (v .last .1 .1 .0) (v .last .1 .1 .1 .0) (v .ensures .0) (v .ensures .1) (s .result) low),
       subst (λ (w : Between). Going (now (a .occ)) (now (a .known)) (a .g) (a .limit) (now (a .img)) (now (a .dt)) (now (a .dn)) (a .start) (x .last .0) (x .last .1 .1 .1 .1 .1 .1 .1 .1 .0) (x .last .1 .1 .1 .1 .1 .1 .1 .1 .1 .0) w) (sym (c .next .ensures))
-          (going-next (now (a .occ)) (l .img) (l .col) (l .on) (l .dt) (l .dn) (now (a .known)) (a .g) (l .w) (l .inv .1) (x .last .0) (x .last .1 .1 .1 .1 .1 .1 .1 .1 .0) (x .last .1 .1 .1 .1 .1 .1 .1 .1 .1 .0) (x .result) (x .ensures .0) (a .limit) (now (a .img)) (now (a .dt)) (now (a .dn)) (a .start) (l .inv .2) (d .0) (d .1) again k (v .last .1 .1 .0) (v .ensures .0) (s .result) (s .ensures)),
+          (going-next (now (a .occ)) (l .img) (l .col) (l .on) (l .dt) (l .dn) (now (a .known)) (a .g) (l .w) (l .inv .1) (x .last .0) (x .last .1 .1 .1 .1 .1 .1 .1 .1 .0) (x .last .1 .1 .1 .1 .1 .1 .1 .1 .1 .0) (x .result) (x .ensures .0) (x .ensures .3) (a .limit) (now (a .img)) (now (a .dt)) (now (a .dn)) (a .start) (l .inv .2) (d .0) (d .1) again k (v .last .1 .1 .0) (v .ensures .0) (s .result) (s .ensures)),
     )
 
 -- src/rounds.rt:184:5

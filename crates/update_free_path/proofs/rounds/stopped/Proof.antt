@@ -45,22 +45,22 @@ ran-with-requires-4 c κs = search needs
 returns : tie.Need-returns
 returns c =
     let a = c .before .before .before .before .before .before .args in
-    c .ran-with .ensures ∙ ap (ranOf _ (a .h)) (c .before .tallied .ensures) ∙ sym (ap (λ (e : End). stoppedBy e (a .h) (a .w .tally) (a .strays)) (c .before .before .before .end .given .1))
+    c .ran-with .ensures ∙ ap (ranOf _ (a .h)) (c .before .tallied .ensures) ∙ sym (ap (λ (e : End). stoppedBy e (a .h) (a .w .tally) (a .steps) (a .strays)) (c .before .before .before .end .given .1))
 
 returns-2 : tie.Need-returns-2
 returns-2 c =
     let a = c .before .before .before .before .before .args in
-    c .ran-with2 .ensures ∙ ap (ranOf _ (a .h)) (c .before .tallied2 .ensures) ∙ sym (ap (λ (e : End). stoppedBy e (a .h) (a .w .tally) (a .strays)) (c .before .before .enum-told .given .1))
+    c .ran-with2 .ensures ∙ ap (ranOf _ (a .h)) (c .before .tallied2 .ensures) ∙ sym (ap (λ (e : End). stoppedBy e (a .h) (a .w .tally) (a .steps) (a .strays)) (c .before .before .enum-told .given .1))
 
 returns-3 : tie.Need-returns-3
 returns-3 c =
     let a = c .before .before .before .before .before .args in
-    c .ran-with3 .ensures ∙ ap (ranOf _ (a .h)) (c .before .tallied3 .ensures) ∙ sym (ap (λ (e : End). stoppedBy e (a .h) (a .w .tally) (a .strays)) (c .before .before .enum-told2 .given .1))
+    c .ran-with3 .ensures ∙ ap (ranOf _ (a .h)) (c .before .tallied3 .ensures) ∙ sym (ap (λ (e : End). stoppedBy e (a .h) (a .w .tally) (a .steps) (a .strays)) (c .before .before .enum-told2 .given .1))
 
 returns-4 : tie.Need-returns-4
 returns-4 c =
     let a = c .before .before .before .before .before .args in
-    c .ran-with4 .ensures ∙ ap (ranOf _ (a .h)) (c .before .tallied4 .ensures) ∙ sym (ap (λ (e : End). stoppedBy e (a .h) (a .w .tally) (a .strays)) (c .before .before .enum-told3 .given .1))
+    c .ran-with4 .ensures ∙ ap (ranOf _ (a .h)) (c .before .tallied4 .ensures) ∙ sym (ap (λ (e : End). stoppedBy e (a .h) (a .w .tally) (a .steps) (a .strays)) (c .before .before .enum-told3 .given .1))
 
 pub stopped-spec : {M : Type 1} → statement M
 stopped-spec =
