@@ -1,5 +1,5 @@
-// The calls for C and Rust: every function is exported under its plain name with the prefix `lavtoeu_`, takes numbers and slices
-// (a pointer and a length), is total for every argument, and calls the proved function of the same name.
+// The calls for C and Rust. A function named `lavtoeu_` and so on is exported under that name, takes numbers and slices (a pointer
+// and a length), is total for every argument, and calls one proved function of another crate; the others serve these.
 pub mod version;
 
 ghost use mathlib.Core.Path.{_≡_};
@@ -222,7 +222,8 @@ pub extern "C" fn lavtoeu_check(
     report: &mut [u8],
     answer: &mut [u64],
 ) -> u32
-    ensures { λ r. ⌜ ToldCheck (checked (now (yard .entry)) (now (occupancy .entry)) (now (blocking .entry)) moved begin (flagOf local) limit (now (report .entry))) r (now (yard .exit)) (now (report .exit)) (now (answer .entry)) (now (answer .exit)) ⌝ }
+    ensures { λ r. ⌜ ToldCheck (checked (now (yard .entry)) (now (occupancy .entry)) (now (blocking .entry)) moved begin (flagOf local) limit (now (report .entry)))
+        r (now (yard .exit)) (now (report .exit)) (now (answer .entry)) (now (answer .exit)) ⌝ }
 {
     let x = check::check_deadlock(
         yard,
