@@ -88,15 +88,15 @@ uint32_t lavtoeu_profile(const uint8_t *image, size_t image_len);
 uint32_t lavtoeu_lay_out(const uint8_t *est, size_t est_len, uint16_t train, double search, double fixed, uint32_t room, uint32_t links, uint8_t *image, size_t image_len);
 
 /* The words of an update's answer. */
-enum { LAVTOEU_CODE = 0, LAVTOEU_ERRORS = 1, LAVTOEU_ROUNDS = 2, LAVTOEU_STRAYS = 3, LAVTOEU_STEPS = 4, LAVTOEU_UPDATE_WORDS = 5 };
+enum { LAVTOEU_CODE = 0, LAVTOEU_ERRORS = 1, LAVTOEU_ROUNDS = 2, LAVTOEU_STRAYS = 3, LAVTOEU_STEPS = 4, LAVTOEU_HOLDER = 5, LAVTOEU_UPDATE_WORDS = 6 };
 
 /* Codes, as a report has them. 16 + n is refused by n. */
 enum { LAVTOEU_UNVISITED = 0, LAVTOEU_FINISHED = 1, LAVTOEU_MOVED = 2, LAVTOEU_SUCCESS = 3, LAVTOEU_BLOCKED = 4, LAVTOEU_FAULTY = 5, LAVTOEU_REFUSED = 16 };
 
 /* Updates the train of an image: the occupancy, the blocking list, the moved train, local (0 is no), the round limit. The first
- * five words of the answer get the code, the number of errors where it is FAULTY, the rounds entered, the strays counted and the
- * steps of the search, those of a refused update up to its refusal; words past answer_len are left out. Refused by 2 and 4 to 13;
- * the words are written then too. */
+ * six words of the answer get the code, the number of errors where it is FAULTY, the rounds entered, the strays counted, the steps
+ * of the search, those of a refused update up to its refusal, and the train that holds this one where it is BLOCKED, else 0; words
+ * past answer_len are left out. Refused by 2 and 4 to 13; the words are written then too. */
 uint32_t lavtoeu_update(uint8_t *image, size_t image_len, const uint16_t *occupancy, size_t occupancy_len, const uint32_t *blocking, size_t blocking_len, uint16_t moved, uint32_t local, uint16_t limit, uint64_t *answer, size_t answer_len);
 
 /* The words of a check's answer. */

@@ -19,7 +19,7 @@ pub const YARD_OFFSET: usize = 4;
 pub const REPORT_RECORD: usize = 16;
 
 /// The words of an update's answer, and of a check's.
-pub const UPDATE_WORDS: usize = 5;
+pub const UPDATE_WORDS: usize = 6;
 pub const CHECK_WORDS: usize = 3;
 
 /// A bundle before its occupancy, and the longest bundle.

@@ -183,7 +183,7 @@ pub enum Status {
     Faulty(u64),
 }
 
-/// An update: its status or its refusal, the rounds entered, the strays counted and the steps of the search.
+/// An update: its status or its refusal, the rounds entered, the strays counted, the steps of the search, and who holds the train.
 #[derive(Clone, Copy, Debug, PartialEq, Eq)]
 pub struct Updated {
     pub status: Result<Status, Refusal>,
@@ -191,6 +191,8 @@ pub struct Updated {
     pub strays: u64,
     /// Entries into the search loop over all rounds, the refused one too.
     pub steps: u64,
+    /// Where the update ended Blocked, the first train of the blocking view that was given last; else 0.
+    pub holder: u32,
 }
 
 /// Updates the free path of the train of an image.
@@ -201,11 +203,11 @@ pub fn update(image: &mut [u8], m: Move) -> Updated {
         5 => Status::Faulty(words[1]),
         _ => Status::Success,
     });
-    Updated { status, rounds: words[2] as u16, strays: words[3], steps: words[4] }
+    Updated { status, rounds: words[2] as u16, strays: words[3], steps: words[4], holder: words[5] as u32 }
 }
 
-/// [`update`] with its answer in words, as many as there is room for: the code, the errors, the rounds, the strays and the
-/// steps, of a refused update too.
+/// [`update`] with its answer in words, as many as there is room for: the code, the errors, the rounds, the strays, the
+/// steps, of a refused update too, and the holder.
 pub fn update_into(image: &mut [u8], m: Move, answer: &mut [u64]) -> Result<(), Refusal> {
     // SAFETY: each pointer goes with its own length, and the function keeps to them.
     Refusal::of(unsafe {
@@ -247,7 +249,7 @@ pub enum Slot {
     Finished,
     Moved,
     Success,
-    /// It has no way round the moved train. The number is the report's holder column: the moved train.
+    /// It has no way round the moved train. The number is the report's holder column: the train that holds it, which may be another.
     Blocked(u16),
     /// With this many errors of the free path.
     Faulty(u32),

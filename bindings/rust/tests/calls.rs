@@ -111,7 +111,7 @@ fn a_refused_layout_leaves_the_buffer() {
 #[test]
 fn an_update_takes_the_siding() {
     let mut image = laid_out(1, 4);
-    assert_eq!(update(&mut image, MOVE), Updated { status: Ok(Status::Success), rounds: 2, strays: 0, steps: 3 });
+    assert_eq!(update(&mut image, MOVE), Updated { status: Ok(Status::Success), rounds: 2, strays: 0, steps: 3, holder: 0 });
     assert_eq!(path(&image), [0, 2, 3, 4]);
     assert_eq!(judge(&image, 4), Ok(()));
 }
@@ -120,7 +120,7 @@ fn an_update_takes_the_siding() {
 fn a_blocked_update_keeps_its_path() {
     let mut image = laid_out(1, 4);
     let m = Move { occupancy: &[0, 2, 2, 0], blocking: &[1, 2], ..MOVE };
-    assert_eq!(update(&mut image, m), Updated { status: Ok(Status::Blocked), rounds: 1, strays: 0, steps: 3 });
+    assert_eq!(update(&mut image, m), Updated { status: Ok(Status::Blocked), rounds: 1, strays: 0, steps: 3, holder: 2 });
     assert_eq!(path(&image), [0, 1, 4]);
 }
 
@@ -131,7 +131,7 @@ fn refused_updates_leave_the_image_and_say_how_far_they_came() {
         let before = image.clone();
         let m = Move { limit, ..MOVE };
         let status = Err(Refusal { number, place: 0 });
-        assert_eq!(update(&mut image, m), Updated { status, rounds, strays: 0, steps });
+        assert_eq!(update(&mut image, m), Updated { status, rounds, strays: 0, steps, holder: 0 });
         assert_eq!(image, before);
     }
 }
@@ -168,6 +168,17 @@ fn a_blocked_slot_is_a_deadlock_and_names_its_holder() {
     let m = Move { occupancy: &[0, 2, 2, 0], blocking: &[1, 2], ..MOVE };
     assert_eq!(check(&mut yard, m, 1, &mut report), Ok(Checked::Done { deadlock: true, next: 1 }));
     assert_eq!(rows(&report)[0].slot, Slot::Blocked(2));
+}
+
+#[test]
+fn a_blocked_train_may_be_held_by_another_than_the_moved_one() {
+    // Train 9 stands on the siding: the view of both begins with it, since it lies at the end of the pool.
+    let m = Move { occupancy: &[0, 2, 9, 0], blocking: &[1, 2], ..MOVE };
+    let updated = update(&mut laid_out(1, 4), m);
+    assert_eq!((updated.status, updated.holder), (Ok(Status::Blocked), 9));
+    let mut report = vec![0; 2 * layout::REPORT_RECORD];
+    assert_eq!(check(&mut two_trains(), m, 1, &mut report), Ok(Checked::Done { deadlock: true, next: 1 }));
+    assert_eq!(rows(&report)[0].slot, Slot::Blocked(9));
 }
 
 #[test]

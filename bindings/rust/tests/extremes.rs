@@ -136,7 +136,7 @@ fn the_largest_train_is_laid_out_and_updated_and_no_larger() {
     assert_eq!(lay_out(&chain(512), o, &mut image), Ok(()));
     assert_eq!(judge(&image, 4_000), Ok(()));
     let m = Move { occupancy: &[u16::MAX; 4_000], blocking: &[3_999; 4_000], moved: u16::MAX, local: true, limit: u16::MAX };
-    assert_eq!(update(&mut image, m), Updated { status: Ok(Status::Success), rounds: 1, strays: 0, steps: 0 });
+    assert_eq!(update(&mut image, m), Updated { status: Ok(Status::Success), rounds: 1, strays: 0, steps: 0, holder: 0 });
     let larger = vec![0; image_size(513, 1_024)];
     assert_eq!(leaves(&larger, |image| lay_out(&chain(513), o, image)), refused(6));
     let larger = vec![0; image_size(512, 1_025)];
@@ -164,7 +164,7 @@ fn update_refuses_wrong_moves_and_lengths() {
     let image = laid_out(1, 4);
     for (m, number) in wrong_moves() {
         let answer = leaves(&image, |image| update(image, m));
-        assert_eq!(answer, Updated { status: Err(Refusal { number, place: 0 }), rounds: 0, strays: 0, steps: 0 });
+        assert_eq!(answer, Updated { status: Err(Refusal { number, place: 0 }), rounds: 0, strays: 0, steps: 0, holder: 0 });
     }
     for cut in other_lengths(&image) {
         assert_eq!(leaves(&cut, |image| update_into(image, MOVE, &mut [])), refused(6), "{} bytes", cut.len());
@@ -181,9 +181,9 @@ fn update_takes_the_longest_lists_and_the_largest_numbers() {
     occupancy[1] = 2;
     let m = Move { occupancy: &occupancy, blocking: &[1; 4_000], moved: u16::MAX, local: true, limit: u16::MAX };
     let mut image = laid_out(u16::MAX, 4);
-    assert_eq!(update(&mut image, m), Updated { status: Ok(Status::Success), rounds: 2, strays: 0, steps: 3 });
+    assert_eq!(update(&mut image, m), Updated { status: Ok(Status::Success), rounds: 2, strays: 0, steps: 3, holder: 0 });
     let m = Move { blocking: &[], ..m };
-    assert_eq!(update(&mut laid_out(1, 4), m), Updated { status: Ok(Status::Faulty(1)), rounds: 1, strays: 2, steps: 0 });
+    assert_eq!(update(&mut laid_out(1, 4), m), Updated { status: Ok(Status::Faulty(1)), rounds: 1, strays: 2, steps: 0, holder: 0 });
 }
 
 /// Link 3 follows link 1 and is held; the only way round it leaves before link 1, farther back than a local search goes.
@@ -231,13 +231,13 @@ fn a_pointer_with_length_0_may_be_null() {
 
 #[test]
 fn an_answer_gets_as_many_words_as_it_has_room_for() {
-    for room in 0..=6 {
+    for room in 0..=7 {
         let mut answer = vec![9; room];
         assert_eq!(update_into(&mut laid_out(1, 4), MOVE, &mut answer), Ok(()));
-        assert_eq!(answer, [3, 0, 2, 0, 3, 9][..room]);
+        assert_eq!(answer, [3, 0, 2, 0, 3, 0, 9][..room]);
         let (mut report, mut answer) = (vec![0; 32], vec![9; room]);
         assert_eq!(check_into(&mut two_trains(), MOVE, 1, &mut report, &mut answer), Ok(()));
-        assert_eq!(answer, [0, 0, 1, 9, 9, 9][..room]);
+        assert_eq!(answer, [0, 0, 1, 9, 9, 9, 9][..room]);
     }
 }
 

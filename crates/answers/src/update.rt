@@ -62,7 +62,7 @@ fn print_status(x: Updated) -> bool {
     let status = x.status;
     match status {
         Status::Success => print::bytes(b"success"),
-        Status::Blocked => print::bytes(b"blocked"),
+        Status::Blocked(holder) => print::number(b"blocked by ", holder.0 as u64),
         Status::Faulty(n) => print::number(b"faulty ", n),
         Status::Refused(r) => print::refused(r),
     }
@@ -73,7 +73,7 @@ fn print_steps(x: Updated) -> bool {
     let status = x.status;
     match status {
         Status::Success => print::number_line(b" steps ", x.tally.steps),
-        Status::Blocked => print::number_line(b" steps ", x.tally.steps),
+        Status::Blocked(holder) => print::number_line(b" steps ", x.tally.steps),
         Status::Faulty(n) => print::number_line(b" steps ", x.tally.steps),
         Status::Refused(r) => print::end(),
     }

@@ -10,7 +10,7 @@ use Rattle.link_rules.specs.declared.refusal.Answer.{Answer}
 use Rattle.link_rules.specs.declared.refusal.Answer.the-variants.{Done, Refused}
 use Rattle.link_rules.specs.declared.refusal.Refusal.{Refusal}
 use Rattle.train_disp.specs.declared.Settings.{Settings}
-use Rattle.update_definition.specs.Update.{Status, Success, Blocked, Faulty, Refused as RefusedBy}
+use Rattle.update_definition.specs.Update.{Status, Success, Blocked, Faulty, Refused as RefusedBy, holderIn}
 use Rattle.update_definition.specs.UpdateImage.{UpdatedImage}
 use Rattle.yard_check.specs.Check as Check
 use Rattle.ceiling.specs.declared.StepCeiling.{StepCeiling}
@@ -44,26 +44,26 @@ flagOf n = ltb 0 n
 -- 0 where the update is not refused
 abbrev pub statusWord : Status → ℕ
 statusWord Success = 0
-statusWord Blocked = 0
+statusWord (Blocked holder) = 0
 statusWord (Faulty n) = 0
 statusWord (RefusedBy r) = faultWord r
 
 -- document 01's code of a slot that is updated so
 abbrev pub codeOf : Status → ℕ
 codeOf Success = 3
-codeOf Blocked = 4
+codeOf (Blocked holder) = 4
 codeOf (Faulty n) = 5
 codeOf (RefusedBy r) = 16 + r .number
 
 abbrev pub errorsOf : Status → ℕ
 errorsOf Success = 0
-errorsOf Blocked = 0
+errorsOf (Blocked holder) = 0
 errorsOf (Faulty n) = n
 errorsOf (RefusedBy r) = 0
 
--- code, errors, rounds, strays and search steps in the first five words; a word past the end stays out
+-- code, errors, rounds, strays, search steps and holder in the first six words; a word past the end stays out
 abbrev pub updateWords : UpdatedImage → List ℕ → List ℕ
-updateWords u ws = set (set (set (set (set ws 0 (codeOf (u .answer .status))) 1 (errorsOf (u .answer .status))) 2 (u .answer .tally .rounds)) 3 (u .answer .tally .strays)) 4 (u .answer .tally .steps)
+updateWords u ws = set (set (set (set (set (set ws 0 (codeOf (u .answer .status))) 1 (errorsOf (u .answer .status))) 2 (u .answer .tally .rounds)) 3 (u .answer .tally .strays)) 4 (u .answer .tally .steps)) 5 (holderIn (u .answer .status))
 
 -- the update u as C sees it: the number that is returned, the image and the words that are left
 pub record Told (u : UpdatedImage) (r : ℕ) (image ws₀ ws : List ℕ) : Type 0 where

@@ -9,6 +9,7 @@ ghost use Rattle.track_profile.specs.Profile.{profileFault};
 ghost use Rattle.ceiling.specs.Ceiling.{ceilingOf, yardCeilingOf};
 ghost use Rattle.train_disp.specs.TrainDisp.{laidOut};
 ghost use lib.ListN.{set};
+ghost use Rattle.update_definition.specs.Update.{holderIn};
 ghost use Rattle.update_definition.specs.UpdateImage.{updatedImage};
 ghost use Rattle.update_free_path.specs.Updates.{statusOf};
 ghost use Rattle.yard_check.specs.Check.{checked};
@@ -129,8 +130,9 @@ pub extern "C" fn lavtoeu_lay_out(
     answer_word(train_disp::lay_out(est, settings, image))
 }
 
-// Updates the train of an image. Answers 0, or the refusal's number with its place in the upper 16 bits, and puts into the first five words of `answer`
-// document 01's code (3 success, 4 blocked, 5 faulty, 16 + n refused by n), the number of errors, the rounds, the strays and the search steps. Any local but 0 is yes.
+// Updates the train of an image. Answers 0, or the refusal's number with its place in the upper 16 bits, and puts into the first six words of `answer`
+// document 01's code (3 success, 4 blocked, 5 faulty, 16 + n refused by n), the number of errors, the rounds, the strays, the search steps,
+// and the train that holds a blocked one, else 0. Any local but 0 is yes.
 #[no_mangle]
 pub extern "C" fn lavtoeu_update(
     image: &mut [u8],
@@ -157,6 +159,7 @@ pub extern "C" fn lavtoeu_update(
     put_word(answer, 2, x.tally.rounds as u64);
     put_word(answer, 3, x.tally.strays);
     put_word(answer, 4, x.tally.steps);
+    put_word(answer, 5, holder_in(s));
     status_word(s)
 }
 
@@ -179,7 +182,7 @@ fn status_word(s: Status) -> u32
 {
     match s {
         Status::Success => 0,
-        Status::Blocked => 0,
+        Status::Blocked(holder) => 0,
         Status::Faulty(n) => 0,
         Status::Refused(r) => fault_word(r),
     }
@@ -190,7 +193,7 @@ fn code_of(s: Status) -> u64
 {
     match s {
         Status::Success => 3,
-        Status::Blocked => 4,
+        Status::Blocked(holder) => 4,
         Status::Faulty(n) => 5,
         Status::Refused(r) => 16 + (r.number as u64),
     }
@@ -201,8 +204,19 @@ fn errors_of(s: Status) -> u64
 {
     match s {
         Status::Success => 0,
-        Status::Blocked => 0,
+        Status::Blocked(holder) => 0,
         Status::Faulty(n) => n,
+        Status::Refused(r) => 0,
+    }
+}
+
+fn holder_in(s: Status) -> u64
+    ensures { λ r. ⌜ r ≡ holderIn (statusOf s) ⌝ }
+{
+    match s {
+        Status::Success => 0,
+        Status::Blocked(holder) => holder.0 as u64,
+        Status::Faulty(n) => 0,
         Status::Refused(r) => 0,
     }
 }

@@ -30,7 +30,7 @@ use Rattle.update_definition.specs.State as State
 use Rattle.update_definition.specs.Update as Update
 use Rattle.update_definition.specs.Update.{searchFrom, stepsFrom, turnLimit, searchAt, roundAt, divPoint, savePoint}
 use Rattle.update_definition.specs.Fits.{Fits}
-use Rattle.update_laws.specs.FitsGood.{TrainFits, DivFits}
+use Rattle.update_laws.specs.FitsGood.{DivWith, TrainFits}
 use Rattle.update_laws.proofs.Answers.{ok-same, no-ok, bind-ok}
 use Rattle.update_laws.proofs.Lists.{each-one}
 use Rattle.update_laws.proofs.Rounds.{start-good, save-low}
@@ -189,7 +189,7 @@ module _ (occ img on dt dn : List ℕ) (h : PathHeader) (g : Held occ img on dt 
         fits = record {
           pool = each-one (TrainFits (g .top)) noTrain (omega arith);
           nodes = λ i x q. no-ok q;
-          divs = each-one (DivFits (g .top)) (record { «train_idx» = noTrain; «disp_node_idx» = 0 }) (omega arith);
+          divs = each-one (DivWith (TrainFits (g .top))) (record { «train_idx» = noTrain; «disp_node_idx» = 0 }) (omega arith);
         };
       }
 

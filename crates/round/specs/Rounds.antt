@@ -112,7 +112,7 @@ withFree h = record { «path_count» = h .«path_count»; «diverge_count» = h 
 abbrev pub endBy : End → Train → ℕ → ℕ → Res Ended
 endBy (Refused c) t split divSplit = no c
 endBy AtEnd t split divSplit = ok atEnd
-endBy Blocked t split divSplit = ok (blockedAt t)
+endBy (Blocked holder) t split divSplit = ok (blockedAt t holder)
 endBy Again t split divSplit = ok (again t split divSplit)
 
 -- t is the train that is left
@@ -122,13 +122,13 @@ endedOf x t = endBy (x .end) t (x .split) (x .«div_split»)
 abbrev pub endRefused : End → Bool
 endRefused (Refused c) = true
 endRefused AtEnd = false
-endRefused Blocked = false
+endRefused (Blocked holder) = false
 endRefused Again = false
 
 abbrev pub isAtEnd : End → Bool
 isAtEnd (Refused c) = false
 isAtEnd AtEnd = true
-isAtEnd Blocked = false
+isAtEnd (Blocked holder) = false
 isAtEnd Again = false
 
 abbrev pub isJoin : Move → Bool

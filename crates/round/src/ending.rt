@@ -10,6 +10,7 @@ ghost use Rattle.round.specs.Ends.{EndsByEffect, EndsBySplice, EndsByJoi
 use crate::End;
 use crate::RoundEnd;
 use image::codec::PathHeader;
+use link_rules::link_idx::TrainIdx;
 use search::Effect;
 use search::Place;
 use search::Round;
@@ -34,13 +35,13 @@ fn ended(end: End, h: PathHeader, steps: u64) -> RoundEnd
     }
 }
 
-// disp_node_idx_free = disp_node_idx_fixed
-fn blocked(h: PathHeader, steps: u64) -> RoundEnd
-    ensures { λ x. ⌜ x ≡ record { end = End.Blocked; header = withFree h; split = 0; «div_split» = 0; steps = steps } ⌝ }
+// By a train; disp_node_idx_free = disp_node_idx_fixed.
+fn blocked(holder: TrainIdx, h: PathHeader, steps: u64) -> RoundEnd
+    ensures { λ x. ⌜ x ≡ record { end = End.Blocked holder; header = withFree h; split = 0; «div_split» = 0; steps = steps } ⌝ }
 {
     let mut q = h;
     q.free = h.fixed;
-    ended(End::Blocked, q, steps)
+    ended(End::Blocked(holder), q, steps)
 }
 
 // By an effect after which no search goes on.
@@ -53,7 +54,7 @@ pub(crate) fn by_effect(effect: Effect, h: PathHeader, steps: u64) -> RoundEnd
         Effect::Push(n) => ended(End::Refused(13), h, steps),
         Effect::Pop => ended(End::Refused(13), h, steps),
         Effect::Stay => ended(End::Refused(13), h, steps),
-        Effect::GiveUp => blocked(h, steps),
+        Effect::GiveUp(holder) => blocked(holder, h, steps),
     }
 }
 

@@ -21,7 +21,7 @@ pub struct Given {
 pub enum End {
     Refused(u32),
     AtEnd,
-    Blocked,
+    Blocked(TrainIdx),
     Again,
 }
 

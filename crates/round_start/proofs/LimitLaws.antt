@@ -2,6 +2,7 @@
 use mathlib.Core.Path.{_≡_, refl, ap, _∙_}
 use Prim.Native.Nat.{ℕ, zero, suc}
 use lib.Ieee.{Float, lt}
+use Rattle.link_rules.specs.declared.link_idx.TrainIdx.{TrainIdx}
 use Rattle.disp_structs.specs.declared.Metres.{Metres}
 use Rattle.free_path.specs.Base.{Res, ok, no, _>>=_}
 use Rattle.update_definition.specs.State.{Round, Search, Turn, Ended, goOn, ends}
@@ -15,9 +16,9 @@ use Rattle.update_definition.specs.declared.Move.the-variants.{Rewind, Alternat
 use Rattle.round_start.specs.Start.{withLimit}
 
 module _ (r : Round) (m : Metres) (e : (x : Float) → lt (m .0) x ≡ lt (r .«offset_cancel» .0) x) where
-  back-same : (h : Here) (s : Search) → oneBack (withLimit r m) h s ≡ oneBack r h s
+  back-same : (h : Here) (b : TrainIdx) (s : Search) → oneBack (withLimit r m) h b s ≡ oneBack r h b s
   unfolding oneBack
-  back-same h s = rw (e (h .«disp_node_curr» .offset .0))
+  back-same h b s = rw (e (h .«disp_node_curr» .offset .0))
 
   rewind-same : (h : Here) (s : Search) → rewind (withLimit r m) h s ≡ rewind r h s
   unfolding rewind

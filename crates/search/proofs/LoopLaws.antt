@@ -11,6 +11,7 @@ use mathlib.Core.Bool.{not}
 use lib.ListN.{length, getD, take, set, length-append}
 use lib.Seq.{take-append-le, take-all, getD-at, getD-set-same, getD-set-other}
 use borrow.Author.Tests.{ne-eqb, eq-eqb, eqb-true, eqb-false, lt-ltb, le-ltb, ltb-false}
+use Rattle.link_rules.specs.declared.link_idx.TrainIdx.{TrainIdx}
 use Rattle.disp_structs.specs.Listed.{listed}
 use Rattle.disp_structs.proofs.ListedLaws.{listed-length, listed-same, listed-at, listed-take}
 use Rattle.disp_structs.specs.Train.{Train}
@@ -33,6 +34,7 @@ use Rattle.update_definition.specs.declared.Move.the-variants.{Advance}
 use Rattle.est_times.proofs.Counting.{clash}
 use Rattle.update_laws.specs.Good.{Good}
 use Rattle.update_laws.proofs.GoodTurns.{step-good, good-bounds}
+use Rattle.update_laws.specs.FitsGood.{TrainFits}
 use Rattle.update_laws.proofs.Fitting.{step-fits}
 use Rattle.search.specs.Read.{divsOf, pathOf, roundOf, searchIn, Arrays, Small}
 use Rattle.search.specs.declared.Round.{Round}
@@ -196,8 +198,8 @@ module _ (k : ℕ) (n : DispNode) where
   pub follows-refused : (c : ℕ) → Follows (Refused c) k stopped
   follows-refused c = record { goes = refl; few = omega arith; node = λ q r s l. clash false q refl }
 
-  pub follows-give-up : Follows GiveUp k stopped
-  follows-give-up = record { goes = refl; few = omega arith; node = λ q r s l. clash false q refl }
+  pub follows-give-up : (holder : TrainIdx) → Follows (GiveUp holder) k stopped
+  follows-give-up holder = record { goes = refl; few = omega arith; node = λ q r s l. clash false q refl }
 
   pub follows-push : Follows (Push n) k (goes-to (k + 1))
   follows-push = record {
@@ -285,7 +287,7 @@ module _ (links : ℕ) (r : State.Round) (s₀ : State.Search) (b : SearchBegins
     pub going-on : (u : State.Search) → x ≡ ok (State.goOn u) → Going (b .top) links r n₀ s₀ n (steps + 1) u
     going-on u y = record {
       good = step-good links r (b .accepted) s u (g .good) (sym q ∙ y);
-      fits = step-fits (b .top) r (b .room) links (b .accepted) s u (g .good) (g .fits) (sym q ∙ y);
+      fits = step-fits (TrainFits (b .top)) (omega arith) r (b .room) links (b .accepted) s u (g .good) (g .fits) (sym q ∙ y);
       same = sym (going-ends ∙ ap (endOf (searchFrom n r)) y);
       counts = omega (arith, going-more u y);
     }

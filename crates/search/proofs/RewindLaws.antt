@@ -2,11 +2,11 @@
 use mathlib.Core.Path.{_≡_, refl, sym, ap, _∙_}
 use mathlib.Core.Bool.{Bool, true, false, cond, not, _&&_}
 use mathlib.Core.List.{List, [], _∷_}
-use Prim.Native.Nat.{ℕ, suc, _+_, _-_, _≤_, _<_}
+use Prim.Native.Nat.{ℕ, zero, suc, _+_, _-_, _≤_, _<_}
 use native.Mathlib.Omega.{arith}
 use lib.Dec.{ltb, eqb}
 use lib.Ieee.{lt}
-use lib.ListN.{length, getD, take, set}
+use lib.ListN.{length, getD, take, drop, set}
 use borrow.Author.Tests.{eq-eqb, ne-eqb, lt-ltb, le-ltb, le-leb, lt-leb}
 use Rattle.disp_structs.specs.Values.{isFake, sameEvent}
 use Rattle.disp_structs.specs.declared.EstTime.{EstTime}
@@ -14,9 +14,10 @@ use Rattle.disp_structs.specs.declared.DispNode.{DispNode}
 use Rattle.disp_structs.specs.declared.DivergeNode.{DivergeNode}
 use Rattle.disp_structs.specs.declared.LinkEvent.{LinkEvent}
 use Rattle.disp_structs.specs.declared.TrainIdxsView.{TrainIdxsView}
+use Rattle.link_rules.specs.LinkIdx.{noTrain}
 use Rattle.link_rules.specs.declared.link_idx.TrainIdx.{TrainIdx}
 use Rattle.free_path.specs.Base.{Res, ok, no, _>>=_, _>>_, need, at, walkBack, popped, isEmpty}
-use Rattle.free_path.specs.Columns.{answer, divAt}
+use Rattle.free_path.specs.Columns.{answer, tr, trains, divAt}
 use Rattle.disp_structs.specs.Listed.{listed}
 use Rattle.free_path.specs.TrainIdxsView.{Pooled, concatTrainIdxViews}
 use Rattle.free_path.proofs.ColumnLaws.{listed-read, listed-out}
@@ -26,7 +27,7 @@ use Rattle.update_definition.specs.State as State
 use Rattle.update_definition.specs.State.{viewOf}
 use Rattle.update_definition.specs.Look as Look
 use Rattle.update_definition.specs.Moves as Moves
-use Rattle.update_definition.specs.Moves.{notFake, shiftSave, rewindView, rewindDivs, giveUp, oneBack}
+use Rattle.update_definition.specs.Moves.{notFake, shiftSave, rewindView, firstTrain, holderOf, rewindDivs, giveUp, oneBack}
 use Rattle.search.specs.Read.{divsOf}
 use Rattle.search.specs.Effects.{rewindSave}
 
@@ -125,18 +126,62 @@ module _ (nt nn : List ℕ) (count join : ℕ) where
       go true = refl
       go false = refl
 
+-- ---- the first train of a view
+
+-- the train at i of the first n
+first-at : (xs : List ℕ) (n i : ℕ) → i < n → firstTrain (drop i (take n (trains xs))) ≡ tr (getD xs i 0)
+first-at [] zero i l = absurd (omega arith)
+first-at [] (suc n) zero l = refl
+first-at [] (suc n) (suc i) l = refl
+first-at (x ∷ xs) zero i l = absurd (omega arith)
+first-at (x ∷ xs) (suc n) zero l = refl
+first-at (x ∷ xs) (suc n) (suc i) l = first-at xs n i (omega arith)
+
+past : (xs : List ℕ) (n i : ℕ) → n ≤ i → drop i (take n (trains xs)) ≡ []
+past xs zero zero l = refl
+past xs zero (suc i) l = refl
+past xs (suc n) zero l = absurd (omega arith)
+past [] (suc n) (suc i) l = refl
+past (x ∷ xs) (suc n) (suc i) l = past xs n i (omega arith)
+
+first-take : (k : ℕ) (ts : List TrainIdx) → (k ≡ 0 → ⊥) → firstTrain (take k ts) ≡ firstTrain ts
+first-take zero ts z = absurd (z refl)
+first-take (suc k) [] z = refl
+first-take (suc k) (t ∷ ts) z = refl
+
+take-none : (k : ℕ) → take {A = TrainIdx} k [] ≡ []
+take-none zero = refl
+take-none (suc k) = refl
+
+module _ (xs : List ℕ) (n : ℕ) (v : TrainIdxsView) where
+  abbrev held : TrainIdx
+  held = holderOf (record { pool = take n (trains xs); made = v })
+
+  pub held-empty : v .«idx_end» ≤ v .«idx_begin» → noTrain ≡ held
+  held-empty l =
+      let z : v .«idx_end» - v .«idx_begin» ≡ 0 = omega arith in
+      sym (ap (λ (k : ℕ). firstTrain (take k (drop (v .«idx_begin») (take n (trains xs))))) z)
+
+  pub held-past : n ≤ v .«idx_begin» → noTrain ≡ held
+  held-past l =
+      sym (ap (λ (ts : List TrainIdx). firstTrain (take (v .«idx_end» - v .«idx_begin») ts)) (past xs n (v .«idx_begin») l) ∙ ap firstTrain (take-none (v .«idx_end» - v .«idx_begin»)))
+
+  pub held-first : v .«idx_begin» < v .«idx_end» → v .«idx_begin» < n → tr (getD xs (v .«idx_begin») 0) ≡ held
+  held-first l m =
+      sym (first-take (v .«idx_end» - v .«idx_begin») (drop (v .«idx_begin») (take n (trains xs))) (λ z. omega (arith, z)) ∙ first-at xs n (v .«idx_begin») m)
+
 -- ---- one dispatch node back
 
-module _ (r : State.Round) (h : Look.Here) (s : State.Search) where
+module _ (r : State.Round) (h : Look.Here) (b : TrainIdx) (s : State.Search) where
   module _ (c : ℕ) (l : length (s .«div_nodes_new») ≡ c) where
-    pub stop-divs : (c ≡ 1 → ⊥) → no 13 ≡ giveUp r h s
+    pub stop-divs : (c ≡ 1 → ⊥) → no 13 ≡ giveUp r h b s
     stop-divs e = rw (l, ne-eqb c 1 e)
 
     module _ (o : c ≡ 1) where
-      pub stop-join : (h .«idx_join_new» ≡ s .«idx_split» → ⊥) → no 13 ≡ giveUp r h s
+      pub stop-join : (h .«idx_join_new» ≡ s .«idx_split» → ⊥) → no 13 ≡ giveUp r h b s
       stop-join e = rw (l, eq-eqb c 1 o, ne-eqb (h .«idx_join_new») (s .«idx_split») e)
 
-      pub stop-good : h .«idx_join_new» ≡ s .«idx_split» → ok (State.ends (State.blockedAt (State.withFree (r .train) (r .train .«disp_node_idx_fixed»)))) ≡ giveUp r h s
+      pub stop-good : h .«idx_join_new» ≡ s .«idx_split» → ok (State.ends (State.blockedAt (State.withFree (r .train) (r .train .«disp_node_idx_fixed»)) b)) ≡ giveUp r h b s
       stop-good e = rw (l, eq-eqb c 1 o, eq-eqb (h .«idx_join_new») (s .«idx_split») e)
 
   some : (xs : List DispNode) → (length xs ≡ 0 → ⊥) → isEmpty xs ≡ false
@@ -147,25 +192,25 @@ module _ (r : State.Round) (h : Look.Here) (s : State.Search) where
   none [] e = refl
   none (x ∷ xs) e = absurd (omega (arith, e))
 
-  pub one-pop : (length (s .«disp_path_new») ≡ 0 → ⊥) → ok (State.goOn (State.setNew s (popped (s .«disp_path_new»)))) ≡ oneBack r h s
+  pub one-pop : (length (s .«disp_path_new») ≡ 0 → ⊥) → ok (State.goOn (State.setNew s (popped (s .«disp_path_new»)))) ≡ oneBack r h b s
   unfolding oneBack
   one-pop e = rw (some (s .«disp_path_new») e)
 
   module _ (o : length (s .«disp_path_new») ≡ 0) where
-    pub one-first : s .«idx_split» ≤ 1 → giveUp r h s ≡ oneBack r h s
+    pub one-first : s .«idx_split» ≤ 1 → giveUp r h b s ≡ oneBack r h b s
     unfolding oneBack
-    one-first e = rw (none (s .«disp_path_new») o, le-ltb 1 (s .«idx_split») e) (go (lt (r .«offset_cancel» .0) (h .«disp_node_curr» .offset .0)) (giveUp r h s) (ok (State.goOn (State.setSplit s (s .«idx_split» - 1)))))
+    one-first e = rw (none (s .«disp_path_new») o, le-ltb 1 (s .«idx_split») e) (go (lt (r .«offset_cancel» .0) (h .«disp_node_curr» .offset .0)) (giveUp r h b s) (ok (State.goOn (State.setSplit s (s .«idx_split» - 1)))))
       where
-        go : (b : Bool) (x y : Res State.Turn) → x ≡ cond (b && false) y x
+        go : (t : Bool) (x y : Res State.Turn) → x ≡ cond (t && false) y x
         go true x y = refl
         go false x y = refl
 
     module _ (o₂ : 1 < s .«idx_split») where
-      pub one-down : lt (r .«offset_cancel» .0) (h .«disp_node_curr» .offset .0) ≡ true → ok (State.goOn (State.setSplit s (s .«idx_split» - 1))) ≡ oneBack r h s
+      pub one-down : lt (r .«offset_cancel» .0) (h .«disp_node_curr» .offset .0) ≡ true → ok (State.goOn (State.setSplit s (s .«idx_split» - 1))) ≡ oneBack r h b s
       unfolding oneBack
       one-down e = rw (none (s .«disp_path_new») o, lt-ltb 1 (s .«idx_split») o₂, e)
 
-      pub one-near : lt (r .«offset_cancel» .0) (h .«disp_node_curr» .offset .0) ≡ false → giveUp r h s ≡ oneBack r h s
+      pub one-near : lt (r .«offset_cancel» .0) (h .«disp_node_curr» .offset .0) ≡ false → giveUp r h b s ≡ oneBack r h b s
       unfolding oneBack
       one-near e = rw (none (s .«disp_path_new») o, lt-ltb 1 (s .«idx_split») o₂, e)
 
@@ -186,7 +231,7 @@ module _ (r : State.Round) (h : Look.Here) (s : State.Search) (c save : ℕ) (q 
       unfolding Moves.rewind
       rewind-divs x = rw (← q, z, ← w, y, ← v, answer-no e divs x)
 
-      pub rewind-go : e ≡ 0 → (views : List TrainIdxsView) → views ≡ set (s .views) (h .«disp_node_curr» .«est_idx» .0) (u .made)
-          → oneBack r h (record { «idx_split» = s .«idx_split»; «div_idx_split» = s .«div_idx_split»; «idx_save» = save; «disp_node_idx_free» = s .«disp_node_idx_free»; «disp_path_new» = s .«disp_path_new»; «div_nodes_new» = divs; «train_idxs_blocking» = u .pool; views = views }) ≡ Moves.rewind r h s
+      pub rewind-go : e ≡ 0 → (b : TrainIdx) → b ≡ holderOf u → (views : List TrainIdxsView) → views ≡ set (s .views) (h .«disp_node_curr» .«est_idx» .0) (u .made)
+          → oneBack r h b (record { «idx_split» = s .«idx_split»; «div_idx_split» = s .«div_idx_split»; «idx_save» = save; «disp_node_idx_free» = s .«disp_node_idx_free»; «disp_path_new» = s .«disp_path_new»; «div_nodes_new» = divs; «train_idxs_blocking» = u .pool; views = views }) ≡ Moves.rewind r h s
       unfolding Moves.rewind
-      rewind-go x views g = rw (← q, z, ← w, y, ← v, x, g)
+      rewind-go x b k views g = rw (← q, z, ← w, y, ← v, x, g, k)

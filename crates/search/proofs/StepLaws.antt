@@ -64,7 +64,7 @@ module _ (f : State.Search → ℕ) where
   effect-last r s (Push n) q = clash true refl q
   effect-last r s Pop q = clash true refl q
   effect-last r s Stay q = clash true refl q
-  effect-last r s GiveUp q = refl
+  effect-last r s (GiveUp holder) q = refl
 
   pub turn-stops : (go : Move) (e : Effect) (r : State.Round) (h : Look.Here) (s : State.Search) → (leaves go ≡ false → onward e ≡ false) → Last (turnOf go e r h s)
   turn-stops Rewind e r h s q = effect-last r s e (q refl)

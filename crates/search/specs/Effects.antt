@@ -38,7 +38,7 @@ effectOf r s (Refused c) = no c
 effectOf r s (Push n) = ok (State.goOn (State.setNew s (s .«disp_path_new» ++ (n ∷ []))))
 effectOf r s Pop = ok (State.goOn (State.setNew s (popped (s .«disp_path_new»))))
 effectOf r s Stay = ok (State.goOn s)
-effectOf r s GiveUp = ok (State.ends (State.blockedAt (State.withFree (r .train) (r .train .«disp_node_idx_fixed»))))
+effectOf r s (GiveUp holder) = ok (State.ends (State.blockedAt (State.withFree (r .train) (r .train .«disp_node_idx_fixed»)) holder))
 
 -- a turn that goes on: Push, Pop and Stay
 abbrev pub onward : Effect → Bool
@@ -46,7 +46,7 @@ onward (Refused c) = false
 onward (Push n) = true
 onward Pop = true
 onward Stay = true
-onward GiveUp = false
+onward (GiveUp holder) = false
 
 -- the moves that a turn leaves to do
 abbrev pub leaves : Move → Bool
@@ -126,11 +126,11 @@ abbrev pub Keeping : (r : Round) (p : Place) (x : Moved) (E : Type 0) → Type 0
 Keeping r p x E = E × Goes r p (x .place) × (x .place .«div_count» ≡ p .«div_count») × (x .place .«pool_count» ≡ p .«pool_count»)
 
 -- giveUp, in any round
-abbrev pub GivesUp : (h : Here) (p : Place) (x : Moved) → Type 0
-GivesUp h p x =
+abbrev pub GivesUp : (h : Here) (holder : TrainIdx) (p : Place) (x : Moved) → Type 0
+GivesUp h holder p x =
     (x .place ≡ p)
     × ((t : Train) (occ img dt dn : List ℕ) (r : Round) (new : List DispNode) (divs : List DivergeNode) (pool : List TrainIdx) (views : List TrainIdxsView) → length divs ≡ p .«div_count»
-    → effectOf (roundOf t occ img dt dn r) (searchOf p new divs pool views) (x .effect) ≡ Moves.giveUp (roundOf t occ img dt dn r) (hereOf h) (searchOf p new divs pool views))
+    → effectOf (roundOf t occ img dt dn r) (searchOf p new divs pool views) (x .effect) ≡ Moves.giveUp (roundOf t occ img dt dn r) (hereOf h) holder (searchOf p new divs pool views))
 
 -- idx_save after a rewind
 abbrev pub SavesAt : (img : List ℕ) (r : Round) (h : Here) (p : Place) (x : Index) → Type 0

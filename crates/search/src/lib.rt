@@ -42,13 +42,13 @@ pub struct Index {
     pub index: usize,
 }
 
-// What a move does: it is refused, it changes the new path or leaves it as it is, or it ends the round.
+// What a move does: it is refused, it changes the new path or leaves it as it is, or it ends the round, blocked by a train.
 pub enum Effect {
     Refused(u32),
     Push(DispNode),
     Pop,
     Stay,
-    GiveUp,
+    GiveUp(TrainIdx),
 }
 
 pub struct Moved {

@@ -8,21 +8,23 @@ use crate::look::Here;
 use crate::views;
 use disp_structs::EstTime;
 use disp_structs::LinkEvent;
+use disp_structs::TrainIdxsView;
 use disp_structs::events;
 use free_path::columns;
 use free_path::train_idxs_view;
 use free_path::train_idxs_view::Union;
 use image::codec;
+use link_rules::link_idx::TrainIdx;
 ghost use mathlib.Core.Path.{_≡_};
 ghost use mathlib.Core.Bool.{cond};
 ghost use mathlib.Core.List.{List};
 ghost use lib.Dec.{ltb};
 ghost use Prim.Native.Nat.{ℕ, _+_, _≤_};
-ghost use lib.ListN.{length};
+ghost use lib.ListN.{length, take};
 ghost use Rattle.disp_structs.specs.Train.{Train};
 ghost use Rattle.free_path.specs.Base.{walkBack};
-ghost use Rattle.free_path.specs.Columns.{answer};
-ghost use Rattle.update_definition.specs.Moves.{notFake, shiftSave, rewindDivs, oneBack};
+ghost use Rattle.free_path.specs.Columns.{answer, trains};
+ghost use Rattle.update_definition.specs.Moves.{notFake, shiftSave, holderOf, rewindDivs, oneBack};
 ghost use Rattle.search.specs.Read.{divsOf, viewsOf, pathOf, roundOf, arrays, Small, Lent};
 ghost use Rattle.search.specs.Effects.{Sized, SavesAt, RewindsView, GivesUp, Keeping, CountedMoveIs, Rewinds};
 
@@ -119,6 +121,20 @@ fn rewind_view(
     train_idxs_view::concat_train_idx_views(pool, len, v, w)
 }
 
+// The first train of a view over the first len trains of the pool, 0 where there is none.
+fn holder_of(pool: &[u32], len: usize, v: TrainIdxsView) -> TrainIdx
+    ensures { λ t. ⌜ t ≡ holderOf (record { pool = take len (trains (now (pool .entry))); made = v }) ⌝ }
+{
+    let i = v.idx_begin as usize;
+    if v.idx_end <= v.idx_begin {
+        return TrainIdx(0);
+    }
+    if len <= i {
+        return TrainIdx(0);
+    }
+    TrainIdx(columns::u32_of(pool, i))
+}
+
 // ---- the new diverge nodes
 
 // Those at the join go: how many are left.
@@ -147,8 +163,8 @@ fn left_at(d: usize, join: usize, k: usize) -> Index
 
 // ---- one dispatch node back
 
-fn give_up(h: Here, p: Place) -> Moved
-    ensures { λ x. ⌜ GivesUp h p x ⌝ }
+fn give_up(h: Here, holder: TrainIdx, p: Place) -> Moved
+    ensures { λ x. ⌜ GivesUp h holder p x ⌝ }
 {
     if p.div_count != 1 {
         return Moved {
@@ -163,14 +179,14 @@ fn give_up(h: Here, p: Place) -> Moved
         };
     }
     Moved {
-        effect: Effect::GiveUp,
+        effect: Effect::GiveUp(holder),
         place: p,
     }
 }
 
-fn one_back(r: Round, h: Here, p: Place) -> Moved
+fn one_back(r: Round, h: Here, holder: TrainIdx, p: Place) -> Moved
     requires { ⌜ Small p ⌝ }
-    ensures { λ x. ⌜ Keeping r p x ((t : Train) (occ img dt dn : List ℕ) → CountedMoveIs oneBack (roundOf t occ img dt dn r) h p x) ⌝ }
+    ensures { λ x. ⌜ Keeping r p x ((t : Train) (occ img dt dn : List ℕ) → CountedMoveIs (λ R H s. oneBack R H holder s) (roundOf t occ img dt dn r) h p x) ⌝ }
 {
     if p.new_count != 0 {
         return Moved {
@@ -180,7 +196,7 @@ fn one_back(r: Round, h: Here, p: Place) -> Moved
     }
     let cur = h.disp_node_curr;
     if p.idx_split <= 1 {
-        return give_up(h, p);
+        return give_up(h, holder, p);
     }
     if r.offset_cancel.0 < cur.offset.0 {
         let mut q = p;
@@ -190,7 +206,7 @@ fn one_back(r: Round, h: Here, p: Place) -> Moved
             place: q,
         };
     }
-    give_up(h, p)
+    give_up(h, holder, p)
 }
 
 pub(crate) fn rewind(
@@ -230,10 +246,11 @@ pub(crate) fn rewind(
     }
     let cur = h.disp_node_curr;
     let v = u.view;
+    let holder = holder_of(pool, u.len, v);
     views::put_view(begins, ends, r.est_count, cur.est_idx, v);
     let mut q = p;
     q.idx_save = save.index;
     q.pool_count = u.len;
     q.div_count = k.index;
-    one_back(r, h, q)
+    one_back(r, h, holder, q)
 }

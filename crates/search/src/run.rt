@@ -103,7 +103,7 @@ fn next_of(effect: Effect, curr: DispNode, k: usize) -> Next
         Effect::Push(n) => goes_on(n, k + 1),
         Effect::Pop => goes_on(curr, one_less(k)),
         Effect::Stay => goes_on(curr, k),
-        Effect::GiveUp => stops(curr),
+        Effect::GiveUp(holder) => stops(curr),
     }
 }
 

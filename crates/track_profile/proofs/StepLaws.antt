@@ -29,6 +29,7 @@ use Rattle.image.specs.Codec.{decoded}
 use Rattle.image_fault.specs.ImageFault.{imageFault}
 use Rattle.image_fault.proofs.AcceptLaws as Clean
 use Rattle.update_laws.specs.AfterRound.{Leaves}
+use Rattle.update_laws.specs.FitsGood.{TrainFits}
 use Rattle.update_laws.proofs.Updates.{StaysFit}
 use Rattle.update_definition.specs.UpdateImage.{UpdatedImage, callFault, linkIdxs, answerBy, updateFault, updatedImage}
 use Rattle.update_laws.proofs.PathReads.{listed-read, read-listed}
@@ -107,7 +108,7 @@ module _ (a b : DispNode) (x y : EstTime) (h : badStep a b x y ≡ false) where
 
 abbrev isSuccess : Status → Bool
 isSuccess Success = true
-isSuccess Blocked = false
+isSuccess (Blocked holder) = false
 isSuccess (Faulty n) = false
 isSuccess (Refused r) = false
 
@@ -128,7 +129,7 @@ module _ (g : Given) (was : Train) where
   unfolding afterRound
   after-right (no n) next w f h = other-no (Refused (refused n 0)) refl h
   after-right (ok atEnd) next w f h = finish-right (faultsOf g (w .train)) (counted (w .tally) (straysOf g (w .train))) (w .train) refl h
-  after-right (ok (blockedAt t)) next w f h = other-no Blocked refl h
+  after-right (ok (blockedAt t holder)) next w f h = other-no (Blocked holder) refl h
   after-right (ok (again t split k)) next w f h = f _ h
 
   cond-right : (b : Bool) (u v : Updated) → Right u → Right v → Right (cond b u v)
@@ -211,7 +212,7 @@ module _ (img occ blocking : List ℕ) (moved : ℕ) (local : Bool) (limit : ℕ
   success-ests b top low w h =
       let k = success-told h in
       let c = Clean.or-else-clean (callFault occ blocking moved limit) (imageFault img (length occ)) (k .0) .1 in
-      let f = subst (λ (s : Status). Leaves (StaysFit (length occ) (largestTrain img) (decoded img)) (decoded img) s (train-left .train)) (k .1) (leaves img (length occ) b c occ blocking moved local limit top low w) in
+      let f = subst (λ (s : Status). Leaves (StaysFit (length occ) (largestTrain img) (decoded img)) (TrainFits (largestTrain img)) (decoded img) s (train-left .train)) (k .1) (leaves img (length occ) b c occ blocking moved local limit top low w) in
       ap (λ (t : Train). t .«est_times») (left-holds img occ blocking moved local limit b top low w (k .0)) ∙ f .stays .same .ests
 
   -- needed of the image before are its est distances alone, of the image after its offsets

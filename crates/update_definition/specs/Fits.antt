@@ -5,6 +5,7 @@ use mathlib.Core.List.{List}
 use lib.Dec.{T}
 use lib.ListN.{getD}
 use lib.Ieee.{binary64, fits}
+use Rattle.link_rules.specs.declared.link_idx.TrainIdx.{TrainIdx}
 use Rattle.disp_structs.specs.Train.{Train}
 use Rattle.disp_structs.specs.declared.EstTime.{EstTime}
 use Rattle.disp_structs.specs.declared.DispNode.{DispNode}
@@ -26,11 +27,15 @@ pub record NodeFits (n : DispNode) : Type 0 where
   pub time-fits : T (fits binary64 (n .«time_pass» .0))
   pub auth : n .«disp_auth_idx_entry» < 65536
 
--- the whole train; no diverge node has a train above top
-pub record Fits (top : ℕ) (t : Train) : Type 0 where
+-- the whole train; P holds of the train of each diverge node
+pub record FitsWith (P : TrainIdx → Type 0) (t : Train) : Type 0 where
   pub ests : Each (λ (x : EstTime). T (fits binary64 (x .«dist_to_next» .0))) (t .«est_times»)
   pub nodes : Each NodeFits (t .«disp_path»)
-  pub divs : Each (λ (d : DivergeNode). d .«train_idx» .0 ≤ top) (t .«div_nodes»)
+  pub divs : Each (λ (d : DivergeNode). P (d .«train_idx»)) (t .«div_nodes»)
   pub train : t .«train_idx» .0 < 65536
   pub search : T (fits binary64 (t .«dist_disp_path_search» .0))
   pub fixedMax : T (fits binary64 (t .«dist_fixed_max» .0))
+
+-- no diverge node has a train above top
+abbrev pub Fits : ℕ → Train → Type 0
+Fits top t = FitsWith (λ (x : TrainIdx). x .0 ≤ top) t

@@ -1,11 +1,11 @@
 -- The moves of the search, all but the join (free_path.rs 419-573). Assumes nothing.
 use Prim.Native.Nat.{ℕ, _+_, _-_}
 use mathlib.Core.Bool.{Bool, cond, not, _&&_}
-use mathlib.Core.List.{List, _++_}
+use mathlib.Core.List.{List, [], _∷_, _++_}
 use lib.Dec.{ltb, leb, eqb}
 use lib.Ieee.{lt}
 use lib.ListN.{length, take, drop}
-use Rattle.link_rules.specs.LinkIdx.{noLink}
+use Rattle.link_rules.specs.LinkIdx.{noLink, noTrain}
 use Rattle.link_rules.specs.declared.link_idx.TrainIdx.{TrainIdx}
 use Rattle.disp_structs.specs.Values.{sameEst, noEst, isFake, sameEvent, plus, near, never, view}
 use Rattle.disp_structs.specs.declared.EstIdx.{EstIdx}
@@ -15,7 +15,7 @@ use Rattle.disp_structs.specs.declared.EstTime.{EstTime}
 use Rattle.disp_structs.specs.declared.DispNode.{DispNode}
 use Rattle.disp_structs.specs.declared.DivergeNode.{DivergeNode}
 use Rattle.disp_structs.specs.declared.TrainIdxsView.{TrainIdxsView}
-use Rattle.free_path.specs.Base.{Res, ok, _>>=_, _>>_, need, room, at, popped, isEmpty, slice, walkFrom, walkBack}
+use Rattle.free_path.specs.Base.{Res, ok, _>>=_, _>>_, need, room, at, popped, isEmpty, part, slice, walkFrom, walkBack}
 use Rattle.free_path.specs.LinkOptType.{least}
 use Rattle.free_path.specs.TrainIdxsView.{Pooled, concatTrainIdxViews}
 use Rattle.update_definition.specs.State.{Round, Search, Turn, goOn, ends, blockedAt, again, setSplit, setSave, setFree, setNew, setDivsNew, setPool, setView, viewOf, pushNode, pushDivs, diverging, withFree, withDivNodes}
@@ -50,6 +50,17 @@ rewindView e views pool =
     let both = concatTrainIdxViews pool (viewOf views (e .«idx_next»)) (viewOf views (e .«idx_next_alt»)) in
     cond (sameEst (e .«idx_next_alt») noEst) (ok (record { pool = pool; made = viewOf views (e .«idx_next») })) both
 
+-- the first of some trains, 0 where there are none
+abbrev pub firstTrain : List TrainIdx → TrainIdx
+firstTrain [] = noTrain
+firstTrain (t ∷ ts) = t
+
+-- who holds a train that is Blocked (document 02, Q-3): the first train of the view that was last given to an est node. A view is given to the
+-- next est at 380 (stored trains), 404 (an occupied link) and 559 (none), and to the current one at 437. Blocked is returned at 471 alone, where
+-- 437 ran in the same turn and after the others: the last view is that of rewindView, over the pool as it was before 470 empties it
+abbrev pub holderOf : Pooled → TrainIdx
+holderOf p = firstTrain (part (p .made .«idx_begin») (p .made .«idx_end») (p .pool))
+
 -- new diverge nodes at the join go (449-455)
 unfoldable pub rewindDivs : ℕ → List DivergeNode → Res (List DivergeNode)
 rewindDivs join divs = do
@@ -59,16 +70,16 @@ rewindDivs join divs = do
   ok (take (k + 1) divs)
 
 -- rewinding is not possible (464-471)
-abbrev pub giveUp : Round → Here → Search → Res Turn
-giveUp r h s = do
+abbrev pub giveUp : Round → Here → TrainIdx → Search → Res Turn
+giveUp r h holder s = do
   need (eqb (length (s .«div_nodes_new»)) 1)
   need (eqb (h .«idx_join_new») (s .«idx_split»))
-  ok (ends (blockedAt (withFree (r .train) (r .train .«disp_node_idx_fixed»))))
+  ok (ends (blockedAt (withFree (r .train) (r .train .«disp_node_idx_fixed»)) holder))
 
 -- one dispatch node back (458-472)
-unfoldable pub oneBack : Round → Here → Search → Res Turn
-oneBack r h s =
-    let stop = giveUp r h s in
+unfoldable pub oneBack : Round → Here → TrainIdx → Search → Res Turn
+oneBack r h holder s =
+    let stop = giveUp r h holder s in
     cond (not (isEmpty (s .«disp_path_new»))) (ok (goOn (setNew s (popped (s .«disp_path_new»)))))
     (cond (lt (r .«offset_cancel» .0) (h .«disp_node_curr» .offset .0) && ltb 1 (s .«idx_split»)) (ok (goOn (setSplit s (s .«idx_split» - 1)))) stop)
 
@@ -78,7 +89,7 @@ rewind r h s = do
   save ← cond (shifts h s) shifted (ok (s .«idx_save»))
   p ← rewindView (h .«est_curr») (s .views) (s .«train_idxs_blocking»)
   divs ← rewindDivs (h .«idx_join_new») (s .«div_nodes_new»)
-  oneBack r h (setDivsNew (setView (setPool (setSave s save) (p .pool)) (h .«disp_node_curr» .«est_idx») (p .made)) divs)
+  oneBack r h (holderOf p) (setDivsNew (setView (setPool (setSave s save) (p .pool)) (h .«disp_node_curr» .«est_idx») (p .made)) divs)
 
 -- ---- Alternate (476-500)
 

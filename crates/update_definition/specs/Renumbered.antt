@@ -5,13 +5,13 @@ use mathlib.Core.List.{List, map}
 use Prim.Native.Nat.{ℕ, _-_, _≤_, _<_}
 use lib.ListN.{length}
 use Rattle.link_rules.specs.LinkIdx.{noLink, occupied}
-use Rattle.link_rules.specs.Renumbering.{Renumbering, rLink}
+use Rattle.link_rules.specs.Renumbering.{Renumbering, rLink, rTrain}
 use Rattle.link_rules.specs.Matching.{OccupanciesMatch}
 use Rattle.link_rules.specs.declared.link_idx.LinkIdx.{LinkIdx}
 use Rattle.disp_structs.specs.Renumbered.{rTrainDisp}
 use Rattle.free_path.specs.LinkOptType.{contains}
 use Rattle.free_path.specs.AnyOrder.{Perm}
-use Rattle.update_definition.specs.Update.{Updated}
+use Rattle.update_definition.specs.Update.{Status, Success, Blocked, Faulty, Refused, Answer, Updated, answerOf}
 
 -- the occupancy and the blocking list of an update, and those of it over the second numbering; top is the largest train
 pub record TwoNumberings (top : ℕ) (p q : ℕ → ℕ) (occ occ′ : List ℕ) (blocking blocking′ : List LinkIdx) : Type 0 where
@@ -28,6 +28,17 @@ pub record TwoNumberings (top : ℕ) (p q : ℕ → ℕ) (occ occ′ : List ℕ)
   -- entry 0 of the occupancy is empty
   pub zero-empty : occupied occ noLink ≡ false
 
--- the same answer, and the renumbered train
+-- the same status, Blocked by the renumbered train
+abbrev pub rStatus : (ℕ → ℕ) → Status → Status
+rStatus q Success = Success
+rStatus q (Blocked holder) = Blocked (rTrain q holder)
+rStatus q (Faulty n) = Faulty n
+rStatus q (Refused r) = Refused r
+
+-- and the same counts
+abbrev pub rAnswer : (ℕ → ℕ) → Answer → Answer
+rAnswer q a = answerOf (rStatus q (a .status)) (a .tally)
+
+-- the renumbered answer, and the renumbered train
 abbrev pub rUpdated : (ℕ → ℕ) → (ℕ → ℕ) → Updated → Updated
-rUpdated p q u = record { answer = u .answer; train = rTrainDisp p q (u .train) }
+rUpdated p q u = record { answer = rAnswer q (u .answer); train = rTrainDisp p q (u .train) }

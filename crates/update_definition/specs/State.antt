@@ -146,10 +146,10 @@ setPool s x = record { «idx_split» = s .«idx_split»; «div_idx_split» = s .
 abbrev pub setView : Search → EstIdx → TrainIdxsView → Search
 setView s e v = record { «idx_split» = s .«idx_split»; «div_idx_split» = s .«div_idx_split»; «idx_save» = s .«idx_save»; «disp_node_idx_free» = s .«disp_node_idx_free»; «disp_path_new» = s .«disp_path_new»; «div_nodes_new» = s .«div_nodes_new»; «train_idxs_blocking» = s .«train_idxs_blocking»; views = set (s .views) (e .0) v }
 
--- how a round ends: at the end of the path (309), Blocked (471), or with a splice, the next idx_split and div_idx_split (531, 631)
+-- how a round ends: at the end of the path (309), Blocked by a train (471), or with a splice, the next idx_split and div_idx_split (531, 631)
 pub data Ended : Type 0 where
   atEnd : Ended
-  blockedAt : Train → Ended
+  blockedAt : Train → TrainIdx → Ended
   again : Train → ℕ → ℕ → Ended
 
 -- what a turn of the search gives: it goes on, or the round ends

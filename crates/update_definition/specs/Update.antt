@@ -200,7 +200,8 @@ roundSteps g t split divSplit = stepsIn g t (beginOf g t split divSplit)
 
 pub data Status : Type 0 where
   Success : Status
-  Blocked : Status
+  -- by a train
+  Blocked : TrainIdx → Status
   Faulty : ℕ → Status
   Refused : Refusal → Status
 
@@ -243,9 +244,16 @@ statusOf (suc n) = Faulty (suc n)
 -- the errors that a status tells
 abbrev pub faultsIn : Status → ℕ
 faultsIn Success = 0
-faultsIn Blocked = 0
+faultsIn (Blocked holder) = 0
 faultsIn (Faulty n) = n
 faultsIn (Refused r) = 0
+
+-- the train by which it is Blocked, else 0
+abbrev pub holderIn : Status → ℕ
+holderIn Success = 0
+holderIn (Blocked holder) = holder .0
+holderIn (Faulty n) = 0
+holderIn (Refused r) = 0
 
 -- ---- the loop over rounds (278-637)
 
@@ -266,7 +274,7 @@ finish (no n) tally was t = refused n tally was
 unfoldable pub afterRound : Res Ended → (Between → Updated) → Given → Train → Between → Updated
 afterRound (no n) next g was w = refused n (counted (w .tally) 0) was
 afterRound (ok atEnd) next g was w = finish (faultsOf g (w .train)) (counted (w .tally) (straysOf g (w .train))) was (w .train)
-afterRound (ok (blockedAt t)) next g was w = answered Blocked (counted (w .tally) 0) t
+afterRound (ok (blockedAt t holder)) next g was w = answered (Blocked holder) (counted (w .tally) 0) t
 afterRound (ok (again t split divSplit)) next g was w = next (between t split divSplit (counted (w .tally) (straysOf g t)))
 
 -- the entries into the search loop of its round are counted, however the round ends

@@ -44,7 +44,7 @@ callFault occ blocking moved limit =
 -- a refusal leaves the image, every other answer stores the train
 abbrev pub leftImage : Status → Train → List ℕ → List ℕ
 leftImage Success t img = storedInto t img
-leftImage Blocked t img = storedInto t img
+leftImage (Blocked holder) t img = storedInto t img
 leftImage (Faulty n) t img = storedInto t img
 leftImage (Refused r) t img = img
 

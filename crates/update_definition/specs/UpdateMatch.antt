@@ -8,6 +8,7 @@ use Rattle.link_rules.specs.Matching.{OccupanciesMatch}
 use Rattle.free_path.specs.AnyOrder.{Perm}
 use Rattle.image.specs.ImageMatch.{ImagesMatch}
 use Rattle.update_definition.specs.UpdateImage.{UpdatedImage}
+use Rattle.update_definition.specs.Renumbered.{rAnswer}
 
 -- what two calls are given beside the image: occupancies and blocking lists; the moved train is renumbered, all else is the same
 -- top is the largest train
@@ -20,7 +21,7 @@ pub record GivenMatch (top : ℕ) (p q : ℕ → ℕ) (occ occ′ blocking block
   -- the renumbered links, in any order, repeats kept
   pub order : Perm ℕ (map p blocking) blocking′
 
--- the same answer, its status with number and place; the images that are left match
+-- the same answer, its status with number and place, but the renumbered holder; the images that are left match
 pub record UpdatesMatch (p q : ℕ → ℕ) (a b : UpdatedImage) : Type 0 where
-  pub answer : b .answer ≡ a .answer
+  pub answer : b .answer ≡ rAnswer q (a .answer)
   pub images : ImagesMatch p q (a .image) (b .image)

@@ -41,13 +41,13 @@ judged-some c n q z = rw q (go n z)
 module _ (t : Train) (img : List ℕ) where
   pub left-refused : (s : Status) → isRefusal s ≡ true → img ≡ leftImage (statusOf s) t img
   left-refused Success e = absurd (false≢true e)
-  left-refused Blocked e = absurd (false≢true e)
+  left-refused (Blocked holder) e = absurd (false≢true e)
   left-refused (Faulty n) e = absurd (false≢true e)
   left-refused (Refused r) e = refl
 
   pub left-done : (s : Status) → isRefusal s ≡ false → storedInto t img ≡ leftImage (statusOf s) t img
   left-done Success e = refl
-  left-done Blocked e = refl
+  left-done (Blocked holder) e = refl
   left-done (Faulty n) e = refl
   left-done (Refused r) e = absurd (false≢true (sym e))
 
@@ -57,16 +57,16 @@ done-stop s (Stops.Refused c) f e q = absurd (false≢true (sym q ∙ told s ∙
   where
     told-of : Update.Status → Bool
     told-of Update.Success = false
-    told-of Update.Blocked = false
+    told-of (Update.Blocked holder) = false
     told-of (Update.Faulty n) = false
     told-of (Update.Refused r) = true
 
     told : (s : Status) → isRefusal s ≡ told-of (statusOf s)
     told Success = refl
-    told Blocked = refl
+    told (Blocked holder) = refl
     told (Faulty n) = refl
     told (Refused r) = refl
-done-stop s Stops.Blocked f e q = refl
+done-stop s (Stops.Blocked holder) f e q = refl
 done-stop s Stops.Ended f e q = refl
 
 -- the answer and the image, as the definition has them
@@ -77,7 +77,7 @@ module _ (tally : Tally) (was t : Train) (img : List ℕ) where
   by-stop : (stop : Stop) (f : Res ℕ) → left (statusBy stop f) (faulted tally (Update.faultsIn (statusBy stop f))) (leftImage (statusBy stop f) t img) ≡ storedAnswer (ranBy stop f tally was t) img
   unfolding Update.finish
   by-stop (Stops.Refused c) f = ap (λ (y : Tally). left (Update.Refused (refused c 0)) y img) (faulted-none tally)
-  by-stop Stops.Blocked f = ap (λ (y : Tally). left Update.Blocked y (storedInto t img)) (faulted-none tally)
+  by-stop (Stops.Blocked holder) f = ap (λ (y : Tally). left (Update.Blocked holder) y (storedInto t img)) (faulted-none tally)
   by-stop Stops.Ended (ok zero) = refl
   by-stop Stops.Ended (ok (suc n)) = refl
   by-stop Stops.Ended (no n) = ap (λ (y : Tally). left (Update.Refused (refused n 0)) y img) (faulted-none tally)

@@ -20,6 +20,7 @@ use Rattle.splice.specs.Read.{trainOf}
 use Rattle.update_definition.specs.State.{withDivNodes}
 use Rattle.update_definition.specs.Update.{adjustSentinel}
 use Rattle.update_definition.specs.Fits.{Fits}
+use Rattle.update_laws.specs.FitsGood.{TrainFits}
 use Rattle.update_laws.proofs.Updates.{adjusted-fits}
 
 -- ---- diverge nodes
@@ -71,7 +72,7 @@ unfolding trainOf decoded pathHeader
 start-train img dt dn moved h = rw h
 
 pub start-fits : (top : ℕ) (img : List ℕ) (moved : TrainIdx) → Fits top (decoded img) → moved .0 ≤ top → Fits top (withDivNodes (decoded img) (adjustSentinel moved (decoded img .«div_nodes»)))
-start-fits top img moved f h = record { ests = f .ests; nodes = f .nodes; divs = adjusted-fits top moved (decoded img .«div_nodes») h (f .divs); train = f .train; search = f .search; fixedMax = f .fixedMax }
+start-fits top img moved f h = record { ests = f .ests; nodes = f .nodes; divs = adjusted-fits (TrainFits top) moved (decoded img .«div_nodes») h (f .divs); train = f .train; search = f .search; fixedMax = f .fixedMax }
 
 -- ---- the bytes of an accepted image
 

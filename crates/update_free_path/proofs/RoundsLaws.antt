@@ -27,6 +27,7 @@ use Rattle.update_definition.specs.Update as Update
 use Rattle.update_definition.specs.Accepted.{Accepted}
 use Rattle.update_definition.specs.Fits.{Fits}
 use Rattle.update_laws.proofs.Rounds.{round-good}
+use Rattle.update_laws.specs.FitsGood.{TrainFits}
 use Rattle.update_laws.proofs.Updates.{round-fits}
 use Rattle.update_laws.proofs.Steps.{round-few, round-answers}
 use Rattle.update_laws.specs.AfterRound.{StaysAccepted, NextRound}
@@ -82,7 +83,7 @@ module _ (g : Update.Given) (was : Train) (w : Update.Between) where
         ∙ ap (λ (z : ℕ). Update.finish (Update.faultsOf g (w .train)) (counted (stepped (w .tally) took) z) was (w .train)) q
         ∙ ap (λ x. Update.afterRound x (λ y. Update.roundsFrom k g was y) g was (Update.searched g w)) e
         ∙ entered
-    stops-at Ends.Blocked u h i j s a e l q = ap (λ x. Update.afterRound x (λ y. Update.roundsFrom k g was y) g was (Update.searched g w)) e ∙ entered
+    stops-at (Ends.Blocked holder) u h i j s a e l q = ap (λ x. Update.afterRound x (λ y. Update.roundsFrom k g was y) g was (Update.searched g w)) e ∙ entered
     stops-at Ends.Again u h i j s a e l q = absurd (false≢true a)
 
     rounds-stop : (e : End) (u : Train) (h : PathHeader) (i j n s : ℕ) → isLast e ≡ true → endBy e u i j ≡ rounded → (isAtEnd e ≡ true → u ≡ w .train) → n ≡ took → s ≡ Update.straysOf g (w .train)
@@ -139,13 +140,13 @@ due-same img dt dn w = ap (λ (n : ℕ). ltb (w .split) n) (listed-length (w .he
 again-end : (e : End) (t : Train) (i j : ℕ) → isLast e ≡ false → endBy e t i j ≡ ok (again t i j)
 again-end (Ends.Refused c) t i j a = absurd (false≢true (sym a))
 again-end Ends.AtEnd t i j a = absurd (false≢true (sym a))
-again-end Ends.Blocked t i j a = absurd (false≢true (sym a))
+again-end (Ends.Blocked holder) t i j a = absurd (false≢true (sym a))
 again-end Ends.Again t i j a = refl
 
 pub kept-goes : (e : End) → isLast e ≡ false → Rounds.endRefused e ≡ false
 kept-goes (Ends.Refused c) a = absurd (false≢true (sym a))
 kept-goes Ends.AtEnd a = refl
-kept-goes Ends.Blocked a = refl
+kept-goes (Ends.Blocked holder) a = refl
 kept-goes Ends.Again a = refl
 
 -- ---- a round of the train of an image
@@ -158,19 +159,19 @@ stopped-at : (occ img dt dn : List ℕ) (g : Given) (blocking start : List LinkI
 unfolding trainOf
 stopped-at occ img dt dn g blocking start was (Ends.Refused c) h n m s = refl
 stopped-at occ img dt dn g blocking start was Ends.AtEnd h n m s = refl
-stopped-at occ img dt dn g blocking start was Ends.Blocked h n m s = refl
+stopped-at occ img dt dn g blocking start was (Ends.Blocked holder) h n m s = refl
 stopped-at occ img dt dn g blocking start was Ends.Again h n m s = refl
 
 stop-refused : (e : End) (h : PathHeader) (n : Tally) (m s : ℕ) → stopRefused (stoppedBy e h n m s .stop) ≡ false → Rounds.endRefused e ≡ false
 stop-refused (Ends.Refused c) h n m s q = absurd (false≢true (sym q))
 stop-refused Ends.AtEnd h n m s q = refl
-stop-refused Ends.Blocked h n m s q = refl
+stop-refused (Ends.Blocked holder) h n m s q = refl
 stop-refused Ends.Again h n m s q = refl
 
 stop-faultless : (e : End) (h : PathHeader) (n : Tally) (m s : ℕ) → n .faults ≡ 0 → stoppedBy e h n m s .tally .faults ≡ 0
 stop-faultless (Ends.Refused c) h n m s q = q
 stop-faultless Ends.AtEnd h n m s q = q
-stop-faultless Ends.Blocked h n m s q = q
+stop-faultless (Ends.Blocked holder) h n m s q = q
 stop-faultless Ends.Again h n m s q = q
 
 module _ (occ img col on dt dn flags : List ℕ) (g : Given) (w : Between) (t : Top occ img col on dt dn w) where
@@ -202,7 +203,7 @@ module _ (occ img col on dt dn flags : List ℕ) (g : Given) (w : Between) (t : 
       next-accepted = good .0 .accepted
 
       next-fits : Fits (t .held .top) train′
-      next-fits = round-fits (length occ) (t .held .top) (given [] []) train (w .split) (w .«div_split») (again train′ (x .split) (x .«div_split»)) (t .held .accepted) (t .held .fits) (t .held .trains) (t .split-low) (t .div-low) (goes [] [])
+      next-fits = round-fits (length occ) (TrainFits (t .held .top)) (omega arith) (given [] []) train (w .split) (w .«div_split») (again train′ (x .split) (x .«div_split»)) (t .held .accepted) (t .held .fits) (t .held .trains) (t .split-low) (t .div-low) (goes [] [])
 
       -- the next round finds what this one found
       pub next-top : Kept img′ img → (col′ on′ : List ℕ) → listed (x .header .«path_count») (linkAt col′) ≡ linkIdxPath (pathOf img′ (x .header .«path_count»)) → Marked on′ (pathOf img′ (x .header .«path_count»))

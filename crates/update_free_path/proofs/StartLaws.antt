@@ -47,7 +47,7 @@ use Rattle.update_free_path.proofs.RoundsLaws.{strays-are}
 status-ran : (stop : Stop) (f : Res ℕ) (tally : Tally) (was t : Train) → ranBy stop f tally was t .answer .status ≡ statusBy stop f
 unfolding Update.finish
 status-ran (Stops.Refused c) f tally was t = refl
-status-ran Stops.Blocked f tally was t = refl
+status-ran (Stops.Blocked holder) f tally was t = refl
 status-ran Stops.Ended (ok n) tally was t = refl
 status-ran Stops.Ended (no n) tally was t = refl
 

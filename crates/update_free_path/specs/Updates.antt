@@ -44,7 +44,7 @@ use Rattle.update_free_path.specs.declared.answer.Updated.{Updated}
 
 abbrev pub statusOf : Status → Update.Status
 statusOf Success = Update.Success
-statusOf Blocked = Update.Blocked
+statusOf (Blocked holder) = Update.Blocked holder
 statusOf (Faulty n) = Update.Faulty n
 statusOf (Refused r) = Update.Refused r
 
@@ -57,7 +57,7 @@ updatedOf x img = record { answer = answerOf x; image = img }
 
 abbrev pub isRefusal : Status → Bool
 isRefusal Success = false
-isRefusal Blocked = false
+isRefusal (Blocked holder) = false
 isRefusal (Faulty n) = false
 isRefusal (Refused r) = true
 
@@ -74,18 +74,18 @@ judgedBy (no n) = Update.Refused (refused n 0)
 -- f are the errors of the train that is left
 abbrev pub statusBy : Stop → Res ℕ → Update.Status
 statusBy (Stops.Refused c) f = Update.Refused (refused c 0)
-statusBy Stops.Blocked f = Update.Blocked
+statusBy (Stops.Blocked holder) f = Update.Blocked holder
 statusBy Stops.Ended f = judgedBy f
 
 -- the same with the train t that is left, was being the train before the update
 abbrev pub ranBy : Stop → Res ℕ → Tally → Train → Train → Update.Updated
 ranBy (Stops.Refused c) f tally was t = Update.refused c tally was
-ranBy Stops.Blocked f tally was t = Update.answered Update.Blocked tally t
+ranBy (Stops.Blocked holder) f tally was t = Update.answered (Update.Blocked holder) tally t
 ranBy Stops.Ended f tally was t = Update.finish f tally was t
 
 abbrev pub stopRefused : Stop → Bool
 stopRefused (Stops.Refused c) = true
-stopRefused Stops.Blocked = false
+stopRefused (Stops.Blocked holder) = false
 stopRefused Stops.Ended = false
 
 -- a refusal that it may give has room in its field
@@ -116,7 +116,7 @@ dueAt w = ltb (w .split) (w .header .«path_count»)
 abbrev pub isLast : End → Bool
 isLast (Ends.Refused c) = true
 isLast Ends.AtEnd = true
-isLast Ends.Blocked = true
+isLast (Ends.Blocked holder) = true
 isLast Ends.Again = false
 
 abbrev pub ranOf : Stop → PathHeader → Tally → Ran
@@ -126,7 +126,7 @@ ranOf stop h tally = record { stop = stop; header = h; tally = tally }
 abbrev pub stoppedBy : End → PathHeader → Tally → ℕ → ℕ → Ran
 stoppedBy (Ends.Refused c) h t n s = ranOf (Stops.Refused c) h (counted (stepped t n) 0)
 stoppedBy Ends.AtEnd h t n s = ranOf Stops.Ended h (counted (stepped t n) s)
-stoppedBy Ends.Blocked h t n s = ranOf Stops.Blocked h (counted (stepped t n) 0)
+stoppedBy (Ends.Blocked holder) h t n s = ranOf (Stops.Blocked holder) h (counted (stepped t n) 0)
 stoppedBy Ends.Again h t n s = ranOf Stops.Ended h (counted (stepped t n) 0)
 
 -- after a round that another may follow, s being the strays of the path that it left

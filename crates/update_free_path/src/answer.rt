@@ -3,6 +3,7 @@ use crate::rounds::Ran;
 use crate::rounds::Stop;
 use image::codec::PathHeader;
 use image_store;
+use link_rules::link_idx::TrainIdx;
 use link_rules::refusal::Refusal;
 use tally;
 use tally::Tally;
@@ -23,7 +24,8 @@ ghost use Rattle.update_free_path.specs.Updates.{statusOf, updatedOf, is
 
 pub enum Status {
     Success,
-    Blocked,
+    // By a train.
+    Blocked(TrainIdx),
     Faulty(u64),
     Refused(Refusal),
 }
@@ -73,7 +75,7 @@ fn status_by(img: &[u8], occ: &[u32], stop: Stop, h: PathHeader) -> Status
 {
     match stop {
         Stop::Refused(c) => refusal(c as u16),
-        Stop::Blocked => Status::Blocked,
+        Stop::Blocked(holder) => Status::Blocked(holder),
         Stop::Ended => judged(validate::validate_free_path(img, h.path_count, occ, h.free as u32)),
     }
 }
@@ -83,7 +85,7 @@ fn is_refusal(s: Status) -> bool
 {
     match s {
         Status::Success => false,
-        Status::Blocked => false,
+        Status::Blocked(holder) => false,
         Status::Faulty(n) => false,
         Status::Refused(r) => true,
     }
@@ -95,7 +97,7 @@ fn faults_in(s: Status) -> u64
 {
     match s {
         Status::Success => 0,
-        Status::Blocked => 0,
+        Status::Blocked(holder) => 0,
         Status::Faulty(n) => n,
         Status::Refused(r) => 0,
     }

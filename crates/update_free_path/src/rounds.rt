@@ -2,6 +2,7 @@
 use crate::path;
 use free_path::strays;
 use image::codec::PathHeader;
+use link_rules::link_idx::TrainIdx;
 use round::End;
 use round::Given;
 use round::RoundEnd;
@@ -31,10 +32,10 @@ pub struct Between {
     pub tally: Tally,
 }
 
-// How the loop stops: refused by a number, blocked, or with a path to validate.
+// How the loop stops: refused by a number, blocked by a train, or with a path to validate.
 pub enum Stop {
     Refused(u32),
-    Blocked,
+    Blocked(TrainIdx),
     Ended,
 }
 
@@ -67,7 +68,7 @@ fn is_last(end: End) -> bool
     match end {
         End::Refused(c) => true,
         End::AtEnd => true,
-        End::Blocked => true,
+        End::Blocked(holder) => true,
         End::Again => false,
     }
 }
@@ -99,7 +100,7 @@ fn stopped(w: Between, end: End, h: PathHeader, steps: u64, strays: usize) -> Ra
     match end {
         End::Refused(c) => ran_with(Stop::Refused(c), h, tallied(t, steps, 0)),
         End::AtEnd => ran_with(Stop::Ended, h, tallied(t, steps, strays)),
-        End::Blocked => ran_with(Stop::Blocked, h, tallied(t, steps, 0)),
+        End::Blocked(holder) => ran_with(Stop::Blocked(holder), h, tallied(t, steps, 0)),
         End::Again => ran_with(Stop::Ended, h, tallied(t, steps, 0)),
     }
 }

@@ -89,8 +89,8 @@ module _ (links : ℕ) (r : Round) (g : Accepted links (r .train)) (s : Search) 
       let z = ap (λ (y : List DispNode). length y) q in
       let old-div = take-below (c .size) (s .«div_nodes_new») i (ap (λ (y : List DivergeNode). at y i) (sym (c .is)) ∙ p) .1 in
       absurd (omega (arith, c .under i d p, k .divs-good .inner i d l old-div .low, st .join-is))
-  did-alt givesUp = tt
-  did-alt (alternates ts p b n f c w) = λ i d m x l a y z.
+  did-alt (givesUp w q) = tt
+  did-alt (alternates ts p b n f c w off) = λ i d m x l a y z.
       let alt = alternateNode (h .«disp_node_curr») (h .«est_curr» .«idx_next_alt») in
       let v = viewOf (s .views) (h .«est_curr» .«idx_next») in
       let some : Each SomeTrain ts = view-trains (s .«train_idxs_blocking») (v .«idx_begin») (v .«idx_end») (k .views-good .pool) (blocked-blocks v (k .views-good .each (h .«est_curr» .«idx_next» .0)) b .low) p in
@@ -149,7 +149,7 @@ module _ (links : ℕ) (r : Round) (g : Accepted links (r .train)) (s : Search) 
 
 pub looks-alt : (e : ℕ) (r : Round) (h : Here) {s u : Search} → ViewsGood e s → Looks r h s u → AltTaken r s → AltTaken r u
 looks-alt e r h v (passes d a b) o = λ i x n y j p q t. let w = o i x n y j p q t in record { above = w .above; at-end = w .at-end }
-looks-alt e r h {s} v (blocks d ts a b c t f) o = λ i x n y j p q z.
+looks-alt e r h {s} v (blocks d ts a b c t f some) o = λ i x n y j p q z.
     let w = o i x n y j p q z in
     record {
       above = w .above;

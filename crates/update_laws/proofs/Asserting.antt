@@ -95,8 +95,8 @@ module _ (r : Round) (h : Here) (s : Search) where
 did-strict : (r : Round) (h : Here) (s : Search) {t : Turn} → DivStrict r s → Did r h s t → After (DivStrict r) t
 did-strict r h s k (pops w n ns q) = k
 did-strict r h s k (shortens w q l) = k
-did-strict r h s k givesUp = tt
-did-strict r h s k (alternates ts p b n f c w) = k
+did-strict r h s k (givesUp w q) = tt
+did-strict r h s k (alternates ts p b n f c w off) = k
 did-strict r h s k (changes d b q) = tt
 did-strict r h s k (saves n m f l a w z) = k
 did-strict r h s k (empties f l) = k
@@ -107,7 +107,7 @@ did-strict r h s k (joins d b q) = tt
 
 looks-passed : (e : ℕ) (r : Round) (h : Here) {s u : Search} → ViewsGood e s → Looks r h s u → PassedBlocked r s → PassedBlocked r u
 looks-passed e r h v (passes d a b) k = k
-looks-passed e r h {s} v (blocks d ts a b c t f) k = λ i n l m p.
+looks-passed e r h {s} v (blocks d ts a b c t f some) k = λ i n l m p.
     still-blocked (s .views) (h .«est_curr» .«idx_next» .0) (view (length (s .«train_idxs_blocking»)) (length (s .«train_idxs_blocking») + length ts)) (n .«est_idx»)
     (blocks-blocked {n = length (s .«train_idxs_blocking») + length ts} (view (length (s .«train_idxs_blocking»)) (length (s .«train_idxs_blocking») + length ts)) (record { low = v .pool .some; order = omega arith; high = omega arith }))
     (k i n l m p)
@@ -126,8 +126,8 @@ module _ (e : ℕ) (r : Round) (h : Here) (s : Search) (v : ViewsGood e s) (st :
       (ap isBlocked (getD-set-same (s .views) (h .«disp_node_curr» .«est_idx» .0) (w .pooled .made) (view 0 0) (omega (arith, v .long))) ∙ blocks-blocked (w .pooled .made) (rewound-good e r h s v w .made)))
       (λ (z : i ≡ s .«idx_split» - 1 → ⊥). more-passed w k i n (omega (arith, z)) b p)
       (same-or-not i (s .«idx_split» - 1))
-  did-passed givesUp = tt
-  did-passed (alternates ts p b n f c w) = k
+  did-passed (givesUp w q) = tt
+  did-passed (alternates ts p b n f c w off) = k
   did-passed (changes d b q) = tt
   did-passed (saves n m f l a w z) = k
   did-passed (empties f l) = λ i n a b p. still-blocked (s .views) (h .«est_curr» .«idx_next» .0) (view 1 1) (n .«est_idx») refl (k i n a b p)
@@ -138,13 +138,13 @@ module _ (e : ℕ) (r : Round) (h : Here) (s : Search) (v : ViewsGood e s) (st :
 
 looks-split : (r : Round) (h : Here) {s u : Search} → Looks r h s u → u .«idx_split» ≡ s .«idx_split»
 looks-split r h (passes d a b) = refl
-looks-split r h (blocks d ts a b c t f) = refl
+looks-split r h (blocks d ts a b c t f some) = refl
 
 did-split : (r : Round) (h : Here) (s : Search) {t : Turn} → Did r h s t → After (λ u. u .«idx_split» ≤ s .«idx_split») t
 did-split r h s (pops w n ns q) = omega arith
 did-split r h s (shortens w q l) = omega arith
-did-split r h s givesUp = tt
-did-split r h s (alternates ts p b n f c w) = omega arith
+did-split r h s (givesUp w q) = tt
+did-split r h s (alternates ts p b n f c w off) = omega arith
 did-split r h s (changes d b q) = tt
 did-split r h s (saves n m f l a w z) = omega arith
 did-split r h s (empties f l) = omega arith

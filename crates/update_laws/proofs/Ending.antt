@@ -51,17 +51,17 @@ open-lt views x v e b l n f = count-lt e (openAt (set views x v)) (openAt views)
 module _ (e : ℕ) (r : Round) (h : Here) where
   looks-open : {s u : Search} → ViewsGood e s → Looks r h s u → count e (openAt (u .views)) ≤ count e (openAt (s .views))
   looks-open g (passes d a b) = omega arith
-  looks-open {s} g (blocks d ts a b c t f) = open-le (s .views) (h .«est_curr» .«idx_next» .0) (view (length (s .«train_idxs_blocking»)) (length (s .«train_idxs_blocking») + length ts)) e
+  looks-open {s} g (blocks d ts a b c t f some) = open-le (s .views) (h .«est_curr» .«idx_next» .0) (view (length (s .«train_idxs_blocking»)) (length (s .«train_idxs_blocking») + length ts)) e
       (blocks-blocked {n = length (s .«train_idxs_blocking») + length ts} (view (length (s .«train_idxs_blocking»)) (length (s .«train_idxs_blocking») + length ts)) (record { low = g .pool .some; order = omega arith; high = omega arith }))
 
   -- an est that is not the next one keeps its view
   looks-other : {s u : Search} (x : ℕ) → (x ≡ h .«est_curr» .«idx_next» .0 → ⊥) → Looks r h s u → getD (u .views) x (view 0 0) ≡ getD (s .views) x (view 0 0)
   looks-other x n (passes d a b) = refl
-  looks-other {s} x n (blocks d ts a b c t f) = getD-set-other (s .views) (h .«est_curr» .«idx_next» .0) x (view (length (s .«train_idxs_blocking»)) (length (s .«train_idxs_blocking») + length ts)) (view 0 0) n
+  looks-other {s} x n (blocks d ts a b c t f some) = getD-set-other (s .views) (h .«est_curr» .«idx_next» .0) x (view (length (s .«train_idxs_blocking»)) (length (s .«train_idxs_blocking») + length ts)) (view 0 0) n
 
   looks-join : {s u : Search} → Looks r h s u → (u .«idx_split» ≡ s .«idx_split») × (length (u .«disp_path_new») ≡ length (s .«disp_path_new»))
   looks-join (passes d a b) = (refl, refl)
-  looks-join (blocks d ts a b c t f) = (refl, refl)
+  looks-join (blocks d ts a b c t f some) = (refl, refl)
 
 -- ---- the moves
 
@@ -88,8 +88,8 @@ module _ (links : ℕ) (r : Round) (g : Accepted links (r .train)) where
         let c : depth s ≤ s .«idx_split» + length (popped (s .«disp_path_new»)) + 1 = omega arith in
         pop (rewound-less w) c
     did-moves (shortens w q l) = let c : depth s ≤ s .«idx_split» - 1 + length (s .«disp_path_new») + 1 = omega arith in pop (rewound-less w) c
-    did-moves givesUp = tt
-    did-moves (alternates ts p b n f c w) =
+    did-moves (givesUp w q) = tt
+    did-moves (alternates ts p b n f c w off) =
         let x = alternateNode (h .«disp_node_curr») (h .«est_curr» .«idx_next_alt») in
         let m = stack-room links r g s k h st x (alt-leads links r g s k h st x refl n) in
         let y : opens r s ≤ opens r s = omega arith in

@@ -1,5 +1,6 @@
--- An image can hold what an update leaves: floats and auth stay within their fields, trains up to the largest one, top. Assumes nothing.
-use mathlib.Core.Path.{_≡_, sym, ap, subst}
+-- An image can hold what an update leaves: floats and auth stay within their fields. Trains are among those that it met: P holds of those that it
+-- leaves and of the holder of a blocked one where it holds of those of the diverge nodes and the occupancy. Assumes nothing.
+use mathlib.Core.Path.{_≡_, refl, sym, ap, subst}
 use mathlib.Core.Logic.{⊎-elim}
 use mathlib.Core.Bool.{Bool, true, false, cond}
 use mathlib.Core.List.{List, [], _∷_, _++_}
@@ -19,7 +20,7 @@ use Rattle.free_path.specs.Base.{ok, at, last, popped, part, slice, any}
 use Rattle.free_path.specs.TrainIdxsView.{poolRoom, Pooled, poolPush, addOne, addFrom, closed, addBlockingTrains, addAllBlockingTrains, concatTrainIdxViews, covers, size}
 use Rattle.update_definition.specs.State.{Round, Search, Turn, goOn, Ended, viewOf, diverging}
 use Rattle.update_definition.specs.Look.{Here, current}
-use Rattle.update_definition.specs.Moves.{alternateNode, savedNode, advanceNode}
+use Rattle.update_definition.specs.Moves.{firstTrain, holderOf, alternateNode, savedNode, advanceNode}
 use Rattle.update_definition.specs.Update.{searchStep, searchFrom}
 use Rattle.update_definition.specs.Accepted.{Each, Accepted}
 use Rattle.update_definition.specs.Fits.{NodeFits}
@@ -28,7 +29,7 @@ use Rattle.update_laws.specs.Turns.Looks.{passes, blocks}
 use Rattle.update_laws.specs.Turns.Did.{pops, shortens, givesUp, alternates, changes, saves, empties, advances, joins}
 use Rattle.update_laws.specs.Good.{Good, stack}
 use Rattle.update_laws.specs.AfterRound.{AtEnd}
-use Rattle.update_laws.specs.FitsGood.{TrainFits, DivFits, RoundFits, SearchFits, EndsFit}
+use Rattle.update_laws.specs.FitsGood.{DivWith, RoundWith, SearchWith, EndsWith}
 use Rattle.update_laws.proofs.Answers.{ok-same, bind-ok, need-ok, room-ok, cond-cases, before-ok, slice-ok}
 use Rattle.update_laws.proofs.Lists.{at-last, at-map, at-set, each-append, each-one, each-take, each-drop}
 use Rattle.update_laws.proofs.NewDivs.{cut-is}
@@ -117,30 +118,37 @@ module _ (P : TrainIdx → Type 0) (none : P noTrain) where
       (λ c. concat-each (s .«train_idxs_blocking») (viewOf (s .views) (h .«est_curr» .«idx_next»)) (viewOf (s .views) (h .«est_curr» .«idx_next_alt»)) e (c .1))
       (cond-cases (sameEst (h .«est_curr» .«idx_next_alt») noEst) (w .pooled-is))
 
-diverging-fit : (top node : ℕ) (ts : List TrainIdx) → Each (TrainFits top) ts → Each (DivFits top) (diverging node ts)
+  first-each : (ts : List TrainIdx) → Each P ts → P (firstTrain ts)
+  unfolding at
+  first-each [] e = none
+  first-each (t ∷ ts) e = e 0 t refl
+
+  pub holder-each : (p : Pooled) → Each P (p .pool) → P (holderOf p)
+  holder-each p e =
+      let v = p .made in
+      first-each (part (v .«idx_begin») (v .«idx_end») (p .pool)) (each-take P (v .«idx_end» - v .«idx_begin») (drop (v .«idx_begin») (p .pool)) (each-drop P (v .«idx_begin») (p .pool) e))
+
+diverging-fit : (P : TrainIdx → Type 0) (node : ℕ) (ts : List TrainIdx) → Each P ts → Each (DivWith P) (diverging node ts)
 unfolding diverging
-diverging-fit top node ts e i d h =
+diverging-fit P node ts e i d h =
     let x = at-map {B = DivergeNode} (λ (t : TrainIdx). record { «train_idx» = t; «disp_node_idx» = node }) ts i h in
-    subst (λ (y : DivergeNode). DivFits top y) (x .2) (e i (x .0) (x .1))
+    subst (λ (y : DivergeNode). DivWith P y) (x .2) (e i (x .0) (x .1))
 
 -- ---- a turn
 
-module _ (top : ℕ) (r : Round) (g : RoundFits top r) where
+module _ (P : TrainIdx → Type 0) (none : P noTrain) (r : Round) (g : RoundWith P r) where
   -- a train that a look meets
-  met-fits : (t : TrainIdx) → Met r t → TrainFits top t
+  met-fits : (t : TrainIdx) → Met r t → P t
   met-fits t m = ⊎-elim
-      (λ w. subst (λ (y : TrainIdx). TrainFits top y) (w .3) (g .train .divs (w .0) (w .1) (w .2)))
-      (λ w. subst (λ (y : TrainIdx). TrainFits top y) (w .1) (g .held (w .0 .0)))
+      (λ w. subst (λ (y : TrainIdx). P y) (w .3) (g .train .divs (w .0) (w .1) (w .2)))
+      (λ w. subst (λ (y : TrainIdx). P y) (w .1) (g .held (w .0 .0)))
       (m .from)
 
-  pub looks-fit : (h : Here) {s u : Search} → Looks r h s u → SearchFits top s → SearchFits top u
+  pub looks-fit : (h : Here) {s u : Search} → Looks r h s u → SearchWith P s → SearchWith P u
   looks-fit h (passes d a b) k = record { pool = k .pool; nodes = k .nodes; divs = k .divs }
-  looks-fit h {s} (blocks d ts a b c t f) k = record { pool = each-append (TrainFits top) (s .«train_idxs_blocking») ts (k .pool) (λ i x p. met-fits x (t i x p)); nodes = k .nodes; divs = k .divs }
+  looks-fit h {s} (blocks d ts a b c t f some) k = record { pool = each-append P (s .«train_idxs_blocking») ts (k .pool) (λ i x p. met-fits x (t i x p)); nodes = k .nodes; divs = k .divs }
 
-  module _ (s : Search) (k : SearchFits top s) (h : Here) (st : Stands r s h) where
-    none-fits : TrainFits top noTrain
-    none-fits = omega arith
-
+  module _ (s : Search) (k : SearchWith P s) (h : Here) (st : Stands r s h) where
     curr-fits : NodeFits (h .«disp_node_curr»)
     curr-fits = go (s .«disp_path_new») (k .nodes) (st .curr)
       where
@@ -151,19 +159,19 @@ module _ (top : ℕ) (r : Round) (g : RoundFits top r) where
     pushed : (b : DispNode) → NodeFits b → Each NodeFits (s .«disp_path_new» ++ (b ∷ []))
     pushed b f = each-append NodeFits (s .«disp_path_new») (b ∷ []) (k .nodes) (each-one NodeFits b f)
 
-    cut-fits : (w : Rewound r h s) → Each (DivFits top) (w .divs)
-    cut-fits w = let q = cut-is (h .«idx_join_new») (s .«div_nodes_new») (w .divs-is) in subst (λ (y : List DivergeNode). Each (DivFits top) y) (sym (q .1)) (each-take (DivFits top) (q .0) (s .«div_nodes_new») (k .divs))
+    cut-fits : (w : Rewound r h s) → Each (DivWith P) (w .divs)
+    cut-fits w = let q = cut-is (h .«idx_join_new») (s .«div_nodes_new») (w .divs-is) in subst (λ (y : List DivergeNode). Each (DivWith P) y) (sym (q .1)) (each-take (DivWith P) (q .0) (s .«div_nodes_new») (k .divs))
 
-    pub did-fit : {t : Turn} → Did r h s t → After (SearchFits top) t
-    did-fit (pops w n ns q) = record { pool = rewind-each (TrainFits top) none-fits r h s w (k .pool); nodes = each-take NodeFits (length (s .«disp_path_new») - 1) (s .«disp_path_new») (k .nodes); divs = cut-fits w }
-    did-fit (shortens w q l) = record { pool = rewind-each (TrainFits top) none-fits r h s w (k .pool); nodes = k .nodes; divs = cut-fits w }
-    did-fit givesUp = tt
-    did-fit (alternates ts p b n f c w) =
+    pub did-fit : {t : Turn} → Did r h s t → After (SearchWith P) t
+    did-fit (pops w n ns q) = record { pool = rewind-each P none r h s w (k .pool); nodes = each-take NodeFits (length (s .«disp_path_new») - 1) (s .«disp_path_new») (k .nodes); divs = cut-fits w }
+    did-fit (shortens w q l) = record { pool = rewind-each P none r h s w (k .pool); nodes = k .nodes; divs = cut-fits w }
+    did-fit (givesUp w q) = tt
+    did-fit (alternates ts p b n f c w off) =
         let y = viewOf (s .views) (h .«est_curr» .«idx_next») in
         record {
           pool = k .pool;
           nodes = pushed (alternateNode (h .«disp_node_curr») (h .«est_curr» .«idx_next_alt»)) (record { offset-fits = curr-fits .offset-fits; time-fits = curr-fits .time-fits; auth = omega arith });
-          divs = each-append (DivFits top) (s .«div_nodes_new») (diverging (h .«idx_join_new») ts) (k .divs) (diverging-fit top (h .«idx_join_new») ts (slice-each (TrainFits top) none-fits (s .«train_idxs_blocking») (y .«idx_begin») (y .«idx_end») (k .pool) p));
+          divs = each-append (DivWith P) (s .«div_nodes_new») (diverging (h .«idx_join_new») ts) (k .divs) (diverging-fit P (h .«idx_join_new») ts (slice-each P none (s .«train_idxs_blocking») (y .«idx_begin») (y .«idx_end») (k .pool) p));
         }
     did-fit (changes d b q) = tt
     did-fit (saves n m f l a w z) =
@@ -179,21 +187,24 @@ module _ (top : ℕ) (r : Round) (g : RoundFits top r) where
 
     -- how it ends
     module _ (links : ℕ) (acc : Accepted links (r .train)) (low : 1 ≤ s .«div_idx_split») where
-      pub ends-fit : {t : Turn} → Did r h s t → AtEnd (EndsFit top) t
+      pub ends-fit : {t : Turn} → Did r h s t → AtEnd (EndsWith P) t
       ends-fit (pops w n ns q) = tt
       ends-fit (shortens w q l) = tt
-      ends-fit givesUp = record { ests = g .train .ests; nodes = g .train .nodes; divs = g .train .divs; train = g .train .train; search = g .train .search; fixedMax = g .train .fixedMax }
-      ends-fit (alternates ts p b n f c w) = tt
+      ends-fit (givesUp w q) = (
+        record { ests = g .train .ests; nodes = g .train .nodes; divs = g .train .divs; train = g .train .train; search = g .train .search; fixedMax = g .train .fixedMax },
+        holder-each P none (w .pooled) (rewind-each P none r h s w (k .pool)),
+      )
+      ends-fit (alternates ts p b n f c w off) = tt
       ends-fit (changes d b q) =
           let c = changed-to r h s q in
           let y = viewOf (s .views) (h .«est_curr» .«idx_next») in
-          subst (λ (x : Ended). EndsFit top x) (c .is) (record {
+          subst (λ (x : Ended). EndsWith P x) (c .is) (record {
             ests = g .train .ests;
             nodes = g .train .nodes;
-            divs = each-append (DivFits top) (take (s .«div_idx_split») (r .train .«div_nodes») ++ diverging (s .«idx_split») (c .trains)) (drop (c .from) (r .train .«div_nodes»))
-                (each-append (DivFits top) (take (s .«div_idx_split») (r .train .«div_nodes»)) (diverging (s .«idx_split») (c .trains)) (each-take (DivFits top) (s .«div_idx_split») (r .train .«div_nodes») (g .train .divs))
-                (diverging-fit top (s .«idx_split») (c .trains) (slice-each (TrainFits top) none-fits (s .«train_idxs_blocking») (y .«idx_begin») (y .«idx_end») (k .pool) (c .trains-are))))
-                (each-drop (DivFits top) (c .from) (r .train .«div_nodes») (g .train .divs));
+            divs = each-append (DivWith P) (take (s .«div_idx_split») (r .train .«div_nodes») ++ diverging (s .«idx_split») (c .trains)) (drop (c .from) (r .train .«div_nodes»))
+                (each-append (DivWith P) (take (s .«div_idx_split») (r .train .«div_nodes»)) (diverging (s .«idx_split») (c .trains)) (each-take (DivWith P) (s .«div_idx_split») (r .train .«div_nodes») (g .train .divs))
+                (diverging-fit P (s .«idx_split») (c .trains) (slice-each P none (s .«train_idxs_blocking») (y .«idx_begin») (y .«idx_end») (k .pool) (c .trains-are))))
+                (each-drop (DivWith P) (c .from) (r .train .«div_nodes») (g .train .divs));
             train = g .train .train;
             search = g .train .search;
             fixedMax = g .train .fixedMax;
@@ -203,14 +214,14 @@ module _ (top : ℕ) (r : Round) (g : RoundFits top r) where
       ends-fit (advances f w) = tt
       ends-fit (joins d b q) =
           let j = joined-to links r acc s low h q in
-          let rest-fit : Each (DivFits top) (j .updated .rest) = λ i x p. let u = j .updated .from i x p in subst (λ (y : TrainIdx). TrainFits top y) (sym (u .3)) (g .train .divs (u .0) (u .1) (u .2)) in
-          subst (λ (x : Ended). EndsFit top x) (j .is) (record {
+          let rest-fit : Each (DivWith P) (j .updated .rest) = λ i x p. let u = j .updated .from i x p in subst (λ (y : TrainIdx). P y) (sym (u .3)) (g .train .divs (u .0) (u .1) (u .2)) in
+          subst (λ (x : Ended). EndsWith P x) (j .is) (record {
             ests = g .train .ests;
             nodes = each-append NodeFits (stack r s) (j .helpers .rest) (each-append NodeFits (take (s .«idx_split») (r .train .«disp_path»)) (s .«disp_path_new») (each-take NodeFits (s .«idx_split») (r .train .«disp_path») (g .train .nodes)) (k .nodes))
                 (j .helpers .moved .fit (each-drop NodeFits (j .base) (r .train .«disp_path») (g .train .nodes)));
-            divs = subst (λ (y : List DivergeNode). Each (DivFits top) y) (sym (j .updated .divs-is))
-                (each-append (DivFits top) (take (s .«div_idx_split») (r .train .«div_nodes») ++ drop 1 (s .«div_nodes_new»)) (j .updated .rest)
-                (each-append (DivFits top) (take (s .«div_idx_split») (r .train .«div_nodes»)) (drop 1 (s .«div_nodes_new»)) (each-take (DivFits top) (s .«div_idx_split») (r .train .«div_nodes») (g .train .divs)) (each-drop (DivFits top) 1 (s .«div_nodes_new») (k .divs)))
+            divs = subst (λ (y : List DivergeNode). Each (DivWith P) y) (sym (j .updated .divs-is))
+                (each-append (DivWith P) (take (s .«div_idx_split») (r .train .«div_nodes») ++ drop 1 (s .«div_nodes_new»)) (j .updated .rest)
+                (each-append (DivWith P) (take (s .«div_idx_split») (r .train .«div_nodes»)) (drop 1 (s .«div_nodes_new»)) (each-take (DivWith P) (s .«div_idx_split») (r .train .«div_nodes») (g .train .divs)) (each-drop (DivWith P) 1 (s .«div_nodes_new») (k .divs)))
                 rest-fit);
             train = g .train .train;
             search = g .train .search;
@@ -220,14 +231,14 @@ module _ (top : ℕ) (r : Round) (g : RoundFits top r) where
   -- ---- a search
 
   module _ (links : ℕ) (acc : Accepted links (r .train)) where
-    looked-fit : (s : Search) {t : Turn} (w : Turned r s t) → SearchFits top s → SearchFits top (w .looked)
+    looked-fit : (s : Search) {t : Turn} (w : Turned r s t) → SearchWith P s → SearchWith P (w .looked)
     looked-fit s w k = looks-fit (w .here) (w .occupied) (looks-fit (w .here) (w .stored) k)
 
-    pub step-fits : (s u : Search) → Good links r s → SearchFits top s → searchStep r s ≡ ok (goOn u) → SearchFits top u
+    pub step-fits : (s u : Search) → Good links r s → SearchWith P s → searchStep r s ≡ ok (goOn u) → SearchWith P u
     step-fits s u a k p = let w = step-ok r s (acc .divs) p in did-fit (w .looked) (looked-fit s w k) (w .here) (looked-stands links r acc s a w) (w .did)
 
-    pub search-fits : (n : ℕ) (s : Search) (e : Ended) → Good links r s → SearchFits top s → searchFrom n r s ≡ ok e → EndsFit top e
+    pub search-fits : (n : ℕ) (s : Search) (e : Ended) → Good links r s → SearchWith P s → searchFrom n r s ≡ ok e → EndsWith P e
     search-fits n s e a k q =
-        let l = search-last links r acc (SearchFits top) step-fits n s e a k q in
+        let l = search-last links r acc (SearchWith P) step-fits n s e a k q in
         let w = step-ok r (l .0) (acc .divs) (l .3) in
         ends-fit (w .looked) (looked-fit (l .0) w (l .2)) (w .here) (looked-stands links r acc (l .0) (l .1) w) links acc (looked-good links r acc (l .0) (l .1) w .div-split-good .low) (w .did)

@@ -42,7 +42,7 @@ module _ (links : ℕ) (r : Round) (g : Accepted links (r .train)) where
     where
       looks-free : {u : Search} → Looks r h s u → u .«disp_node_idx_free» ≡ s .«disp_node_idx_free»
       looks-free (passes d a b) = refl
-      looks-free (blocks d ts a b o t f) = refl
+      looks-free (blocks d ts a b o t f some) = refl
 
   module _ (s : Search) (k : Good links r s) {t : Turn} (w : Turned r s t) where
     -- the search that has looked is good, and stands where it stood

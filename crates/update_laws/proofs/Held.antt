@@ -85,8 +85,8 @@ module _ (links : ℕ) (r : Round) (g : Accepted links (r .train)) (s : Search) 
       ∙ take-take (s .«idx_split» - 1) (s .«idx_split») (r .train .«disp_path») (omega arith)
       ∙ sym (append-nil (take (s .«idx_split» - 1) (r .train .«disp_path»)))
       ∙ ap (λ (y : List DispNode). take (s .«idx_split» - 1) (r .train .«disp_path») ++ y) (sym q)) (x .is) (made-blocks w)
-  did-held givesUp = tt
-  did-held (alternates ts p b n f m w) =
+  did-held (givesUp w q) = tt
+  did-held (alternates ts p b n f m w off) =
       let y = viewOf (s .views) (h .«est_curr» .«idx_next») in
       joined-held ts (alternateNode (h .«disp_node_curr») (h .«est_curr» .«idx_next_alt»))
       (view-trains (s .«train_idxs_blocking») (y .«idx_begin») (y .«idx_end») (v .pool) (blocked-blocks y (v .each (h .«est_curr» .«idx_next» .0)) b .low) p) b
@@ -108,7 +108,7 @@ module _ (links : ℕ) (r : Round) (g : Accepted links (r .train)) (s : Search) 
 -- a look blocks more
 pub looks-held : (e : ℕ) (r : Round) (h : Here) {s u : Search} → ViewsGood e s → Looks r h s u → DivsHeld r s → DivsHeld r u
 looks-held e r h v (passes d a b) o = o
-looks-held e r h {s} v (blocks d ts a b c t f) o = λ i x n y u p q z.
+looks-held e r h {s} v (blocks d ts a b c t f some) o = λ i x n y u p q z.
     still-blocked (s .views) (h .«est_curr» .«idx_next» .0) (view (length (s .«train_idxs_blocking»)) (length (s .«train_idxs_blocking») + length ts)) (y .«idx_next»)
     (blocks-blocked {n = length (s .«train_idxs_blocking») + length ts} (view (length (s .«train_idxs_blocking»)) (length (s .«train_idxs_blocking») + length ts)) (record { low = v .pool .some; order = omega arith; high = omega arith }))
     (o i x n y u p q z)

@@ -31,9 +31,10 @@ use Rattle.image_fault.proofs.AcceptLaws.{accepted, or-else-clean}
 use Rattle.image_fault.proofs.MatchLaws.{image-fault-match, state-match, stored-match}
 use Rattle.update_definition.specs.Update.{Status, Success, Blocked, Faulty, Refused, Updated, updateFreePath}
 use Rattle.update_definition.specs.Fits.{TrainsWithin}
-use Rattle.update_definition.specs.Renumbered.{TwoNumberings, rUpdated}
+use Rattle.update_definition.specs.Renumbered.{TwoNumberings, rStatus, rUpdated}
 use Rattle.update_laws.proofs.UpdateRenumbering.{update-renumbered}
 use Rattle.update_laws.specs.AfterRound.{Leaves}
+use Rattle.update_laws.specs.FitsGood.{TrainFits}
 use Rattle.update_laws.proofs.Updates.{StaysFit}
 use Rattle.update_definition.specs.UpdateImage.{linksBelow, callFault, leftImage, storedAnswer, answerBy, linkIdxs, updateFault, updatedImage}
 use Rattle.update_definition.specs.UpdateMatch.{GivenMatch, UpdatesMatch}
@@ -179,9 +180,9 @@ module _ (top : ℕ) (p q : ℕ → ℕ) (occ occ′ blocking blocking′ : List
       stored : (t : Train) → StaysFit L (largestTrain img) (decoded img) t → ImagesMatch p q (leftImage Success t img) (leftImage Success (rTrainDisp p q t) img′)
       stored t k = stored-match p q L top (c .links) (c .trains) img img′ low m b b′ (passes .1) t (keeps img L b (passes .1) t (k .stays .same)) (fit-held img L b (passes .1) t k)
 
-      images-left : (s : Status) (t : Train) → Leaves (StaysFit L (largestTrain img) (decoded img)) (decoded img) s t → ImagesMatch p q (leftImage s t img) (leftImage s (rTrainDisp p q t) img′)
+      images-left : (s : Status) (t : Train) → Leaves (StaysFit L (largestTrain img) (decoded img)) (TrainFits (largestTrain img)) (decoded img) s t → ImagesMatch p q (leftImage s t img) (leftImage (rStatus q s) (rTrainDisp p q t) img′)
       images-left Success t k = stored t k
-      images-left Blocked t k = stored t k
+      images-left (Blocked holder) t k = stored t (k .0)
       images-left (Faulty n) t k = stored t k
       images-left (Refused r) t k = m
 

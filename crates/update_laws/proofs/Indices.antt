@@ -39,7 +39,7 @@ module _ (r : Round) (h : Here) where
 
   pub looks-div-split : {s u : Search} → Sorted (r .train .«div_nodes») → Looks r h s u → DivSplitGood r s → DivSplitGood r u
   looks-div-split {s} c (passes d a b) k = record { low = a; high = omega (arith, k .high); node = back-good s d c a b k }
-  looks-div-split {s} c (blocks d ts a b o t f) k = record { low = a; high = omega (arith, k .high); node = back-good s d c a b k }
+  looks-div-split {s} c (blocks d ts a b o t f some) k = record { low = a; high = omega (arith, k .high); node = back-good s d c a b k }
 
   pub did-div-split : {s : Search} {t : Turn} → Stands r s h → DivSplitGood r s → ((x : DivergeNode) → before (r .train .«div_nodes») (s .«div_idx_split») ≡ ok x → x .«disp_node_idx» < h .«idx_join_new») → Did r h s t → After (DivSplitGood r) t
   did-div-split st k m (pops w n ns q) = record { low = k .low; high = k .high; node = k .node }
@@ -48,8 +48,8 @@ module _ (r : Round) (h : Here) where
     high = k .high;
     node = λ x e. let z = ap (λ (y : List DispNode). length y) q in omega (arith, m x e, st .join-is);
   }
-  did-div-split st k m givesUp = tt
-  did-div-split st k m (alternates ts p b n f c w) = record { low = k .low; high = k .high; node = k .node }
+  did-div-split st k m (givesUp w q) = tt
+  did-div-split st k m (alternates ts p b n f c w off) = record { low = k .low; high = k .high; node = k .node }
   did-div-split st k m (changes d b q) = tt
   did-div-split st k m (saves n i f l a w z) = record { low = k .low; high = k .high; node = k .node }
   did-div-split st k m (empties f l) = record { low = k .low; high = k .high; node = k .node }
@@ -60,13 +60,13 @@ module _ (r : Round) (h : Here) where
 
   pub looks-save : {s u : Search} → Looks r h s u → SaveGood r s → SaveGood r u
   looks-save (passes d a b) k = k
-  looks-save (blocks d ts a b o t f) k = k
+  looks-save (blocks d ts a b o t f some) k = k
 
   pub did-save : {s : Search} {t : Turn} → SaveGood r s → Did r h s t → After (SaveGood r) t
   did-save k (pops w n ns q) = ⊎-elim (λ e. omega arith) (λ e. omega arith) (w .save-is)
   did-save k (shortens w q l) = ⊎-elim (λ e. omega arith) (λ e. omega arith) (w .save-is)
-  did-save k givesUp = tt
-  did-save k (alternates ts p b n f c w) = k
+  did-save k (givesUp w q) = tt
+  did-save k (alternates ts p b n f c w off) = k
   did-save k (changes d b q) = tt
   did-save k (saves n i f l a w z) = omega arith
   did-save k (empties f l) = k
@@ -97,8 +97,8 @@ module _ (links : ℕ) (r : Round) (g : Accepted links (r .train)) where
   pub did-free : (s : Search) (h : Here) {t : Turn} → StackGood r s → Stands r s h → FreeGood r s → Did r h s t → After (λ u. left r u < left r s) t → After (FreeGood r) t
   did-free s h k st f (pops w n ns q) l = omega arith
   did-free s h k st f (shortens w q m) l = omega arith
-  did-free s h k st f givesUp l = tt
-  did-free s h k st f (alternates ts p b n o c w) l = omega (arith, alternate-rises (h .«idx_join_new») (s .«disp_node_idx_free»))
+  did-free s h k st f (givesUp w q) l = tt
+  did-free s h k st f (alternates ts p b n o c w off) l = omega (arith, alternate-rises (h .«idx_join_new») (s .«disp_node_idx_free»))
   did-free s h k st f (changes d b q) l = tt
   did-free s h k st f (saves n i o m a w z) l = omega (arith, left-few s, saved-few s h k st)
   did-free s h k st f (empties o m) l = omega (arith, left-few s, saved-few s h k st)

@@ -34,6 +34,7 @@ pub mod Changing
 pub mod Joins
 pub mod Joining
 pub mod Rounds
+pub mod Holders
 pub mod Fitting
 pub mod Updates
 pub mod TopNever

@@ -1,8 +1,8 @@
 -- The moves of the search, all but the join, go with a renumbering. Assumes nothing.
 use mathlib.Core.Path.{_≡_, refl, sym, ap, ap₂, _∙_}
 use mathlib.Core.Bool.{cond, not, _&&_}
-use mathlib.Core.List.{List, _++_, map}
-use Prim.Native.Nat.{ℕ, _+_}
+use mathlib.Core.List.{List, [], _∷_, _++_, map}
+use Prim.Native.Nat.{ℕ, _+_, _-_}
 use lib.Dec.{ltb, leb, eqb}
 use lib.Ieee.{lt}
 use lib.ListN.{length, take, drop, length-map}
@@ -19,14 +19,15 @@ use Rattle.disp_structs.specs.declared.DispNode.{DispNode}
 use Rattle.disp_structs.specs.declared.DivergeNode.{DivergeNode}
 use Rattle.disp_structs.specs.declared.TrainIdxsView.{TrainIdxsView}
 use Rattle.free_path.specs.Base.{ok, at, isEmpty, walkFrom, walkBack}
+use Rattle.free_path.specs.TrainIdxsView.{Pooled}
 use Rattle.free_path.specs.Renumbered.{rPooled}
 use Rattle.free_path.proofs.PathRenumbering.{noLink-r}
 use Rattle.free_path.proofs.PoolRenumbering.{concatTrainIdxViews-r}
 use Rattle.free_path.proofs.MapLaws.{mapRes, map-id, bind-map, bind-same, need-map, room-map, cond-map, at-map, take-map, drop-map, append-map, popped-map, isEmpty-map, slice-map, walkFrom-map, walkBack-map}
 use Rattle.update_definition.specs.State.{Round, Search, Turn, goOn, ends, again, setSave, setNew, setDivsNew, setPool, setView, viewOf, pushNode, pushDivs, diverging, withFree, withDivNodes}
 use Rattle.update_definition.specs.Look.{Here}
-use Rattle.update_definition.specs.Moves.{notFake, trainsOf, shiftSave, shifts, rewindView, rewindDivs, giveUp, oneBack, rewind, alternate, changeDiverge, savedNode, pushSaved, blockEmpty, advanceNode, advance}
-use Rattle.update_laws.proofs.StateRenumbering.{rRound, rSearch, rHere, rTurn, sameEvent-r, pushNode-r, pushDivs-r, diverging-r}
+use Rattle.update_definition.specs.Moves.{notFake, trainsOf, shiftSave, shifts, rewindView, firstTrain, holderOf, rewindDivs, giveUp, oneBack, rewind, alternate, changeDiverge, savedNode, pushSaved, blockEmpty, advanceNode, advance}
+use Rattle.update_laws.proofs.StateRenumbering.{rRound, rSearch, rHere, rTurn, sameEvent-r, noTrain-r, pushNode-r, pushDivs-r, diverging-r}
 
 -- three parts of a list
 pub parts-map : {A B : Type 0} (f : A → B) (xs ys zs : List A) (xs′ ys′ zs′ : List B) → xs′ ≡ map f xs → ys′ ≡ map f ys → zs′ ≡ map f zs → xs′ ++ ys′ ++ zs′ ≡ map f (xs ++ ys ++ zs)
@@ -80,17 +81,27 @@ module _ (top : ℕ) (p : ℕ → ℕ) (rp : Renumbering top p) where
         cond-map (mapRes (rPooled q)) (sameEst (e .«idx_next_alt») noEst) _ _ _ _ _ refl refl
         (concatTrainIdxViews-r topT q rq pool (viewOf views (e .«idx_next»)) (viewOf views (e .«idx_next_alt»)))
 
-    giveUp-r : (s : Search) → giveUp R H (S s) ≡ mapRes T (giveUp r h s)
-    giveUp-r s =
+    firstTrain-r : (ts : List TrainIdx) → firstTrain (map (rTrain q) ts) ≡ rTrain q (firstTrain ts)
+    firstTrain-r [] = sym (noTrain-r topT q rq)
+    firstTrain-r (t ∷ ts) = refl
+
+    holderOf-r : (x : Pooled) → holderOf (rPooled q x) ≡ rTrain q (holderOf x)
+    holderOf-r x =
+        let b = x .made .«idx_begin» in
+        let k = x .made .«idx_end» - b in
+        ap (λ ts. firstTrain (take k ts)) (drop-map (rTrain q) b (x .pool)) ∙ ap firstTrain (take-map (rTrain q) k (drop b (x .pool))) ∙ firstTrain-r (take k (drop b (x .pool)))
+
+    giveUp-r : (b : TrainIdx) (s : Search) → giveUp R H (rTrain q b) (S s) ≡ mapRes T (giveUp r h b s)
+    giveUp-r b s =
         need-map T (eqb (length (s .«div_nodes_new»)) 1) _ _ _ (ap (λ n. eqb n 1) (length-map (s .«div_nodes_new») D))
         (need-map T (eqb (h .«idx_join_new») (s .«idx_split»)) _ _ _ refl refl)
 
-    oneBack-r : (s : Search) → oneBack R H (S s) ≡ mapRes T (oneBack r h s)
+    oneBack-r : (b : TrainIdx) (s : Search) → oneBack R H (rTrain q b) (S s) ≡ mapRes T (oneBack r h b s)
     unfolding oneBack
-    oneBack-r s =
+    oneBack-r b s =
         cond-map (mapRes T) (not (isEmpty (s .«disp_path_new»))) _ _ _ _ _ (ap not (isEmpty-map N (s .«disp_path_new»)))
         (ap (λ x. ok (goOn (setNew (S s) x))) (popped-map N (s .«disp_path_new»)))
-        (cond-map (mapRes T) (lt (r .«offset_cancel» .0) (h .«disp_node_curr» .offset .0) && ltb 1 (s .«idx_split»)) _ _ _ _ _ refl refl (giveUp-r s))
+        (cond-map (mapRes T) (lt (r .«offset_cancel» .0) (h .«disp_node_curr» .offset .0) && ltb 1 (s .«idx_split»)) _ _ _ _ _ refl refl (giveUp-r b s))
 
     pub rewind-r : (s : Search) → rewind R H (S s) ≡ mapRes T (rewind r h s)
     unfolding rewind
@@ -99,7 +110,8 @@ module _ (top : ℕ) (p : ℕ → ℕ) (rp : Renumbering top p) where
         (ap (λ x. cond (shifts h s) x (ok (s .«idx_save»))) (map-id _ _ (shiftSave-r (r .train .«disp_path») (r .train .«disp_node_idx_fixed») (h .«disp_node_curr» .«link_event») (s .«idx_save»)))) λ save.
         bind-map (rPooled q) T (rewindView (h .«est_curr») (s .views) (s .«train_idxs_blocking»)) _ _ _ (rewindView-r (h .«est_curr») (s .views) (s .«train_idxs_blocking»)) λ x.
         bind-map (map D) T (rewindDivs (h .«idx_join_new») (s .«div_nodes_new»)) _ _ _ (rewindDivs-r q (h .«idx_join_new») (s .«div_nodes_new»)) λ divs.
-        oneBack-r (setDivsNew (setView (setPool (setSave s save) (x .pool)) (h .«disp_node_curr» .«est_idx») (x .made)) divs)
+        let u = setDivsNew (setView (setPool (setSave s save) (x .pool)) (h .«disp_node_curr» .«est_idx») (x .made)) divs in
+        ap (λ b. oneBack R H b (S u)) (holderOf-r x) ∙ oneBack-r (holderOf x) u
 
     -- ---- Alternate
 

@@ -129,8 +129,8 @@ module _ (r : Round) (s : Search) (k : NewDivsGood r s) (h : Here) (st : Stands 
         let b = ap (λ (x : List DispNode). length x) q in
         let c = cut-good w (s .«idx_split» - 1) (length (s .«disp_path_new»)) (omega arith) (omega (arith, st .join-is)) in
         record { first = c .0; few = c .1; sorted = c .2; inner = c .3 }
-    did-divs givesUp = tt
-    did-divs (alternates ts p b n f c w) =
+    did-divs (givesUp w q) = tt
+    did-divs (alternates ts p b n f c w off) =
         let x = alternateNode (h .«disp_node_curr») (h .«est_curr» .«idx_next_alt») in
         let ds = diverging (h .«idx_join_new») ts in
         let y = viewOf (s .views) (h .«est_curr» .«idx_next») in
@@ -161,4 +161,4 @@ module _ (r : Round) (s : Search) (k : NewDivsGood r s) (h : Here) (st : Stands 
 -- a look has no new diverge node
 pub looks-divs : (r : Round) (h : Here) {s u : Search} → Looks r h s u → NewDivsGood r s → NewDivsGood r u
 looks-divs r h (passes d a b) k = record { first = k .first; few = k .few; sorted = k .sorted; inner = k .inner }
-looks-divs r h (blocks d ts a b c t f) k = record { first = k .first; few = k .few; sorted = k .sorted; inner = k .inner }
+looks-divs r h (blocks d ts a b c t f some) k = record { first = k .first; few = k .few; sorted = k .sorted; inner = k .inner }

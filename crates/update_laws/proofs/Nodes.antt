@@ -46,8 +46,8 @@ module _ (links : ℕ) (r : Round) (g : Accepted links (r .train)) where
     unfolding eq
     did-nodes (pops w n ns q) = each-take (NodeAccepted links E) (length (s .«disp_path_new») - 1) (s .«disp_path_new») k
     did-nodes (shortens w q l) = k
-    did-nodes givesUp = tt
-    did-nodes (alternates ts p b n f c w) = pushed (alternateNode (h .«disp_node_curr») (h .«est_curr» .«idx_next_alt»)) (record {
+    did-nodes (givesUp w q) = tt
+    did-nodes (alternates ts p b n f c w off) = pushed (alternateNode (h .«disp_node_curr») (h .«est_curr» .«idx_next_alt»)) (record {
       reach = w;
       time = curr-accepted .time;
       event = record { link = some-link; arrives = λ z. clash false z refl };
@@ -69,4 +69,4 @@ module _ (links : ℕ) (r : Round) (g : Accepted links (r .train)) where
 -- a look has no new node
 pub looks-nodes : (links : ℕ) (r : Round) (h : Here) {s u : Search} → Looks r h s u → NodesGood links r s → NodesGood links r u
 looks-nodes links r h (passes d a b) k = k
-looks-nodes links r h (blocks d ts a b c t f) k = k
+looks-nodes links r h (blocks d ts a b c t f some) k = k

@@ -64,8 +64,8 @@ module _ (links : ℕ) (r : Round) (g : Accepted links (r .train)) (s : Search) 
       ∙ take-take (s .«idx_split» - 1) (s .«idx_split») (r .train .«disp_path») (omega arith)
       ∙ sym (append-nil (take (s .«idx_split» - 1) (r .train .«disp_path»)))
       ∙ ap (λ (y : List DispNode). take (s .«idx_split» - 1) (r .train .«disp_path») ++ y) (sym q))
-  did-open givesUp = tt
-  did-open (alternates ts p b n f c w) = pushed (alternateNode (h .«disp_node_curr») (h .«est_curr» .«idx_next_alt»)) f
+  did-open (givesUp w q) = tt
+  did-open (alternates ts p b n f c w off) = pushed (alternateNode (h .«disp_node_curr») (h .«est_curr» .«idx_next_alt»)) f
   did-open (changes d b q) = tt
   did-open (saves n m f l a w z) = pushed (savedNode n (h .«est_curr» .«idx_next»)) (f .unblocked)
   did-open (empties f l) = next-blocked (view 1 1)
@@ -74,7 +74,7 @@ module _ (links : ℕ) (r : Round) (g : Accepted links (r .train)) (s : Search) 
 
 pub looks-stack-open : (links : ℕ) (r : Round) (g : Accepted links (r .train)) (h : Here) {s u : Search} → StackGood r s → Stands r s h → Looks r h s u → StackOpen r s → StackOpen r u
 looks-stack-open links r g h k st (passes d a b) o = o
-looks-stack-open links r g h {s} k st (blocks d ts a b c t f) o = next-blocked links r g s k o h st (view (length (s .«train_idxs_blocking»)) (length (s .«train_idxs_blocking») + length ts))
+looks-stack-open links r g h {s} k st (blocks d ts a b c t f some) o = next-blocked links r g s k o h st (view (length (s .«train_idxs_blocking»)) (length (s .«train_idxs_blocking») + length ts))
 
 -- ---- nodes at different ests that pass a test are at most as many as the numbers that pass it
 

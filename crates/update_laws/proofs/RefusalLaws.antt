@@ -183,9 +183,9 @@ few-rewind-divs : (join : ℕ) (divs : List DivergeNode) → Few (rewindDivs joi
 unfolding rewindDivs
 few-rewind-divs join divs = search few depth 20
 
-few-one-back : (r : Round) (h : Here) (s : Search) → Few (oneBack r h s)
+few-one-back : (r : Round) (h : Here) (b : TrainIdx) (s : Search) → Few (oneBack r h b s)
 unfolding oneBack
-few-one-back r h s = search few depth 20
+few-one-back r h b s = search few depth 20
 
 few-rewind : (r : Round) (h : Here) (s : Search) → Few (rewind r h s)
 unfolding rewind
@@ -360,7 +360,7 @@ unfolding afterRound
 low-after full next g was w h = low-refused 11 _ was (omega arith)
 low-after fails next g was w h = low-refused 13 _ was (omega arith)
 low-after (goes atEnd) next g was w h = low-faults g _ was (w .train)
-low-after (goes (blockedAt t)) next g was w h = low-other _ (λ r q. let z : _≡_ {A = ℕ} 0 1 = cc in omega arith)
+low-after (goes (blockedAt t holder)) next g was w h = low-other _ (λ r q. let z : _≡_ {A = ℕ} 0 1 = cc in omega arith)
 low-after (goes (again t i k)) next g was w h = h _
 
 low-cond : (t : Bool) {x y : Updated} → Low x → Low y → Low (cond t x y)

@@ -46,7 +46,7 @@ module _ (links : ℕ) (r : Round) (g : Accepted links (r .train)) where
   did-ends : (s : Search) (h : Here) {t : Turn} → Good links r s → Stands r s h → Did r h s t → AtEnd (EndsGood links (r .train)) t
   did-ends s h k st (pops w n ns q) = tt
   did-ends s h k st (shortens w q l) = tt
-  did-ends s h k st givesUp = record {
+  did-ends s h k st (givesUp w q) = record {
     accepted = record {
       ests = g .ests;
       path = g .path;
@@ -62,7 +62,7 @@ module _ (links : ℕ) (r : Round) (g : Accepted links (r .train)) where
     };
     same = record { ests = refl; train = refl; search = refl; fixedMax = refl; room = refl };
   }
-  did-ends s h k st (alternates ts p b n f c w) = tt
+  did-ends s h k st (alternates ts p b n f c w off) = tt
   did-ends s h k st (changes d b q) = change-good links r g s k h b q
   did-ends s h k st (saves n m f l a w z) = tt
   did-ends s h k st (empties f l) = tt
@@ -207,6 +207,7 @@ pub record Begun (links : ℕ) (occ : List ℕ) (t : Train) (e : Res Ended) : Ty
   pub new-is : search .«disp_path_new» ≡ []
   pub divs-is : search .«div_nodes_new» ≡ record { «train_idx» = noTrain; «disp_node_idx» = 0 } ∷ []
   pub pool-is : search .«train_idxs_blocking» ≡ noTrain ∷ []
+  pub views-are : search .views ≡ replicate (length (t .«est_times»)) (view 0 0)
   pub good : Good links round search
   pub asserts : Asserts round search
   pub searched : searchFrom (turnLimit t) round search ≡ e
@@ -273,6 +274,7 @@ module _ (links : ℕ) (v : Given) (t : Train) (g : Accepted links t) where
         new-is = refl;
         divs-is = refl;
         pool-is = refl;
+        views-are = refl;
         good = w .good;
         asserts = w .asserts;
         searched = q;

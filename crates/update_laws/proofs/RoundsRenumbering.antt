@@ -46,7 +46,7 @@ after-strays : (e : Res Ended) (next : Between → Updated) → ((x : Between) �
 unfolding afterRound
 after-strays (no n) next h g was w = omega arith
 after-strays (ok atEnd) next h g was w = omega (arith, finish-strays (faultsOf g (w .train)) (counted (w .tally) (straysOf g (w .train))) was (w .train))
-after-strays (ok (blockedAt t)) next h g was w = omega arith
+after-strays (ok (blockedAt t holder)) next h g was w = omega arith
 after-strays (ok (again t i d)) next h g was w = omega (arith, h (between t i d (counted (w .tally) (straysOf g t))))
 
 cond-strays : (b : Bool) (x y : Updated) (n : ℕ) → n ≤ straysIn x → n ≤ straysIn y → n ≤ straysIn (cond b x y)
@@ -106,7 +106,8 @@ module _ (p q : ℕ → ℕ) (topT : ℕ) (rq : Renumbering topT q) (occ occ′ 
 
   finish-r : (n : Res ℕ) (tally : Tally) (was t : Train) → finish n tally (W was) (W t) ≡ rUpdated p q (finish n tally was t)
   unfolding finish
-  finish-r (ok n) tally was t = refl
+  finish-r (ok zero) tally was t = refl
+  finish-r (ok (suc n)) tally was t = refl
   finish-r (no n) tally was t = refl
 
   after-r : (e : Res Ended) (next next′ : Between → Updated) (was : Train) (w : Between)
@@ -117,7 +118,7 @@ module _ (p q : ℕ → ℕ) (topT : ℕ) (rq : Renumbering topT q) (occ occ′ 
   after-r (ok atEnd) next next′ was w h s =
       ap₂ (λ n k. finish n (counted (w .tally) k) (W was) (W (w .train))) (faultsOf-r (w .train)) (straysOf-r (w .train))
       ∙ finish-r (faultsOf g (w .train)) (counted (w .tally) (straysOf g (w .train))) was (w .train)
-  after-r (ok (blockedAt t)) next next′ was w h s = refl
+  after-r (ok (blockedAt t holder)) next next′ was w h s = refl
   after-r (ok (again t i d)) next next′ was w h s =
       ap (λ k. next′ (between (W t) i d (counted (w .tally) k))) (straysOf-r t) ∙ h (between t i d (counted (w .tally) (straysOf g t))) (omega arith) s
 

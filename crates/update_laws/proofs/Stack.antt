@@ -163,8 +163,8 @@ module _ (links : ℕ) (r : Round) (g : Accepted links (r .train)) (s : Search) 
     high = omega (arith, k .high);
     steps = subst (λ (x : List DispNode). Chain (Leads (r .train .«est_times»)) (take (s .«idx_split» - 1) (r .train .«disp_path») ++ x)) (sym e) (rw append-nil (chain-take (Leads (r .train .«est_times»)) (s .«idx_split» - 1) (r .train .«disp_path») (g .path .steps)));
   }
-  did-stack h st givesUp = tt
-  did-stack h st (alternates ts p b n f o w) = record { low = k .low; high = k .high; steps = stack-push h st (alternateNode (h .«disp_node_curr») (h .«est_curr» .«idx_next_alt»)) (alt-leads h st (alternateNode (h .«disp_node_curr») (h .«est_curr» .«idx_next_alt»)) refl n) }
+  did-stack h st (givesUp w q) = tt
+  did-stack h st (alternates ts p b n f o w off) = record { low = k .low; high = k .high; steps = stack-push h st (alternateNode (h .«disp_node_curr») (h .«est_curr» .«idx_next_alt»)) (alt-leads h st (alternateNode (h .«disp_node_curr») (h .«est_curr» .«idx_next_alt»)) refl n) }
   did-stack h st (changes e b q) = tt
   did-stack h st (saves n m f l a w z) = record { low = k .low; high = k .high; steps = stack-push h st (savedNode n (h .«est_curr» .«idx_next»)) (next-leads h st (savedNode n (h .«est_curr» .«idx_next»)) refl) }
   did-stack h st (empties f l) = record { low = k .low; high = k .high; steps = k .steps }
@@ -174,8 +174,8 @@ module _ (links : ℕ) (r : Round) (g : Accepted links (r .train)) (s : Search) 
 -- a look changes neither the stack nor where the search stands
 pub looks-stack : (r : Round) (h : Here) {s u : Search} → Looks r h s u → StackGood r s → StackGood r u
 looks-stack r h (passes d a b) k = record { low = k .low; high = k .high; steps = k .steps }
-looks-stack r h (blocks d ts a b c e f) k = record { low = k .low; high = k .high; steps = k .steps }
+looks-stack r h (blocks d ts a b c e f some) k = record { low = k .low; high = k .high; steps = k .steps }
 
 pub looks-stands : (r : Round) (h : Here) {s u : Search} → Looks r h s u → Stands r s h → Stands r u h
 looks-stands r h (passes d a b) k = record { curr = k .curr; est = k .est; some = k .some; next = k .next; join-is = k .join-is }
-looks-stands r h (blocks d ts a b c e f) k = record { curr = k .curr; est = k .est; some = k .some; next = k .next; join-is = k .join-is }
+looks-stands r h (blocks d ts a b c e f some) k = record { curr = k .curr; est = k .est; some = k .some; next = k .next; join-is = k .join-is }

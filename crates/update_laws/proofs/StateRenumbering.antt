@@ -48,7 +48,7 @@ module _ (p q : ℕ → ℕ) where
 
   abbrev pub rEnded : Ended → Ended
   rEnded atEnd = atEnd
-  rEnded (blockedAt t) = blockedAt (rTrainDisp p q t)
+  rEnded (blockedAt t holder) = blockedAt (rTrainDisp p q t) (rTrain q holder)
   rEnded (again t i d) = again (rTrainDisp p q t) i d
 
   abbrev pub rTurn : Turn → Turn

@@ -95,7 +95,7 @@ module _ (links : ℕ) (g : Given) (was : Train) where
   unfolding afterRound
   after-paced (no k) next w c f h = c 0
   after-paced (ok atEnd) next w c f h = finish-paced (faultsOf g (w .train)) (counted (w .tally) (straysOf g (w .train))) (w .train) (c (straysOf g (w .train)))
-  after-paced (ok (blockedAt t)) next w c f h = c 0
+  after-paced (ok (blockedAt t holder)) next w c f h = c 0
   after-paced (ok (again t i d)) next w c f h = h (between t i d (counted (w .tally) (straysOf g t))) (f (again t i d) refl) (c (straysOf g t))
 
   cond-paced : (b : Bool) (u v : Updated) → Paced limit-of (u .answer .tally) → Paced limit-of (v .answer .tally) → Paced limit-of (cond b u v .answer .tally)

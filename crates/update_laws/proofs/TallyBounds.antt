@@ -74,7 +74,7 @@ module _ (links : ℕ) (g : Given) where
 -- errors are few
 abbrev pub StatusFew : Status → Type 0
 StatusFew Success = Unit {0}
-StatusFew Blocked = Unit {0}
+StatusFew (Blocked holder) = Unit {0}
 StatusFew (Faulty k) = k ≤ 1024
 StatusFew (Refused r) = Unit {0}
 
@@ -101,7 +101,7 @@ module _ (links : ℕ) (g : Given) (was : Train) where
   -- what another round hands on
   abbrev pub Hands : Ended → Type 0
   Hands atEnd = Unit {0}
-  Hands (blockedAt t) = Unit {0}
+  Hands (blockedAt t holder) = Unit {0}
   Hands (again t split k) = TopGood links was t split k
 
   after-few : (n : ℕ) (x : Res Ended) (next : Between → Updated) (w : Between) → Top w → ((e : Ended) → x ≡ ok e → Hands e) → ((y : Between) → Top y → Few n (y .tally) (next y .answer))
@@ -111,7 +111,7 @@ module _ (links : ℕ) (g : Given) (was : Train) where
   after-few n (ok atEnd) next w top f h =
       let a = top .stays .accepted in
       finish-few (suc n) (w .tally) (counted (w .tally) (straysOf g (w .train))) (w .train) (faultsOf g (w .train)) (faults-few links g (w .train) a) (omega arith) (omega (arith, strays-few links g (w .train) a))
-  after-few n (ok (blockedAt t)) next w top f h = record { rounds-most = omega arith; strays-most = omega arith; errors = tt }
+  after-few n (ok (blockedAt t holder)) next w top f h = record { rounds-most = omega arith; strays-most = omega arith; errors = tt }
   after-few n (ok (again t split k)) next w top f h =
       let y = between t split k (counted (w .tally) (straysOf g t)) in
       let z = f (again t split k) refl in
@@ -120,7 +120,7 @@ module _ (links : ℕ) (g : Given) (was : Train) where
 
   pub round-hands : (t : Train) (split k : ℕ) (e : Ended) → TopGood links was t split k → roundOf g t split k ≡ ok e → Hands e
   round-hands t split k atEnd w q = tt
-  round-hands t split k (blockedAt u) w q = tt
+  round-hands t split k (blockedAt u holder) w q = tt
   round-hands t split k (again u i d) w q = top-hands links g was t split k (again u i d) w q
 
   cond-few : (n : ℕ) (from : Tally) (b : Bool) (u v : Updated) → Few n from (u .answer) → Few n from (v .answer) → Few n from (cond b u v .answer)

@@ -33,7 +33,7 @@ after-rounds : (e : Res Ended) (next : Between → Updated) (m : ℕ) → ((x : 
 unfolding afterRound
 after-rounds (no n) next m h g was w = omega arith
 after-rounds (ok atEnd) next m h g was w = omega (arith, finish-rounds (faultsOf g (w .train)) (counted (w .tally) (straysOf g (w .train))) was (w .train))
-after-rounds (ok (blockedAt t)) next m h g was w = omega arith
+after-rounds (ok (blockedAt t holder)) next m h g was w = omega arith
 after-rounds (ok (again t i d)) next m h g was w = omega (arith, h (between t i d (counted (w .tally) (straysOf g t))))
 
 cond-rounds : (b : Bool) (x y : Updated) (n : ℕ) → roundsIn x ≤ n → roundsIn y ≤ n → roundsIn (cond b x y) ≤ n
@@ -74,7 +74,7 @@ after-told : (e : Res Ended) (next : Between → Updated) → ((x : Between) →
 unfolding afterRound
 after-told (no n) next h g was w = omega arith
 after-told (ok atEnd) next h g was w = finish-told (faultsOf g (w .train)) (counted (w .tally) (straysOf g (w .train))) was (w .train)
-after-told (ok (blockedAt t)) next h g was w = omega arith
+after-told (ok (blockedAt t holder)) next h g was w = omega arith
 after-told (ok (again t i d)) next h g was w = h (between t i d (counted (w .tally) (straysOf g t)))
 
 cond-told : (from : Tally) (b : Bool) (x y : Updated) → FaultsTold from x → FaultsTold from y → FaultsTold from (cond b x y)

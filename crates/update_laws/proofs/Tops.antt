@@ -34,7 +34,7 @@ use Rattle.update_laws.proofs.Updates.{top-start}
 
 abbrev KeepsSentinel : Train → Ended → Type 0
 KeepsSentinel t atEnd = Unit {0}
-KeepsSentinel t (blockedAt u) = Unit {0}
+KeepsSentinel t (blockedAt u holder) = Unit {0}
 KeepsSentinel t (again u split k) = (y : DivergeNode) → last (u .«div_nodes») ≡ ok y → (x : DivergeNode) × (last (t .«div_nodes») ≡ ok x) × (y .«train_idx» ≡ x .«train_idx»)
 
 last-drop : (divs : List DivergeNode) (j : ℕ) → j < length divs → (y : DivergeNode) → last (drop j divs) ≡ ok y → last divs ≡ ok y
@@ -45,8 +45,8 @@ last-drop divs j l y p =
 did-sentinel : (links : ℕ) (r : Round) (g : Accepted links (r .train)) (s : Search) (k : Good links r s) (h : Here) {t : Turn} → Did r h s t → AtEnd (KeepsSentinel (r .train)) t
 did-sentinel links r g s k h (pops w n ns q) = tt
 did-sentinel links r g s k h (shortens w q l) = tt
-did-sentinel links r g s k h givesUp = tt
-did-sentinel links r g s k h (alternates ts p b n f c w) = tt
+did-sentinel links r g s k h (givesUp w q) = tt
+did-sentinel links r g s k h (alternates ts p b n f c w off) = tt
 did-sentinel links r g s k h (changes e b q) =
     let c = changed-to r h s q in
     let divs = r .train .«div_nodes» in

@@ -14,13 +14,14 @@ use Rattle.link_rules.specs.declared.link_idx.TrainIdx.{TrainIdx}
 use Rattle.disp_structs.specs.Values.{sameEst, noEst, isArrive, sameEvent, within, view, near, plus}
 use Rattle.disp_structs.specs.declared.DispNode.{DispNode}
 use Rattle.disp_structs.specs.declared.DivergeNode.{DivergeNode}
+use Rattle.free_path.proofs.CountLaws.{length-part}
 use Rattle.free_path.specs.Base.{Res, ok, no, room, at, before, isEmpty, part, slice, walkFrom, walkBack}
 use Rattle.free_path.specs.LinkOptType.{least}
 use Rattle.free_path.specs.TrainIdxsView.{poolRoom}
 use Rattle.update_definition.specs.State.{Round, Search, Turn, goOn, ends, Ended, setDivSplit, setSave, setFree, setNew, setDivsNew, setPool, setView, viewOf, blocked, pushTrains, pushNode, pushDivs, diverging}
 use Rattle.free_path.specs.Validate.{onPath}
 use Rattle.update_definition.specs.Look.{Here, current, lookFrom, lookHere, blockBy, Stored, storedFrom, blockStored, takeStored, storedTrains, meetsTrain, occupiedNext, moveOf, savedMatches, moveFrom}
-use Rattle.update_definition.specs.Moves.{notFake, trainsOf, shiftSave, shifts, rewindView, rewindDivs, oneBack, rewind, alternate, alternateFree, alternateNode, changeDiverge, pushSaved, savedFree, savedNode, blockEmpty, advance, advanceNode}
+use Rattle.update_definition.specs.Moves.{notFake, trainsOf, shiftSave, shifts, rewindView, holderOf, rewindDivs, oneBack, rewind, alternate, alternateFree, alternateNode, changeDiverge, pushSaved, savedFree, savedNode, blockEmpty, advance, advanceNode}
 use Rattle.update_definition.specs.Join.{join, spliceAt, offsetChange, freeIsCorrect, updateFreePathHelpers, updateDivNodes}
 use Rattle.update_definition.specs.Update.{searchStep, doMove}
 use Rattle.update_definition.specs.Accepted.{Each, DivsAccepted}
@@ -92,15 +93,30 @@ stored-from divs join moved (suc k) {x} h =
     (λ w. let q : suc k ≡ x .«div_idx_split» = ap (λ (z : Stored). z .«div_idx_split») (ok-same (w .1)) in (omega arith, omega arith))
     (cond-cases (eqb (v .0 .«disp_node_idx») join) (v .2))
 
-block-by : (r : Round) (h : Here) (s : Search) (d : ℕ) (ts : List TrainIdx) {u : Search} → 1 ≤ d → d ≤ s .«div_idx_split» → blocked (s .views) (h .«est_curr» .«idx_next») ≡ false → Each (Met r) ts
+-- the walk goes back at least past a node at the join
+stored-less : (divs : List DivergeNode) (join : ℕ) (moved : TrainIdx) (n : ℕ) (d : DivergeNode) {x : Stored} → before divs n ≡ ok d → d .«disp_node_idx» ≡ join → storedFrom divs join moved n ≡ ok x → x .«div_idx_split» < n
+unfolding storedFrom
+stored-less divs join moved zero d b e h = no-ok h
+stored-less divs join moved (suc k) d {x} b e h =
+    let v = bind-ok (at divs k) h in
+    let same : v .0 .«disp_node_idx» ≡ join = ap (λ (y : DivergeNode). y .«disp_node_idx») (ok-same (sym (v .1) ∙ b)) ∙ e in ⊎-elim
+    (λ w.
+    let y = bind-ok (storedFrom divs join moved k) (w .1) in
+    let i = stored-from divs join moved k {x = y .0} (y .1) in
+    let q : y .0 .«div_idx_split» ≡ x .«div_idx_split» = ap (λ (z : Stored). z .«div_idx_split») (ok-same (y .2)) in
+    omega arith)
+    (λ w. absurd (eqb-false (v .0 .«disp_node_idx») join (w .0) same))
+    (cond-cases (eqb (v .0 .«disp_node_idx») join) (v .2))
+
+block-by : (r : Round) (h : Here) (s : Search) (d : ℕ) (ts : List TrainIdx) {u : Search} → 1 ≤ d → d ≤ s .«div_idx_split» → blocked (s .views) (h .«est_curr» .«idx_next») ≡ false → Each (Met r) ts → 1 ≤ length ts
     → blockBy (setDivSplit s d) (h .«est_curr» .«idx_next») ts ≡ ok u → Looks r h s u
 unfolding blockBy pushTrains
-block-by r h s d ts {u} l m b e q =
+block-by r h s d ts {u} l m b e some q =
     let c = bind-ok (pushTrains (s .«train_idxs_blocking») ts) q in
     let o = room-ok (leb (length (s .«train_idxs_blocking») + length ts) poolRoom) (c .1) in
     let v = view (length (s .«train_idxs_blocking»)) (length (s .«train_idxs_blocking») + length ts) in
     subst (λ (x : Search). Looks r h s x) (ap (λ p. setPool (setView (setDivSplit s d) (h .«est_curr» .«idx_next») v) p) (ok-same (o .1)) ∙ ok-same (c .2))
-    (blocks d ts l m b e (leb-true (length (s .«train_idxs_blocking») + length ts) poolRoom (o .0)))
+    (blocks d ts l m b e (leb-true (length (s .«train_idxs_blocking») + length ts) poolRoom (o .0)) some)
 
 -- the trains of inner diverge nodes
 inner-trains : (r : Round) (n room : ℕ) → DivsAccepted n room (r .train .«div_nodes») → (b e : ℕ) → 1 ≤ b → e < length (r .train .«div_nodes») → Each (Met r) (map (λ (d : DivergeNode). d .«train_idx») (part b e (r .train .«div_nodes»)))
@@ -113,9 +129,9 @@ inner-trains r n room g b e l m i t h =
 
 module _ (r : Round) (h : Here) where
   take-stored : (s : Search) {u : Search} → DivsAccepted (length (r .train .«disp_path»)) (r .train .divergeRoom) (r .train .«div_nodes») → s .«div_idx_split» < length (r .train .«div_nodes»)
-      → takeStored r h s ≡ ok u → Looks r h s u
+      → (x : DivergeNode) → before (r .train .«div_nodes») (s .«div_idx_split») ≡ ok x → x .«disp_node_idx» ≡ h .«idx_join_new» → takeStored r h s ≡ ok u → Looks r h s u
   unfolding takeStored blockStored
-  take-stored s {u} g m q =
+  take-stored s {u} g m n at-n join-n q =
       let a = need-ok (not (sameEst (h .«est_curr» .«idx_next_alt») noEst)) q in
       let b = need-ok (onPath (r .train .«disp_path») (h .«est_curr» .«idx_next_alt»)) (a .1) in
       let c = need-ok (not (blocked (s .views) (h .«est_curr» .«idx_next»))) (b .1) in
@@ -127,7 +143,10 @@ module _ (r : Round) (h : Here) where
       let d = bind-ok (slice (r .train .«div_nodes») (x .0 .«div_idx_split») (s .«div_idx_split»)) (e .1) in
       let p = slice-ok (r .train .«div_nodes») (x .0 .«div_idx_split») (s .«div_idx_split») (d .1) in
       let t : Each (Met r) (map (λ (y : DivergeNode). y .«train_idx») (d .0)) = subst (λ (y : List DivergeNode). Each (Met r) (map (λ (z : DivergeNode). z .«train_idx») y)) (p .2) (inner-trains r (length (r .train .«disp_path»)) (r .train .divergeRoom) g (x .0 .«div_idx_split») (s .«div_idx_split») (i .0) m) in
-      block-by r h s (x .0 .«div_idx_split») (map (λ (y : DivergeNode). y .«train_idx») (d .0)) (i .0) (i .1) (not-true (blocked (s .views) (h .«est_curr» .«idx_next»)) (c .0)) t (d .2))
+      let less = stored-less (r .train .«div_nodes») (h .«idx_join_new») (r .«train_idx_moved») (s .«div_idx_split») n {x = x .0} at-n join-n (x .1) in
+      let long = length-part (r .train .«div_nodes») (x .0 .«div_idx_split») (s .«div_idx_split») (omega (arith, m)) in
+      let some : 1 ≤ length (map (λ (y : DivergeNode). y .«train_idx») (d .0)) = omega (arith, length-map (d .0) (λ (y : DivergeNode). y .«train_idx»), ap (λ (y : List DivergeNode). length y) (p .2), long, less) in
+      block-by r h s (x .0 .«div_idx_split») (map (λ (y : DivergeNode). y .«train_idx») (d .0)) (i .0) (i .1) (not-true (blocked (s .views) (h .«est_curr» .«idx_next»)) (c .0)) t some (d .2))
       (cond-cases (x .0 .met) (x .2))
 
   pub record LooksLow (s u : Search) : Type 0 where
@@ -146,7 +165,7 @@ module _ (r : Round) (h : Here) where
       let n = need-ok (ltb (b .0 .«disp_node_idx») (h .«idx_join_new»)) (b .2) in
       subst (λ (x : Search). LooksLow s x) (ok-same (n .1)) (record {
         looks = ⊎-elim
-            (λ w. take-stored s g m (w .1))
+            (λ w. take-stored s g m (d .0) (d .1) (eqb-true (d .0 .«disp_node_idx») (h .«idx_join_new») (w .0)) (w .1))
             (λ w. subst (λ (x : Search). Looks r h s x) (ok-same (w .1)) (passes (s .«div_idx_split») (before-ok (r .train .«div_nodes») (s .«div_idx_split») (d .1) .0) (omega arith)))
             (cond-cases (eqb (d .0 .«disp_node_idx») (h .«idx_join_new»)) (t .1));
         low = b .0;
@@ -163,7 +182,7 @@ module _ (r : Round) (h : Here) where
       let c = and-true (isArrive (h .«est_next» .«link_event» .«est_type»)) _ (b .1) in
       let t = entryAt (r .«links_blocked») (h .«est_next» .«link_event» .«link_idx») in
       let z : SomeTrain t = eqb-false (t .0) 0 (not-true (sameTrain t noTrain) (c .1)) in (
-        block-by r h s (s .«div_idx_split») (t ∷ []) l (omega arith) (not-true (blocked (s .views) (h .«est_curr» .«idx_next»)) (a .0)) (each-one (Met r) t (record { some = z; from = inr (h .«est_next» .«link_event» .«link_idx», refl) })) (w .1),
+        block-by r h s (s .«div_idx_split») (t ∷ []) l (omega arith) (not-true (blocked (s .views) (h .«est_curr» .«idx_next»)) (a .0)) (each-one (Met r) t (record { some = z; from = inr (h .«est_next» .«link_event» .«link_idx», refl) })) (omega arith) (w .1),
         kept t (w .1),
       ))
       (λ w. (subst (λ (x : Search). Looks r h s x) (ok-same (w .1)) (passes (s .«div_idx_split») l (omega arith)), ap (λ (x : Search). x .«div_idx_split») (sym (ok-same (w .1)))))
@@ -178,7 +197,7 @@ module _ (r : Round) (h : Here) where
 data Chosen (next stuck onAlt onNext saved : Bool) : Move → Type 0 where
   rewinds : next ≡ true → stuck ≡ true → Chosen next stuck onAlt onNext saved Rewind
   changing : next ≡ true → Chosen next stuck onAlt onNext saved ChangeDiverge
-  alternating : next ≡ true → stuck ≡ false → Chosen next stuck onAlt onNext saved Alternate
+  alternating : next ≡ true → stuck ≡ false → onAlt ≡ false → Chosen next stuck onAlt onNext saved Alternate
   joining : next ≡ false → Chosen next stuck onAlt onNext saved Join
   saving : next ≡ false → onNext ≡ false → saved ≡ true → Chosen next stuck onAlt onNext saved PushSaved
   emptying : next ≡ false → onNext ≡ false → saved ≡ true → Chosen next stuck onAlt onNext saved BlockEmpty
@@ -187,7 +206,7 @@ data Chosen (next stuck onAlt onNext saved : Bool) : Move → Type 0 where
 chosen : (next stuck onAlt onNext saved : Bool) (same : Res Bool) {m : Move} → moveFrom next stuck onAlt onNext saved same ≡ ok m → Chosen next stuck onAlt onNext saved m
 chosen true true onAlt onNext saved same h = subst (λ (x : Move). Chosen true true onAlt onNext saved x) (ok-same h) (rewinds refl refl)
 chosen true false true onNext saved same h = subst (λ (x : Move). Chosen true false true onNext saved x) (ok-same h) (changing refl)
-chosen true false false onNext saved same h = subst (λ (x : Move). Chosen true false false onNext saved x) (ok-same h) (alternating refl refl)
+chosen true false false onNext saved same h = subst (λ (x : Move). Chosen true false false onNext saved x) (ok-same h) (alternating refl refl refl)
 chosen false stuck onAlt true saved same h = subst (λ (x : Move). Chosen false stuck onAlt true saved x) (ok-same h) (joining refl)
 chosen false stuck onAlt false false same h = subst (λ (x : Move). Chosen false stuck onAlt false false x) (ok-same h) (advancing refl refl)
 chosen false stuck onAlt false true (no n) h = no-ok h
@@ -208,7 +227,7 @@ module _ (r : Round) (h : Here) (s : Search) where
       let e = need-ok (sameEvent (h .«disp_node_curr» .«link_event») (x .0 .«link_event»)) (x .2) in
       subst (λ (k : ℕ). k < length path) (ok-same (e .1)) (at-below path (b .0) (x .1))
 
-  back-cases : (w : Rewound r h s) {t : Turn} → oneBack r h (rewound h s w) ≡ ok t → Did r h s t
+  back-cases : (w : Rewound r h s) {t : Turn} → oneBack r h (holderOf (w .pooled)) (rewound h s w) ≡ ok t → Did r h s t
   unfolding oneBack
   back-cases w {t} q = go (s .«disp_path_new») refl
     where
@@ -223,7 +242,7 @@ module _ (r : Round) (h : Here) (s : Search) where
           (λ d.
           let a = need-ok (eqb (length (w .divs)) 1) (d .1) in
           let b = need-ok (eqb (h .«idx_join_new») (s .«idx_split»)) (a .1) in
-          subst (λ (x : Turn). Did r h s x) (ok-same (b .1)) givesUp)
+          subst (λ (x : Turn). Did r h s x) (ok-same (b .1)) (givesUp w e))
           (cond-cases (lt (r .«offset_cancel» .0) (h .«disp_node_curr» .offset .0) && ltb 1 (s .«idx_split»)) (c .1))) (cond-cases (not (isEmpty (s .«disp_path_new»))) q)
 
   rewind-ok : {t : Turn} → Stuck h s → rewind r h s ≡ ok t → Did r h s t
@@ -243,9 +262,9 @@ module _ (r : Round) (h : Here) (s : Search) where
       }) (d .2)
 
   alternate-ok : {t : Turn} → blocked (s .views) (h .«est_curr» .«idx_next») ≡ true → (h .«est_curr» .«idx_next_alt» .0 ≡ 0 → ⊥) → blocked (s .views) (h .«est_curr» .«idx_next_alt») ≡ false
-      → alternate r h s ≡ ok t → Did r h s t
+      → onPath path (h .«est_curr» .«idx_next_alt») ≡ false → alternate r h s ≡ ok t → Did r h s t
   unfolding alternate pushDivs pushNode diverging
-  alternate-ok {t} b n f q =
+  alternate-ok {t} b n f off q =
       let a = bind-ok (trainsOf (s .«train_idxs_blocking») (viewOf (s .views) (h .«est_curr» .«idx_next»))) q in
       let d = bind-ok (pushDivs (r .train .divergeRoom) (s .«div_nodes_new») (diverging (h .«idx_join_new») (a .0))) (a .2) in
       let e = bind-ok (pushNode (s .«disp_path_new») (alternateNode (h .«disp_node_curr») (h .«est_curr» .«idx_next_alt»))) (d .2) in
@@ -255,7 +274,7 @@ module _ (r : Round) (h : Here) (s : Search) where
       (ap₂ (λ x y. goOn (setNew (setDivsNew (setFree s (alternateFree (h .«idx_join_new») (s .«disp_node_idx_free»))) x) y)) (ok-same (v .1)) (ok-same (w .1)) ∙ ok-same (e .2))
       (alternates (a .0) (a .1) b n f
       (omega (arith, leb-true (length (s .«div_nodes_new») + length (diverging (h .«idx_join_new») (a .0))) (r .train .divergeRoom) (v .0), length-map {B = DivergeNode} (a .0) (λ (t : TrainIdx). record { «train_idx» = t; «disp_node_idx» = h .«idx_join_new» })))
-      (w .0))
+      (w .0) off)
 
   changed : {t : Turn} → changeDiverge r h s ≡ ok t → (e : Ended) × (t ≡ ends e)
   unfolding changeDiverge
@@ -328,7 +347,7 @@ module _ (r : Round) (h : Here) (s : Search) where
           (ltb (s .«idx_save») (r .train .«disp_node_idx_fixed»)) m → doMove m r h s ≡ ok t → Did r h s t
       go _ (rewinds a b) e = rewind-ok (record { next = a; alt = ⊎-elim (λ c. inl (eqb-true (h .«est_curr» .«idx_next_alt» .0) 0 c)) (λ c. inr c) (or-true (sameEst (h .«est_curr» .«idx_next_alt») noEst) (blocked (s .views) (h .«est_curr» .«idx_next_alt»)) b) }) e
       go _ (changing a) e = let w = changed e in subst (λ (x : Turn). Did r h s x) (sym (w .1)) (changes (w .0) a (e ∙ ap ok (w .1)))
-      go _ (alternating a b) e = let c = or-false (sameEst (h .«est_curr» .«idx_next_alt») noEst) (blocked (s .views) (h .«est_curr» .«idx_next_alt»)) b in alternate-ok a (eqb-false (h .«est_curr» .«idx_next_alt» .0) 0 (c .0)) (c .1) e
+      go _ (alternating a b off) e = let c = or-false (sameEst (h .«est_curr» .«idx_next_alt») noEst) (blocked (s .views) (h .«est_curr» .«idx_next_alt»)) b in alternate-ok a (eqb-false (h .«est_curr» .«idx_next_alt» .0) 0 (c .0)) (c .1) off e
       go _ (joining a) e = let w = joined e in subst (λ (x : Turn). Did r h s x) (sym (w .1)) (joins (w .0) a (e ∙ ap ok (w .1)))
       go _ (saving a b c) e = save-ok (free a b) (before-fixed c) e
       go _ (emptying a b c) e = subst (λ (x : Turn). Did r h s x) (ok-same e) (empties (free a b) (before-fixed c))

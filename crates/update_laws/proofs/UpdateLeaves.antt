@@ -13,9 +13,10 @@ use Rattle.image.proofs.CodecLaws.{Keeps, Held}
 use Rattle.image_fault.specs.ImageFault.{imageFault}
 use Rattle.link_rules.specs.declared.refusal.Refusal.{Refusal}
 use Rattle.image_fault.proofs.AcceptLaws as Clean
-use Rattle.update_definition.specs.Update.{Status, Success, Blocked, Faulty, Refused, Updated, updateFreePath}
+use Rattle.update_definition.specs.Update.{Status, Success, Blocked, Faulty, Refused, Updated, holderIn, updateFreePath}
 use Rattle.update_definition.specs.Fits.{TrainsWithin, Fits}
 use Rattle.update_laws.specs.AfterRound.{SameTrip, Leaves}
+use Rattle.update_laws.specs.FitsGood.{TrainFits}
 use Rattle.update_laws.proofs.Updates.{StaysFit, update-fits}
 use Rattle.update_definition.specs.UpdateImage.{UpdatedImage, callFault, leftImage, answerBy, linkIdxs, updateFault, updatedImage}
 use Rattle.update_laws.proofs.BytesAccepted.{bytes-accepted, within-higher}
@@ -30,13 +31,13 @@ answer-leaves (suc k) f u img r e = refl
 
 left-length : (s : Status) (t : Train) (img : List ℕ) → length (leftImage s t img) ≡ length img
 left-length Success t img = length-stored t img
-left-length Blocked t img = length-stored t img
+left-length (Blocked holder) t img = length-stored t img
 left-length (Faulty n) t img = length-stored t img
 left-length (Refused r) t img = refl
 
 left-bytes : (s : Status) (t : Train) (img : List ℕ) → Bytes img → Bytes (leftImage s t img)
 left-bytes Success t img b = bytes-stored t img b
-left-bytes Blocked t img b = bytes-stored t img b
+left-bytes (Blocked holder) t img b = bytes-stored t img b
 left-bytes (Faulty n) t img b = bytes-stored t img b
 left-bytes (Refused r) t img b = b
 
@@ -64,9 +65,9 @@ module _ (img : List ℕ) (l : ℕ) (b : Bytes img) (h : imageFault img l .numbe
   stored : (u : Train) → Fit u → (imageFault (storedInto u img) l .number ≡ 0) × (decoded (storedInto u img) ≡ u)
   stored u w = accepted-bytes img l b h (largestTrain img) (omega arith) u (keeps u (w .stays .same)) (w .stays .accepted) (w .fit)
 
-  pub left-passes : (s : Status) (u : Train) → Leaves Fit (decoded img) s u → (imageFault (leftImage s u img) l .number ≡ 0) × (decoded (leftImage s u img) ≡ u)
+  pub left-passes : (s : Status) (u : Train) → Leaves Fit (TrainFits (largestTrain img)) (decoded img) s u → (imageFault (leftImage s u img) l .number ≡ 0) × (decoded (leftImage s u img) ≡ u)
   left-passes Success u w = stored u w
-  left-passes Blocked u w = stored u w
+  left-passes (Blocked holder) u w = stored u (w .0)
   left-passes (Faulty n) u w = stored u w
   left-passes (Refused r) u w = (h, sym w)
 
@@ -75,22 +76,29 @@ module _ (img : List ℕ) (l : ℕ) (b : Bytes img) (h : imageFault img l .numbe
     updated = updateFreePath occ (linkIdxs blocking) (record { 0 = moved }) local limit (decoded img)
 
     -- where the image's trains and those of the call are up to top, so are those of the train that is left
-    pub leaves-up-to : (top : ℕ) → Fits top (decoded img) → TrainsWithin top occ moved → Leaves (StaysFit l top (decoded img)) (decoded img) (updated .answer .status) (updated .train)
+    pub leaves-up-to : (top : ℕ) → Fits top (decoded img) → TrainsWithin top occ moved → Leaves (StaysFit l top (decoded img)) (TrainFits top) (decoded img) (updated .answer .status) (updated .train)
     leaves-up-to top f w = update-fits l top occ (linkIdxs blocking) (record { 0 = moved }) local limit (decoded img) (bytes-accepted img l b h .0) f w
 
-    pub leaves : (top : ℕ) → top ≤ largestTrain img → TrainsWithin top occ moved → Leaves Fit (decoded img) (updated .answer .status) (updated .train)
+    pub leaves : (top : ℕ) → top ≤ largestTrain img → TrainsWithin top occ moved → Leaves Fit (TrainFits (largestTrain img)) (decoded img) (updated .answer .status) (updated .train)
     leaves top low w = leaves-up-to (largestTrain img) (bytes-accepted img l b h .1) (within-higher top (largestTrain img) low occ moved w)
 
-  answer-passes : (k : ℕ) (f : Refusal) (u : Updated) → Leaves Fit (decoded img) (u .answer .status) (u .train) → imageFault (answerBy k f u img .image) l .number ≡ 0
+  answer-passes : (k : ℕ) (f : Refusal) (u : Updated) → Leaves Fit (TrainFits (largestTrain img)) (decoded img) (u .answer .status) (u .train) → imageFault (answerBy k f u img .image) l .number ≡ 0
   answer-passes zero f u w = left-passes (u .answer .status) (u .train) w .0
   answer-passes (suc k) f u w = h
 
 -- trains up to top are left where there were none above it
-left-fits : (l top : ℕ) (t u : Train) (s : Status) → Fits top t → Leaves (StaysFit l top t) t s u → Fits top u
+left-fits : (l top : ℕ) (t u : Train) (s : Status) → Fits top t → Leaves (StaysFit l top t) (TrainFits top) t s u → Fits top u
 left-fits l top t u Success f w = w .fit
-left-fits l top t u Blocked f w = w .fit
+left-fits l top t u (Blocked holder) f w = w .0 .fit
 left-fits l top t u (Faulty n) f w = w .fit
 left-fits l top t u (Refused r) f w = subst (λ (x : Train). Fits top x) (sym w) f
+
+-- a holder up to top
+holder-fits : (L : Train → Type 0) (top : ℕ) (t u : Train) (s : Status) → Leaves L (TrainFits top) t s u → holderIn s ≤ top
+holder-fits L top t u Success w = omega arith
+holder-fits L top t u (Blocked holder) w = w .1
+holder-fits L top t u (Faulty n) w = omega arith
+holder-fits L top t u (Refused r) w = omega arith
 
 -- ---- the call; top is the largest train, of which laws ask that the image holds it
 
@@ -154,3 +162,20 @@ module _ (img occ blocking : List ℕ) (moved : ℕ) (local : Bool) (limit : ℕ
           let r = updateFault img occ blocking moved limit in
           let u = updateFreePath occ (linkIdxs blocking) (record { 0 = moved }) local limit (decoded img) in
           subst (λ (n : ℕ). Fits top (decoded (answerBy n r u img .image))) (sym e) f
+
+  -- the holder of a blocked one is a train that the image holds
+  pub left-holder : Bytes img → TrainsWithin (largestTrain img) occ moved → holderIn (after .answer .status) ≤ largestTrain img
+  unfolding updatedImage updateFault
+  left-holder b w = go (updateFault img occ blocking moved limit .number) refl
+    where
+      go : (k : ℕ) → updateFault img occ blocking moved limit .number ≡ k → holderIn (after .answer .status) ≤ largestTrain img
+      go zero e =
+          let r = updateFault img occ blocking moved limit in
+          let u = updateFreePath occ (linkIdxs blocking) (record { 0 = moved }) local limit (decoded img) in
+          let h = Clean.or-else-clean (callFault occ blocking moved limit) (imageFault img (length occ)) e .1 in
+          subst (λ (n : ℕ). holderIn (answerBy n r u img .answer .status) ≤ largestTrain img) (sym e)
+          (holder-fits _ (largestTrain img) (decoded img) (u .train) (u .answer .status) (leaves img (length occ) b h occ blocking moved local limit (largestTrain img) (omega arith) w))
+      go (suc k) e =
+          let r = updateFault img occ blocking moved limit in
+          let u = updateFreePath occ (linkIdxs blocking) (record { 0 = moved }) local limit (decoded img) in
+          subst (λ (n : ℕ). holderIn (answerBy n r u img .answer .status) ≤ largestTrain img) (sym e) (omega arith)

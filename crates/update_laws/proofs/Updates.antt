@@ -1,11 +1,12 @@
--- An accepted train stays accepted: whatever an update leaves is the train itself where it is refused, and else accepted and of the same trip. Assumes nothing.
-use mathlib.Core.Logic.{⊎-elim}
+-- An accepted train stays accepted: whatever an update leaves is the train itself where it is refused, and else accepted and of the same trip. The
+-- holder of a blocked one is not 0. Assumes nothing.
+use mathlib.Core.Logic.{_⊎_, inl, inr, ⊎-elim}
 use mathlib.Core.Path.{_≡_, refl, sym, ap, _∙_, subst}
 use mathlib.Core.Bool.{Bool, true, false, cond}
 use mathlib.Core.List.{List, [], _∷_}
 use Prim.Native.Nat.{ℕ, zero, suc, _+_, _-_, _<_, _≤_}
 use native.Mathlib.Omega.{arith}
-use lib.ListN.{length}
+use lib.ListN.{length, getD}
 use Rattle.link_rules.specs.LinkIdx.{noTrain}
 use Rattle.link_rules.specs.declared.link_idx.LinkIdx.{LinkIdx}
 use Rattle.link_rules.specs.declared.link_idx.TrainIdx.{TrainIdx}
@@ -16,14 +17,16 @@ use Rattle.tally.specs.Tally.{counted}
 use Rattle.tally.specs.declared.Tally.{Tally}
 use Rattle.free_path.specs.Base.{Res, ok, no, at}
 use Rattle.update_definition.specs.State.{Ended, atEnd, blockedAt, again, withDivNodes}
-use Rattle.update_definition.specs.Update.{Given, Updated, Between, between, refused, straysOf, faultsOf, finish, afterRound, searched, due, roundsFrom, roundOf, adjustSentinel, givenOf, startOf, updateFrom, updateFreePath, turnLimit}
+use Rattle.update_definition.specs.Update.{Given, Status, Blocked, Updated, Between, between, refused, straysOf, faultsOf, finish, afterRound, searched, due, roundsFrom, roundOf, adjustSentinel, givenOf, startOf, updateFrom, updateFreePath, turnLimit}
 use Rattle.update_definition.specs.Accepted.{Each, Accepted, DivsAccepted}
-use Rattle.update_definition.specs.Fits.{TrainsUpTo, TrainsWithin, NodeFits, Fits}
+use Rattle.update_definition.specs.Fits.{TrainsUpTo, TrainsWithin, NodeFits, FitsWith, Fits}
+use Rattle.update_laws.specs.Turns.{SomeTrain}
 use Rattle.update_laws.specs.AfterRound.{SameTrip, StaysAccepted, EndsGood, Leaves}
-use Rattle.update_laws.specs.FitsGood.{TrainFits, DivFits, EndsFit}
+use Rattle.update_laws.specs.FitsGood.{DivWith, EntriesWith, EndsWith, TrainFits}
 use Rattle.update_laws.proofs.Answers.{no-ok, ok-same}
 use Rattle.update_laws.proofs.Lists.{each-one, at-some, at-last, last-at}
 use Rattle.update_laws.proofs.Rounds.{Begun, round-begun, round-good}
+use Rattle.update_laws.proofs.Holders.{EndsHeld, round-held}
 use Rattle.update_laws.proofs.Fitting.{search-fits}
 
 -- ---- the sentinel
@@ -74,19 +77,19 @@ same-trans t u v a b = record { ests = b .ests ∙ a .ests; train = b .train ∙
 stays-trans : (links : ℕ) (t u v : Train) → StaysAccepted links t u → StaysAccepted links u v → StaysAccepted links t v
 stays-trans links t u v a b = record { accepted = b .accepted; same = same-trans t u v (a .same) (b .same) }
 
--- K holds at the top of a round of the train, idx_split and div_idx_split, and L of the train that is left
-module _ (g : Given) (was : Train) (L : Train → Type 0) (K : Train → ℕ → ℕ → Type 0) where
+-- K holds at the top of a round of the train, idx_split and div_idx_split, L of the train that is left, and H of the holder of a blocked one
+module _ (g : Given) (was : Train) (L : Train → Type 0) (H : TrainIdx → Type 0) (K : Train → ℕ → ℕ → Type 0) where
   -- what a round hands on
   abbrev Hands : Ended → Type 0
   Hands atEnd = Unit {0}
-  Hands (blockedAt t) = L t
+  Hands (blockedAt t holder) = L t × H holder
   Hands (again t split k) = K t split k
 
   abbrev Between-holds : Between → Type 0
   Between-holds w = K (w .train) (w .«idx_split») (w .«div_idx_split»)
 
   abbrev Left : Updated → Type 0
-  Left u = Leaves L was (u .answer .status) (u .train)
+  Left u = Leaves L H was (u .answer .status) (u .train)
 
   finish-leaves : (x : Res ℕ) (tally : Tally) (t : Train) → L t → Left (finish x tally was t)
   unfolding finish
@@ -99,7 +102,7 @@ module _ (g : Given) (was : Train) (L : Train → Type 0) (K : Train → ℕ →
   unfolding afterRound
   after-leaves (no n) next w l f h = refl
   after-leaves (ok atEnd) next w l f h = finish-leaves (faultsOf g (w .train)) (counted (w .tally) (straysOf g (w .train))) (w .train) l
-  after-leaves (ok (blockedAt t)) next w l f h = f (blockedAt t) refl
+  after-leaves (ok (blockedAt t holder)) next w l f h = f (blockedAt t holder) refl
   after-leaves (ok (again t split divSplit)) next w l f h =
       h (between t split divSplit (counted (w .tally) (straysOf g t))) (f (again t split divSplit) refl)
 
@@ -127,13 +130,14 @@ pub record TopGood (links : ℕ) (was t : Train) (split k : ℕ) : Type 0 where
   pub split-low : 1 ≤ split
   pub div-low : 1 ≤ k
 
-pub top-hands : (links : ℕ) (g : Given) (was t : Train) (split k : ℕ) (e : Ended) → TopGood links was t split k → roundOf g t split k ≡ ok e → Hands g was (StaysAccepted links was) (TopGood links was) e
-top-hands links g was t split k e w q = go e (round-good links g t (w .stays .accepted) split k (w .split-low) (w .div-low) q)
+pub top-hands : (links : ℕ) (g : Given) (was t : Train) (split k : ℕ) (e : Ended) → TopGood links was t split k → roundOf g t split k ≡ ok e → Hands g was (StaysAccepted links was) SomeTrain (TopGood links was) e
+top-hands links g was t split k e w q =
+    go e (round-good links g t (w .stays .accepted) split k (w .split-low) (w .div-low) q) (round-held links g t split k e (w .stays .accepted) (w .split-low) (w .div-low) q)
   where
-    go : (e : Ended) → EndsGood links t e → Hands g was (StaysAccepted links was) (TopGood links was) e
-    go atEnd h = tt
-    go (blockedAt u) h = stays-trans links was t u (w .stays) h
-    go (again u i d) h = record { stays = stays-trans links was t u (w .stays) (h .0); split-low = h .1 .low; div-low = h .1 .point .low }
+    go : (e : Ended) → EndsGood links t e → EndsHeld e → Hands g was (StaysAccepted links was) SomeTrain (TopGood links was) e
+    go atEnd h b = tt
+    go (blockedAt u holder) h b = (stays-trans links was t u (w .stays) h, b)
+    go (again u i d) h b = record { stays = stays-trans links was t u (w .stays) (h .0); split-low = h .1 .low; div-low = h .1 .point .low }
 
 -- the train of an update as its first round finds it
 pub top-start : (links : ℕ) (moved : TrainIdx) (t : Train) → Accepted links t → TopGood links t (withDivNodes t (adjustSentinel moved (t .«div_nodes»))) 1 1
@@ -159,79 +163,112 @@ top-start links moved t g = record {
 }
 
 pub update-leaves : (links : ℕ) (occ : List ℕ) (blocking : List LinkIdx) (moved : TrainIdx) (local : Bool) (limit : ℕ) (t : Train) → Accepted links t
-    → Leaves (StaysAccepted links t) t (updateFreePath occ blocking moved local limit t .answer .status) (updateFreePath occ blocking moved local limit t .train)
+    → Leaves (StaysAccepted links t) SomeTrain t (updateFreePath occ blocking moved local limit t .answer .status) (updateFreePath occ blocking moved local limit t .train)
 unfolding updateFreePath
 update-leaves links occ blocking moved local limit t g = go (at (t .«disp_path») (t .«disp_node_idx_free»))
   where
-    go : (x : Res DispNode) → Leaves (StaysAccepted links t) t (updateFrom x occ blocking moved local limit t .answer .status) (updateFrom x occ blocking moved local limit t .train)
+    go : (x : Res DispNode) → Leaves (StaysAccepted links t) SomeTrain t (updateFrom x occ blocking moved local limit t .answer .status) (updateFrom x occ blocking moved local limit t .train)
     go (no n) = refl
     go (ok n) =
         let v = givenOf occ blocking moved local t n in
-        rounds-leave v t (StaysAccepted links t) (TopGood links t) (λ u i d k. k .stays) (λ u i d e k q. top-hands links v t u i d e k q) limit (startOf v t) (top-start links moved t g)
+        rounds-leave v t (StaysAccepted links t) SomeTrain (TopGood links t) (λ u i d k. k .stays) (λ u i d e k q. top-hands links v t u i d e k q) limit (startOf v t) (top-start links moved t g)
 
 -- ---- and an image can hold it
 
--- at the top of a round, trains up to top
-record TopFits (links top : ℕ) (was t : Train) (split k : ℕ) : Type 0 where
+-- at the top of a round, with trains of which P holds
+record TopFits (links : ℕ) (P : TrainIdx → Type 0) (was t : Train) (split k : ℕ) : Type 0 where
   good : TopGood links was t split k
-  fit : Fits top t
+  fit : FitsWith P t
 
--- the train that is left: accepted, of the same trip, within its fields, with trains up to top
-pub record StaysFit (links top : ℕ) (t u : Train) : Type 0 where
+-- the train that is left: accepted, of the same trip, within its fields, with such trains
+pub record StaysWith (links : ℕ) (P : TrainIdx → Type 0) (t u : Train) : Type 0 where
   pub stays : StaysAccepted links t u
-  pub fit : Fits top u
+  pub fit : FitsWith P u
 
-begun-fits : (links top : ℕ) (occ : List ℕ) (t : Train) (g : Accepted links t) (f : Fits top t) → TrainsUpTo top occ → {e : Ended} → Begun links occ t (ok e) → EndsFit top e
+-- with trains up to top
+abbrev pub StaysFit : ℕ → ℕ → Train → Train → Type 0
+StaysFit links top t u = StaysWith links (TrainFits top) t u
+
+begun-fits : (links : ℕ) (P : TrainIdx → Type 0) (none : P noTrain) (occ : List ℕ) (t : Train) (g : Accepted links t) (f : FitsWith P t) → EntriesWith P occ → {e : Ended} → Begun links occ t (ok e) → EndsWith P e
 unfolding at
-begun-fits links top occ t g f held {e} w =
+begun-fits links P none occ t g f held {e} w =
     let r = w .round in
     let s = w .search in
-    search-fits top r
-    (record { train = subst (λ (y : Train). Fits top y) (sym (w .train-is)) f; held = subst (λ (y : List ℕ). TrainsUpTo top y) (sym (w .occ-is)) held })
+    search-fits P none r
+    (record { train = subst (λ (y : Train). FitsWith P y) (sym (w .train-is)) f; held = subst (λ (y : List ℕ). EntriesWith P y) (sym (w .occ-is)) held })
     links (subst (λ (y : Train). Accepted links y) (sym (w .train-is)) g) (turnLimit t) s e (w .good)
     (record {
-      pool = subst (λ (y : List TrainIdx). Each (TrainFits top) y) (sym (w .pool-is)) (each-one (TrainFits top) noTrain (omega arith));
+      pool = subst (λ (y : List TrainIdx). Each P y) (sym (w .pool-is)) (each-one P noTrain none);
       nodes = subst (λ (y : List DispNode). Each NodeFits y) (sym (w .new-is)) (λ i x p. no-ok p);
-      divs = subst (λ (y : List DivergeNode). Each (DivFits top) y) (sym (w .divs-is)) (each-one (DivFits top) (record { «train_idx» = noTrain; «disp_node_idx» = 0 }) (omega arith));
+      divs = subst (λ (y : List DivergeNode). Each (DivWith P) y) (sym (w .divs-is)) (each-one (DivWith P) (record { «train_idx» = noTrain; «disp_node_idx» = 0 }) none);
     })
     (w .searched)
 
 -- what a round ends with fits
-pub round-fits : (links top : ℕ) (g : Given) (t : Train) (split k : ℕ) (e : Ended) → Accepted links t → Fits top t → TrainsUpTo top (g .«links_blocked») → 1 ≤ split → 1 ≤ k → roundOf g t split k ≡ ok e
-    → EndsFit top e
-round-fits links top g t split k e a f held i d q =
-    ⊎-elim (λ z. subst (λ (y : Ended). EndsFit top y) (sym z) tt) (λ b. begun-fits links top (g .«links_blocked») t a f held b) (round-begun links g t a split k i d q)
+pub round-fits : (links : ℕ) (P : TrainIdx → Type 0) (none : P noTrain) (g : Given) (t : Train) (split k : ℕ) (e : Ended) → Accepted links t → FitsWith P t → EntriesWith P (g .«links_blocked») → 1 ≤ split → 1 ≤ k → roundOf g t split k ≡ ok e
+    → EndsWith P e
+round-fits links P none g t split k e a f held i d q =
+    ⊎-elim (λ z. subst (λ (y : Ended). EndsWith P y) (sym z) tt) (λ b. begun-fits links P none (g .«links_blocked») t a f held b) (round-begun links g t a split k i d q)
 
-fit-hands : (links top : ℕ) (g : Given) (was t : Train) (split k : ℕ) (e : Ended) → TrainsUpTo top (g .«links_blocked») → TopFits links top was t split k → roundOf g t split k ≡ ok e
-    → Hands g was (StaysFit links top was) (TopFits links top was) e
-fit-hands links top g was t split k e held w q =
-    go e (top-hands links g was t split k e (w .good) q) (round-fits links top g t split k e (w .good .stays .accepted) (w .fit) held (w .good .split-low) (w .good .div-low) q)
+fit-hands : (links : ℕ) (P : TrainIdx → Type 0) (none : P noTrain) (g : Given) (was t : Train) (split k : ℕ) (e : Ended) → EntriesWith P (g .«links_blocked») → TopFits links P was t split k → roundOf g t split k ≡ ok e
+    → Hands g was (StaysWith links P was) P (TopFits links P was) e
+fit-hands links P none g was t split k e held w q =
+    go e (top-hands links g was t split k e (w .good) q) (round-fits links P none g t split k e (w .good .stays .accepted) (w .fit) held (w .good .split-low) (w .good .div-low) q)
   where
-    go : (e : Ended) → Hands g was (StaysAccepted links was) (TopGood links was) e → EndsFit top e → Hands g was (StaysFit links top was) (TopFits links top was) e
+    go : (e : Ended) → Hands g was (StaysAccepted links was) SomeTrain (TopGood links was) e → EndsWith P e → Hands g was (StaysWith links P was) P (TopFits links P was) e
     go atEnd h f = tt
-    go (blockedAt u) h f = record { stays = h; fit = f }
+    go (blockedAt u holder) h f = (record { stays = h .0; fit = f .0 }, f .1)
     go (again u i d) h f = record { good = h; fit = f }
 
 -- the sentinel takes the moved train
-pub adjusted-fits : (top : ℕ) (moved : TrainIdx) (divs : List DivergeNode) → TrainFits top moved → Each (DivFits top) divs → Each (DivFits top) (adjustSentinel moved divs)
+pub adjusted-fits : (P : TrainIdx → Type 0) (moved : TrainIdx) (divs : List DivergeNode) → P moved → Each (DivWith P) divs → Each (DivWith P) (adjustSentinel moved divs)
 unfolding adjustSentinel at
-adjusted-fits top moved [] m f i d h = no-ok h
-adjusted-fits top moved (x ∷ []) m f zero d h = subst (λ (y : DivergeNode). DivFits top y) (ok-same h) m
-adjusted-fits top moved (x ∷ []) m f (suc i) d h = no-ok h
-adjusted-fits top moved (x ∷ (e ∷ es)) m f zero d h = f 0 d h
-adjusted-fits top moved (x ∷ (e ∷ es)) m f (suc i) d h = adjusted-fits top moved (e ∷ es) m (λ j y p. f (suc j) y p) i d h
+adjusted-fits P moved [] m f i d h = no-ok h
+adjusted-fits P moved (x ∷ []) m f zero d h = subst (λ (y : DivergeNode). DivWith P y) (ok-same h) m
+adjusted-fits P moved (x ∷ []) m f (suc i) d h = no-ok h
+adjusted-fits P moved (x ∷ (e ∷ es)) m f zero d h = f 0 d h
+adjusted-fits P moved (x ∷ (e ∷ es)) m f (suc i) d h = adjusted-fits P moved (e ∷ es) m (λ j y p. f (suc j) y p) i d h
 
-pub update-fits : (links top : ℕ) (occ : List ℕ) (blocking : List LinkIdx) (moved : TrainIdx) (local : Bool) (limit : ℕ) (t : Train) → Accepted links t → Fits top t → TrainsWithin top occ (moved .0)
-    → Leaves (StaysFit links top t) t (updateFreePath occ blocking moved local limit t .answer .status) (updateFreePath occ blocking moved local limit t .train)
+-- where P holds of the trains of the diverge nodes, of the occupancy and of the moved one, it holds of those that are left, and of the holder
+pub update-with : (links : ℕ) (P : TrainIdx → Type 0) (none : P noTrain) (occ : List ℕ) (blocking : List LinkIdx) (moved : TrainIdx) (local : Bool) (limit : ℕ) (t : Train) → Accepted links t → FitsWith P t
+    → EntriesWith P occ → P moved → Leaves (StaysWith links P t) P t (updateFreePath occ blocking moved local limit t .answer .status) (updateFreePath occ blocking moved local limit t .train)
 unfolding updateFreePath
-update-fits links top occ blocking moved local limit t g f w = go (at (t .«disp_path») (t .«disp_node_idx_free»))
+update-with links P none occ blocking moved local limit t g f held m = go (at (t .«disp_path») (t .«disp_node_idx_free»))
   where
-    go : (x : Res DispNode) → Leaves (StaysFit links top t) t (updateFrom x occ blocking moved local limit t .answer .status) (updateFrom x occ blocking moved local limit t .train)
+    go : (x : Res DispNode) → Leaves (StaysWith links P t) P t (updateFrom x occ blocking moved local limit t .answer .status) (updateFrom x occ blocking moved local limit t .train)
     go (no n) = refl
     go (ok n) =
         let v = givenOf occ blocking moved local t n in
-        rounds-leave v t (StaysFit links top t) (TopFits links top t) (λ u i d k. record { stays = k .good .stays; fit = k .fit }) (λ u i d e k q. fit-hands links top v t u i d e (w .entries) k q) limit (startOf v t)
+        rounds-leave v t (StaysWith links P t) P (TopFits links P t) (λ u i d k. record { stays = k .good .stays; fit = k .fit }) (λ u i d e k q. fit-hands links P none v t u i d e held k q) limit (startOf v t)
         (record {
           good = top-start links moved t g;
-          fit = record { ests = f .ests; nodes = f .nodes; divs = adjusted-fits top moved (t .«div_nodes») (w .moved-low) (f .divs); train = f .train; search = f .search; fixedMax = f .fixedMax };
+          fit = record { ests = f .ests; nodes = f .nodes; divs = adjusted-fits P moved (t .«div_nodes») m (f .divs); train = f .train; search = f .search; fixedMax = f .fixedMax };
         })
+
+pub update-fits : (links top : ℕ) (occ : List ℕ) (blocking : List LinkIdx) (moved : TrainIdx) (local : Bool) (limit : ℕ) (t : Train) → Accepted links t → Fits top t → TrainsWithin top occ (moved .0)
+    → Leaves (StaysFit links top t) (TrainFits top) t (updateFreePath occ blocking moved local limit t .answer .status) (updateFreePath occ blocking moved local limit t .train)
+update-fits links top occ blocking moved local limit t g f w = update-with links (TrainFits top) (omega arith) occ blocking moved local limit t g f (w .entries) (w .moved-low)
+
+-- ---- who holds a blocked train
+
+-- a train that holds a link, stands in a diverge node, or is the moved one
+abbrev pub From : List ℕ → TrainIdx → Train → TrainIdx → Type 0
+From occ moved t x = ((i : ℕ) × (x .0 ≡ getD occ i 0)) ⊎ (((i : ℕ) × (d : DivergeNode) × (at (t .«div_nodes») i ≡ ok d) × (d .«train_idx» ≡ x)) ⊎ (x ≡ moved))
+
+-- and is not 0
+pub record HolderOf (occ : List ℕ) (moved : TrainIdx) (t : Train) (x : TrainIdx) : Type 0 where
+  pub some : SomeTrain x
+  pub from : From occ moved t x
+
+-- of an accepted train that an image can hold
+pub update-holder : (links top : ℕ) (occ : List ℕ) (blocking : List LinkIdx) (moved : TrainIdx) (local : Bool) (limit : ℕ) (t : Train) → Accepted links t → Fits top t
+    → (x : TrainIdx) → updateFreePath occ blocking moved local limit t .answer .status ≡ Blocked x → HolderOf occ moved t x
+update-holder links top occ blocking moved local limit t g f x q =
+    let u = updateFreePath occ blocking moved local limit t in
+    let F : TrainIdx → Type 0 = λ (y : TrainIdx). (y ≡ noTrain) ⊎ From occ moved t y in
+    let a = subst (λ (s : Status). Leaves (StaysAccepted links t) SomeTrain t s (u .train)) q (update-leaves links occ blocking moved local limit t g) .1 in
+    let b = subst (λ (s : Status). Leaves (StaysWith links F t) F t s (u .train)) q
+    (update-with links F (inl refl) occ blocking moved local limit t g
+    (record { ests = f .ests; nodes = f .nodes; divs = λ i d p. inr (inr (inl (i, d, p, refl))); train = f .train; search = f .search; fixedMax = f .fixedMax })
+    (λ i. inr (inl (i, refl))) (inr (inr (inr refl)))) .1 in
+    record { some = a; from = ⊎-elim (λ z. absurd (a (ap (λ (y : TrainIdx). y .0) z))) (λ z. z) b }

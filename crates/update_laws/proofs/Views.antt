@@ -79,8 +79,8 @@ module _ (e : ℕ) (r : Round) (h : Here) (s : Search) (g : ViewsGood e s) where
   pub did-views : {t : Turn} → Did r h s t → After (ViewsGood e) t
   did-views (pops w n ns q) = record { pool = rewound-good w .pool; long = rewound-long w; each = rewound-views w }
   did-views (shortens w q l) = record { pool = rewound-good w .pool; long = rewound-long w; each = rewound-views w }
-  did-views givesUp = tt
-  did-views (alternates ts p b n f o w) = record { pool = g .pool; long = g .long; each = g .each }
+  did-views (givesUp w q) = tt
+  did-views (alternates ts p b n f o w off) = record { pool = g .pool; long = g .long; each = g .each }
   did-views (changes d b q) = tt
   did-views (saves n m f l a w z) = record { pool = g .pool; long = g .long; each = g .each }
   did-views (empties f l) = record {
@@ -94,7 +94,7 @@ module _ (e : ℕ) (r : Round) (h : Here) (s : Search) (g : ViewsGood e s) where
 -- so does a look
 pub looks-views : (e : ℕ) (r : Round) (h : Here) {s u : Search} → Looks r h s u → ViewsGood e s → ViewsGood e u
 looks-views e r h (passes d a b) g = record { pool = g .pool; long = g .long; each = g .each }
-looks-views e r h {s} (blocks d ts a b c t f) g =
+looks-views e r h {s} (blocks d ts a b c t f some) g =
     let n = length-append (s .«train_idxs_blocking») ts in
     record {
       pool = pool-more (s .«train_idxs_blocking») ts (g .pool) (λ i x p. t i x p .some) f;

@@ -3,6 +3,7 @@ use Prim.Native.Nat.{ℕ, _≤_, _<_}
 use mathlib.Core.Path.{_≡_}
 use mathlib.Core.List.{List}
 use lib.ListN.{length}
+use Rattle.link_rules.specs.declared.link_idx.TrainIdx.{TrainIdx}
 use Rattle.disp_structs.specs.Train.{Train}
 use Rattle.disp_structs.specs.declared.DivergeNode.{DivergeNode}
 use Rattle.free_path.specs.Base.{ok, at, before}
@@ -39,7 +40,7 @@ pub record NextRound (u : Train) (split k : ℕ) : Type 0 where
 -- a round of t ends so
 abbrev pub EndsGood : ℕ → Train → Ended → Type 0
 EndsGood links t atEnd = Unit {0}
-EndsGood links t (blockedAt u) = StaysAccepted links t u
+EndsGood links t (blockedAt u holder) = StaysAccepted links t u
 EndsGood links t (again u split k) = StaysAccepted links t u × NextRound u split k
 
 -- P holds of how a turn ends the round
@@ -47,9 +48,9 @@ abbrev pub AtEnd : (Ended → Type 0) → Turn → Type 0
 AtEnd P (goOn u) = Unit {0}
 AtEnd P (ends e) = P e
 
--- an update of t with this status leaves u: refused the train itself, else a train of which L holds
-abbrev pub Leaves : (Train → Type 0) → Train → Status → Train → Type 0
-Leaves L t Success u = L u
-Leaves L t Blocked u = L u
-Leaves L t (Faulty n) u = L u
-Leaves L t (Refused r) u = u ≡ t
+-- an update of t with this status leaves u: refused the train itself, else a train of which L holds; of the holder of a blocked one H holds
+abbrev pub Leaves : (Train → Type 0) → (TrainIdx → Type 0) → Train → Status → Train → Type 0
+Leaves L H t Success u = L u
+Leaves L H t (Blocked holder) u = L u × H holder
+Leaves L H t (Faulty n) u = L u
+Leaves L H t (Refused r) u = u ≡ t

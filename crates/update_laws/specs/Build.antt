@@ -74,10 +74,10 @@ unfoldable pub divNumbers : List DivergeNode → List ℕ
 divNumbers [] = []
 divNumbers (d ∷ ds) = d .«train_idx» .0 ∷ d .«disp_node_idx» ∷ divNumbers ds
 
--- 0 Success, 1 Blocked, 2 Faulty, 3 Refused; then the count or the number, and the place
+-- 0 Success, 1 Blocked, 2 Faulty, 3 Refused; then the holder, the count or the number, and the place
 abbrev pub statusNumbers : Status → List ℕ → List ℕ
 statusNumbers Success rest = 0 ∷ 0 ∷ 0 ∷ rest
-statusNumbers Blocked rest = 1 ∷ 0 ∷ 0 ∷ rest
+statusNumbers (Blocked holder) rest = 1 ∷ holder .0 ∷ 0 ∷ rest
 statusNumbers (Faulty n) rest = 2 ∷ n ∷ 0 ∷ rest
 statusNumbers (Refused r) rest = 3 ∷ r .number ∷ r .place ∷ rest
 

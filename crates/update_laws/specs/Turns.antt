@@ -17,7 +17,7 @@ use Rattle.free_path.specs.TrainIdxsView.{Pooled, poolRoom}
 use Rattle.update_definition.specs.State.{Round, Search, Turn, goOn, ends, Ended, blockedAt, setSplit, setDivSplit, setSave, setFree, setNew, setDivsNew, setPool, setView, viewOf, blocked, diverging, withFree}
 use Rattle.free_path.specs.Validate.{onPath}
 use Rattle.update_definition.specs.Look.{Here, current, storedTrains}
-use Rattle.update_definition.specs.Moves.{trainsOf, rewindView, rewindDivs, alternateFree, alternateNode, changeDiverge, savedFree, savedNode, advanceNode}
+use Rattle.update_definition.specs.Moves.{trainsOf, rewindView, holderOf, rewindDivs, alternateFree, alternateNode, changeDiverge, savedFree, savedNode, advanceNode}
 use Rattle.update_definition.specs.Join.{join}
 use Rattle.update_definition.specs.Accepted.{Each}
 
@@ -42,7 +42,7 @@ pub record Stands (r : Round) (s : Search) (h : Here) : Type 0 where
 pub data Looks (r : Round) (h : Here) (s : Search) : Search → Type 0 where
   passes : (d : ℕ) → 1 ≤ d → d ≤ s .«div_idx_split» → Looks r h s (setDivSplit s d)
   blocks : (d : ℕ) (ts : List TrainIdx) → 1 ≤ d → d ≤ s .«div_idx_split» → blocked (s .views) (h .«est_curr» .«idx_next») ≡ false → Each (Met r) ts
-      → length (s .«train_idxs_blocking») + length ts ≤ poolRoom
+      → length (s .«train_idxs_blocking») + length ts ≤ poolRoom → 1 ≤ length ts
       → Looks r h s (setPool (setView (setDivSplit s d) (h .«est_curr» .«idx_next») (view (length (s .«train_idxs_blocking»)) (length (s .«train_idxs_blocking») + length ts))) (s .«train_idxs_blocking» ++ ts))
 
 -- the next est is blocked, and so is the alternate if there is one
@@ -73,12 +73,12 @@ pub record Free (r : Round) (h : Here) (s : Search) : Type 0 where
 pub data Did (r : Round) (h : Here) (s : Search) : Turn → Type 0 where
   pops : (w : Rewound r h s) (n : DispNode) (ns : List DispNode) → s .«disp_path_new» ≡ n ∷ ns → Did r h s (goOn (setNew (rewound h s w) (popped (s .«disp_path_new»))))
   shortens : (w : Rewound r h s) → s .«disp_path_new» ≡ [] → 1 < s .«idx_split» → Did r h s (goOn (setSplit (rewound h s w) (s .«idx_split» - 1)))
-  givesUp : Did r h s (ends (blockedAt (withFree (r .train) (r .train .«disp_node_idx_fixed»))))
+  givesUp : (w : Rewound r h s) → s .«disp_path_new» ≡ [] → Did r h s (ends (blockedAt (withFree (r .train) (r .train .«disp_node_idx_fixed»)) (holderOf (w .pooled))))
   alternates : (ts : List TrainIdx) → trainsOf (s .«train_idxs_blocking») (viewOf (s .views) (h .«est_curr» .«idx_next»)) ≡ ok ts
       → blocked (s .views) (h .«est_curr» .«idx_next») ≡ true
       → (h .«est_curr» .«idx_next_alt» .0 ≡ 0 → ⊥) → blocked (s .views) (h .«est_curr» .«idx_next_alt») ≡ false
       → length (s .«div_nodes_new») + length ts ≤ r .train .divergeRoom
-      → within (h .«disp_node_curr» .offset) ≡ true
+      → within (h .«disp_node_curr» .offset) ≡ true → onPath (r .train .«disp_path») (h .«est_curr» .«idx_next_alt») ≡ false
       → Did r h s (goOn (setNew (setDivsNew (setFree s (alternateFree (h .«idx_join_new») (s .«disp_node_idx_free»))) (s .«div_nodes_new» ++ diverging (h .«idx_join_new») ts)) (s .«disp_path_new» ++ (alternateNode (h .«disp_node_curr») (h .«est_curr» .«idx_next_alt») ∷ []))))
   changes : (e : Ended) → blocked (s .views) (h .«est_curr» .«idx_next») ≡ true → changeDiverge r h s ≡ ok (ends e) → Did r h s (ends e)
   saves : (n : DispNode) (k : ℕ) → Free r h s → s .«idx_save» < r .train .«disp_node_idx_fixed» → at (r .train .«disp_path») (s .«idx_save») ≡ ok n → within (n .offset) ≡ true → k < length (r .train .«disp_path»)

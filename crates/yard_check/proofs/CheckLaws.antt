@@ -137,7 +137,7 @@ module _ (occ : List ℕ) (a : CheckArgs) (t : ℕ) (img : List ℕ) where
 
   pub visit-refused : (n : ℕ) → fault .number ≡ suc n → visited occ a t img ≡ visit (refusedRow fault 0 0) img
   unfolding visited
-  visit-refused n e = ap (λ (k : ℕ). visitBy k fault (isFinished img) (eqb t (a .moved)) (a .moved) u img) e
+  visit-refused n e = ap (λ (k : ℕ). visitBy k fault (isFinished img) (eqb t (a .moved)) u img) e
 
   pub visit-finished : fault .number ≡ 0 → isFinished img ≡ true → visited occ a t img ≡ visit finishedRow img
   unfolding visited
@@ -148,7 +148,7 @@ module _ (occ : List ℕ) (a : CheckArgs) (t : ℕ) (img : List ℕ) where
   visit-moved e d m = rw (e, d, eq-eqb t (a .moved) m)
 
   pub visit-updated : fault .number ≡ 0 → isFinished img ≡ false → (t ≡ a .moved → ⊥)
-      → visited occ a t img ≡ visit (updatedRow (u .answer) (a .moved)) (u .image)
+      → visited occ a t img ≡ visit (updatedRow (u .answer)) (u .image)
   unfolding visited
   visit-updated e d m = rw (e, d, ne-eqb t (a .moved) m)
 

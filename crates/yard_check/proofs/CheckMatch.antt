@@ -11,13 +11,16 @@ use Rattle.link_rules.specs.LinkIdx.{noLink, occupied}
 use Rattle.link_rules.specs.Renumbering.{Renumbering}
 use Rattle.link_rules.specs.Matching.{OccupanciesMatch}
 use Rattle.link_rules.proofs.OctetLaws.{Bytes}
+use Rattle.link_rules.proofs.RenumberingLaws.{below}
+use Rattle.image.specs.Image.{largestTrain}
 use Rattle.image_fault.specs.ImageFault.{imageFault}
 use Rattle.link_rules.specs.declared.refusal.Refusal.{Refusal}
-use Rattle.update_definition.specs.Fits.{TrainsUpTo}
-use Rattle.update_definition.specs.Update.{Status, Success, Blocked, Faulty, Refused}
+use Rattle.update_definition.specs.Fits.{TrainsUpTo, TrainsWithin}
+use Rattle.update_definition.specs.Update.{Status, Success, Blocked, Faulty, Refused, holderIn}
 use Rattle.update_definition.specs.UpdateImage.{UpdatedImage, updatedImage}
 use Rattle.update_definition.specs.UpdateMatch.{GivenMatch}
 use Rattle.update_laws.proofs.UpdateCounts.{image-counts}
+use Rattle.update_laws.proofs.UpdateLeaves.{left-holder}
 use Rattle.update_laws.proofs.ImageRenumbering.{call-fault-match}
 use Rattle.yard_check.specs.Yard.{slotCount, partOf, yardFits}
 use Rattle.yard_check.specs.Check.{CheckArgs, rowSize, slotsFault, reportFault, checkFault, Row, rowAt, statusRow, isBlockedRow, isErredRow, isFinished, Visit, visitBy, visited, slotVisit, slotRow, slotImage, yardAfter, reportAfter, howMany, answerBy, answerOf, Checked, checkDone, checkedBy, checkedWith}
@@ -30,44 +33,48 @@ use Rattle.yard_check.proofs.CheckLaws.{taken, taken-done, slots-within
 use Rattle.yard_check.proofs.ReportLaws.{keptRow, report-length, report-row}
 use Rattle.yard_check.proofs.VisitMatch.{VisitsMatch, visit-match, visited-slot}
 
--- ---- the holder of a row is 0 or the moved train
+-- ---- the holder of a row is one that the image holds
 
-holder-row : (s : Status) (moved rounds strays : ℕ) → statusRow s moved rounds strays .holder ≤ moved
-holder-row Success moved rounds strays = omega arith
-holder-row Blocked moved rounds strays = omega arith
-holder-row (Faulty n) moved rounds strays = omega arith
-holder-row (Refused r) moved rounds strays = omega arith
+holder-row : (s : Status) (rounds strays : ℕ) → statusRow s rounds strays .holder ≤ holderIn s
+holder-row Success rounds strays = omega arith
+holder-row (Blocked holder) rounds strays = omega arith
+holder-row (Faulty n) rounds strays = omega arith
+holder-row (Refused r) rounds strays = omega arith
 
-holder-by : (n : ℕ) (f : Refusal) (isDone isMoved : Bool) (moved : ℕ) (u : UpdatedImage) (img : List ℕ) → visitBy n f isDone isMoved moved u img .row .holder ≤ moved
-holder-by (suc n) f isDone isMoved moved u img = omega arith
-holder-by zero f true isMoved moved u img = omega arith
-holder-by zero f false true moved u img = omega arith
-holder-by zero f false false moved u img = holder-row (u .answer .status) moved (u .answer .tally .rounds) (u .answer .tally .strays)
+holder-by : (n : ℕ) (f : Refusal) (isDone isMoved : Bool) (u : UpdatedImage) (img : List ℕ) → visitBy n f isDone isMoved u img .row .holder ≤ holderIn (u .answer .status)
+holder-by (suc n) f isDone isMoved u img = omega arith
+holder-by zero f true isMoved u img = omega arith
+holder-by zero f false true u img = omega arith
+holder-by zero f false false u img = holder-row (u .answer .status) (u .answer .tally .rounds) (u .answer .tally .strays)
 
-holder-few : (occ : List ℕ) (a : CheckArgs) (t : ℕ) (img : List ℕ) → visited occ a t img .row .holder ≤ a .moved
+holder-few : (occ : List ℕ) (a : CheckArgs) (t : ℕ) (img : List ℕ) → Bytes img → TrainsWithin (largestTrain img) occ (a .moved) → visited occ a t img .row .holder ≤ largestTrain img
 unfolding visited
-holder-few occ a t img =
-    holder-by (imageFault img (length occ) .number) (imageFault img (length occ)) (isFinished img) (eqb t (a .moved)) (a .moved)
-    (updatedImage img occ (a .blocking) (a .moved) (a .local) (a .limit)) img
+holder-few occ a t img b w =
+    let u = updatedImage img occ (a .blocking) (a .moved) (a .local) (a .limit) in
+    omega (arith, holder-by (imageFault img (length occ) .number) (imageFault img (length occ)) (isFinished img) (eqb t (a .moved)) u img, left-holder img occ (a .blocking) (a .moved) (a .local) (a .limit) b w)
+
+-- trains up to a larger one are permuted too
+renumbers-more : (top more : ℕ) (q : ℕ → ℕ) → top ≤ more → Renumbering top q → Renumbering more q
+renumbers-more top more q l r = record { one-to-one = r .one-to-one; zero-stays = r .zero-stays; above-stays = λ a h. r .above-stays a (omega arith) }
 
 -- ---- the strays of a row fit the report
 
-strays-row : (s : Status) (moved rounds strays : ℕ) → statusRow s moved rounds strays .strays ≤ strays
-strays-row Success moved rounds strays = omega arith
-strays-row Blocked moved rounds strays = omega arith
-strays-row (Faulty n) moved rounds strays = omega arith
-strays-row (Refused r) moved rounds strays = omega arith
+strays-row : (s : Status) (rounds strays : ℕ) → statusRow s rounds strays .strays ≤ strays
+strays-row Success rounds strays = omega arith
+strays-row (Blocked holder) rounds strays = omega arith
+strays-row (Faulty n) rounds strays = omega arith
+strays-row (Refused r) rounds strays = omega arith
 
-strays-by : (n : ℕ) (f : Refusal) (isDone isMoved : Bool) (moved : ℕ) (u : UpdatedImage) (img : List ℕ) → visitBy n f isDone isMoved moved u img .row .strays ≤ u .answer .tally .strays
-strays-by (suc n) f isDone isMoved moved u img = omega arith
-strays-by zero f true isMoved moved u img = omega arith
-strays-by zero f false true moved u img = omega arith
-strays-by zero f false false moved u img = strays-row (u .answer .status) moved (u .answer .tally .rounds) (u .answer .tally .strays)
+strays-by : (n : ℕ) (f : Refusal) (isDone isMoved : Bool) (u : UpdatedImage) (img : List ℕ) → visitBy n f isDone isMoved u img .row .strays ≤ u .answer .tally .strays
+strays-by (suc n) f isDone isMoved u img = omega arith
+strays-by zero f true isMoved u img = omega arith
+strays-by zero f false true u img = omega arith
+strays-by zero f false false u img = strays-row (u .answer .status) (u .answer .tally .rounds) (u .answer .tally .strays)
 
 strays-few : (occ : List ℕ) (a : CheckArgs) (t : ℕ) (img : List ℕ) → Bytes img → a .limit < 65536 → visited occ a t img .row .strays < 4294967296
 unfolding visited
 strays-few occ a t img b h =
-    omega (arith, image-counts img occ (a .blocking) (a .moved) (a .local) (a .limit) b .strays, strays-by (imageFault img (length occ) .number) (imageFault img (length occ)) (isFinished img) (eqb t (a .moved)) (a .moved) (updatedImage img occ (a .blocking) (a .moved) (a .local) (a .limit)) img)
+    omega (arith, image-counts img occ (a .blocking) (a .moved) (a .local) (a .limit) b .strays, strays-by (imageFault img (length occ) .number) (imageFault img (length occ)) (isFinished img) (eqb t (a .moved)) (updatedImage img occ (a .blocking) (a .moved) (a .local) (a .limit)) img)
 
 -- what the report keeps of a renumbered row
 kept-renumbered : (q : ℕ → ℕ) (r : Row) → r .holder < 65536 → q (r .holder) < 65536 → keptRow (rRow q r) ≡ rRow q (keptRow r)
@@ -158,20 +165,24 @@ module _ (top : ℕ) (p q : ℕ → ℕ) (yard yard′ occ occ′ : List ℕ) (a
           sym (many-renumbered top S q trains among (λ t. test (row′ t)))
           ∙ many-same (λ t. test (row′ (q t))) (λ t. test (row t)) S (λ t l k. ap test (slots-match t l k .row) ∙ h (row t))
 
-      holder-low : (t : ℕ) → 1 ≤ t → row t .holder ≤ S
-      holder-low t l =
-          omega (arith, ap (λ (v : Visit). v .row .holder) (visited-slot yard occ a t begins l), holder-few occ a t (partOf yard t), taken yard occ a (length report) clean .moved)
+      holder-low : (t : ℕ) → 1 ≤ t → t ≤ S → row t .holder < 65536
+      holder-low t l k =
+          omega (
+            arith,
+            ap (λ (v : Visit). v .row .holder) (visited-slot yard occ a t begins l),
+            holder-few occ a t (partOf yard t) (part-bytes yard (fits yard ok) t l k b) (slots-within top yard occ (a .moved) (fits yard ok) (taken yard occ a (length report) clean .moved) held w t l k),
+          )
 
       reports : ReportsMatch q S (reportAfter row report S) (reportAfter row′ report′ (slotCount yard′))
       reports =
           record {
             long = report-length row′ report′ (slotCount yard′) ∙ (long ∙ sym (report-length row report S));
             rows = λ t l k.
-                let low = holder-low t l in
-                let few = fits yard ok .few in
+                let low = holder-low t l k in
+                let trains-65535 = renumbers-more top 65535 q (omega (arith, held t l k)) trains in
                 report-row row′ report′ (slotCount yard′) (omega (arith, m .slots, long, report-long)) (q t) (slot t l k .0) (slot t l k .1)
                 ∙ (ap keptRow (slots-match t l k .row)
-                ∙ (kept-renumbered q (row t) (omega arith) (omega (arith, among (row t .holder) low))
+                ∙ (kept-renumbered q (row t) low (below 65536 q trains-65535 (row t .holder) low)
                 ∙ ap (rRow q) (sym (report-row row report S (omega (arith, report-long)) t l k))));
           }
 

@@ -23,7 +23,7 @@ module _ (img occ blocking : List ℕ) (moved : ℕ) (local : Bool) (limit : ℕ
 
   fits-by : (s : Status) → StatusFew s → ((r : Refusal) → s ≡ Refused r → r .number ≤ 13) → StatusFits s
   fits-by Success a b = tt
-  fits-by Blocked a b = tt
+  fits-by (Blocked holder) a b = tt
   fits-by (Faulty n) a b = omega arith
   fits-by (Refused r) a b = b r refl
 
@@ -63,11 +63,11 @@ module _ (occ : List ℕ) (a : CheckArgs) (t : ℕ) (img : List ℕ) where
 
   -- every other one is updated at once
   pub updated-at-once : callFault occ (a .blocking) (a .moved) (a .limit) .number ≡ 0 → isFinished img ≡ false → (t ≡ a .moved → ⊥)
-      → visited occ a t img ≡ visit (updatedRow (w .answer) (a .moved)) (w .image)
+      → visited occ a t img ≡ visit (updatedRow (w .answer)) (w .image)
   updated-at-once c d m = go (v .number) refl
     where
-      go : (k : ℕ) → v .number ≡ k → visited occ a t img ≡ visit (updatedRow (w .answer) (a .moved)) (w .image)
+      go : (k : ℕ) → v .number ≡ k → visited occ a t img ≡ visit (updatedRow (w .answer)) (w .image)
       go zero e = visit-updated occ a t img e d m
       go (suc n) e =
           visit-refused occ a t img n e
-          ∙ ap (λ (x : UpdatedImage). visit (updatedRow (x .answer) (a .moved)) (x .image)) (sym (refused-update img occ (a .blocking) (a .moved) (a .local) (a .limit) c n e))
+          ∙ ap (λ (x : UpdatedImage). visit (updatedRow (x .answer)) (x .image)) (sym (refused-update img occ (a .blocking) (a .moved) (a .local) (a .limit) c n e))

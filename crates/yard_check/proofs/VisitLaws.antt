@@ -45,7 +45,7 @@ stored-train t bs =
 
 left-train : (s : Status) (t : Train) (img : List ℕ) → leAt 2 (leftImage s t img) 32 ≡ leAt 2 img 32
 left-train Success t img = stored-train t img
-left-train Blocked t img = stored-train t img
+left-train (Blocked holder) t img = stored-train t img
 left-train (Faulty n) t img = stored-train t img
 left-train (Refused r) t img = refl
 
@@ -60,30 +60,30 @@ module _ (occ blocking : List ℕ) (moved : ℕ) (local : Bool) (limit : ℕ) (i
 
 -- ---- by what the visit does
 
-module _ (P : Row → List ℕ → Type 0) (img : List ℕ) (u : UpdatedImage) (moved : ℕ) (same : (r : Row) → P r img)
-    (after : P (updatedRow (u .answer) moved) (u .image)) where
-  visit-by : (n : ℕ) (f : Refusal) (isDone isMoved : Bool) → let v = visitBy n f isDone isMoved moved u img in P (v .row) (v .image)
+module _ (P : Row → List ℕ → Type 0) (img : List ℕ) (u : UpdatedImage) (same : (r : Row) → P r img)
+    (after : P (updatedRow (u .answer)) (u .image)) where
+  visit-by : (n : ℕ) (f : Refusal) (isDone isMoved : Bool) → let v = visitBy n f isDone isMoved u img in P (v .row) (v .image)
   visit-by (suc n) f isDone isMoved = same (refusedRow f 0 0)
   visit-by zero f true isMoved = same finishedRow
   visit-by zero f false true = same movedRow
   visit-by zero f false false = after
 
 -- an update whose row says refused is refused
-refused-row : (X : Type 0) (s : Status) (moved rounds strays : ℕ) → ((r : Refusal) → s ≡ Refused r → X) → 16 ≤ statusRow s moved rounds strays .code → X
-refused-row X Success moved rounds strays f h = absurd (omega arith)
-refused-row X Blocked moved rounds strays f h = absurd (omega arith)
-refused-row X (Faulty n) moved rounds strays f h = absurd (omega arith)
-refused-row X (Refused r) moved rounds strays f h = f r refl
+refused-row : (X : Type 0) (s : Status) (rounds strays : ℕ) → ((r : Refusal) → s ≡ Refused r → X) → 16 ≤ statusRow s rounds strays .code → X
+refused-row X Success rounds strays f h = absurd (omega arith)
+refused-row X (Blocked holder) rounds strays f h = absurd (omega arith)
+refused-row X (Faulty n) rounds strays f h = absurd (omega arith)
+refused-row X (Refused r) rounds strays f h = f r refl
 
 module _ (occ : List ℕ) (a : CheckArgs) (t : ℕ) (img : List ℕ) where
   abbrev u : UpdatedImage
   u = updatedImage img occ (a .blocking) (a .moved) (a .local) (a .limit)
 
   -- what holds of its image with any row, and of that image updated with its row, holds of the visit
-  by : (P : Row → List ℕ → Type 0) → ((r : Row) → P r img) → P (updatedRow (u .answer) (a .moved)) (u .image)
+  by : (P : Row → List ℕ → Type 0) → ((r : Row) → P r img) → P (updatedRow (u .answer)) (u .image)
       → P (visited occ a t img .row) (visited occ a t img .image)
   unfolding visited
-  by P same after = visit-by P img u (a .moved) same after (imageFault img (length occ) .number) (imageFault img (length occ)) (isFinished img) (eqb t (a .moved))
+  by P same after = visit-by P img u same after (imageFault img (length occ) .number) (imageFault img (length occ)) (isFinished img) (eqb t (a .moved))
 
   visit-keeps : (P : List ℕ → Type 0) → P img → P (u .image) → P (visited occ a t img .image)
   visit-keeps P same after = by (λ r x. P x) (λ r. same) after
@@ -101,7 +101,7 @@ module _ (occ : List ℕ) (a : CheckArgs) (t : ℕ) (img : List ℕ) where
   visit-refused : 16 ≤ visited occ a t img .row .code → visited occ a t img .image ≡ img
   visit-refused =
       by (λ r x. 16 ≤ r .code → x ≡ img) (λ r h. refl)
-      (refused-row (u .image ≡ img) (u .answer .status) (a .moved) (u .answer .tally .rounds) (u .answer .tally .strays) (refused-leaves img occ (a .blocking) (a .moved) (a .local) (a .limit)))
+      (refused-row (u .image ≡ img) (u .answer .status) (u .answer .tally .rounds) (u .answer .tally .strays) (refused-leaves img occ (a .blocking) (a .moved) (a .local) (a .limit)))
 
 -- ---- of a slot, visited or not
 

@@ -19,6 +19,7 @@ use Rattle.image_fault.proofs.MatchLaws.{image-fault-match}
 use Rattle.update_definition.specs.Fits.{TrainsWithin}
 use Rattle.update_definition.specs.Update.{Status, Success, Blocked, Faulty, Refused}
 use Rattle.update_definition.specs.UpdateImage.{UpdatedImage, updatedImage}
+use Rattle.update_definition.specs.Renumbered.{rStatus}
 use Rattle.update_definition.specs.UpdateMatch.{GivenMatch, UpdatesMatch}
 use Rattle.update_laws.proofs.ImageRenumbering.{update-match}
 use Rattle.yard_check.specs.Yard.{partOf}
@@ -37,27 +38,27 @@ no-holder : (q : ℕ → ℕ) → q 0 ≡ 0 → (code place rounds strays faults
 no-holder q e code place rounds strays faults =
     ap (λ (h : ℕ). record { code = code; place = place; rounds = rounds; holder = h; strays = strays; faults = faults }) (sym e)
 
-row-match : (q : ℕ → ℕ) → q 0 ≡ 0 → (s : Status) (moved rounds strays : ℕ) → statusRow s (q moved) rounds strays ≡ rRow q (statusRow s moved rounds strays)
-row-match q e Success moved rounds strays = no-holder q e 3 0 rounds strays 0
-row-match q e Blocked moved rounds strays = refl
-row-match q e (Faulty n) moved rounds strays = no-holder q e 5 0 rounds strays n
-row-match q e (Refused r) moved rounds strays = no-holder q e _ (r .place) rounds strays 0
+row-match : (q : ℕ → ℕ) → q 0 ≡ 0 → (s : Status) (rounds strays : ℕ) → statusRow (rStatus q s) rounds strays ≡ rRow q (statusRow s rounds strays)
+row-match q e Success rounds strays = no-holder q e 3 0 rounds strays 0
+row-match q e (Blocked holder) rounds strays = refl
+row-match q e (Faulty n) rounds strays = no-holder q e 5 0 rounds strays n
+row-match q e (Refused r) rounds strays = no-holder q e _ (r .place) rounds strays 0
 
-row-strays : (s : Status) (moved rounds strays : ℕ) → statusRow s moved rounds strays .strays ≡ strays
-row-strays Success moved rounds strays = refl
-row-strays Blocked moved rounds strays = refl
-row-strays (Faulty n) moved rounds strays = refl
-row-strays (Refused r) moved rounds strays = refl
+row-strays : (s : Status) (rounds strays : ℕ) → statusRow s rounds strays .strays ≡ strays
+row-strays Success rounds strays = refl
+row-strays (Blocked holder) rounds strays = refl
+row-strays (Faulty n) rounds strays = refl
+row-strays (Refused r) rounds strays = refl
 
-module _ (p q : ℕ → ℕ) (zero-stays : q 0 ≡ 0) (img img′ : List ℕ) (m : ImagesMatch p q img img′) (moved : ℕ) (u u′ : UpdatedImage) where
-  visit-by : (n : ℕ) (f : Refusal) (isDone isMoved : Bool) → (u .answer .tally .strays ≡ 0 → UpdatesMatch p q u u′) → visitBy n f isDone isMoved moved u img .row .strays ≡ 0
-      → VisitsMatch p q (visitBy n f isDone isMoved moved u img) (visitBy n f isDone isMoved (q moved) u′ img′)
+module _ (p q : ℕ → ℕ) (zero-stays : q 0 ≡ 0) (img img′ : List ℕ) (m : ImagesMatch p q img img′) (u u′ : UpdatedImage) where
+  visit-by : (n : ℕ) (f : Refusal) (isDone isMoved : Bool) → (u .answer .tally .strays ≡ 0 → UpdatesMatch p q u u′) → visitBy n f isDone isMoved u img .row .strays ≡ 0
+      → VisitsMatch p q (visitBy n f isDone isMoved u img) (visitBy n f isDone isMoved u′ img′)
   visit-by (suc n) f isDone isMoved h s = record { row = no-holder q zero-stays _ (f .place) 0 0 0; image = m }
   visit-by zero f true isMoved h s = record { row = no-holder q zero-stays 1 0 0 0 0; image = m }
   visit-by zero f false true h s = record { row = no-holder q zero-stays 2 0 0 0 0; image = m }
   visit-by zero f false false h s =
-      let k = h (sym (row-strays (u .answer .status) moved (u .answer .tally .rounds) (u .answer .tally .strays)) ∙ s) in
-      record { row = rw (k .answer) (row-match q zero-stays (u .answer .status) moved (u .answer .tally .rounds) (u .answer .tally .strays)); image = k .images }
+      let k = h (sym (row-strays (u .answer .status) (u .answer .tally .rounds) (u .answer .tally .strays)) ∙ s) in
+      record { row = rw (k .answer) (row-match q zero-stays (u .answer .status) (u .answer .tally .rounds) (u .answer .tally .strays)); image = k .images }
 
 finished-match : (p q : ℕ → ℕ) (img img′ : List ℕ) → ImagesMatch p q img img′ → isFinished img′ ≡ isFinished img
 unfolding isFinished
@@ -78,7 +79,7 @@ module _ (top : ℕ) (p q : ℕ → ℕ) (occ occ′ : List ℕ) (a a′ : Check
     fault-same : imageFault img′ (length occ′) ≡ f
     fault-same = rw (c .occupancies .long) (image-fault-match p q (length occ) top (c .links) (c .trains) img img′ m)
 
-    second : visited occ′ a′ (q t) img′ ≡ visitBy (f .number) f (isFinished img) (eqb t (a .moved)) (q (a .moved)) u′ img′
+    second : visited occ′ a′ (q t) img′ ≡ visitBy (f .number) f (isFinished img) (eqb t (a .moved)) u′ img′
     unfolding visited
     second = rw (g .moved, g .local, g .limit, fault-same, finished-match p q img img′ m, eqb-renumbered top q (c .trains) t (a .moved))
 
@@ -86,7 +87,7 @@ module _ (top : ℕ) (p q : ℕ → ℕ) (occ occ′ : List ℕ) (a a′ : Check
     unfolding visited
     visit-match s =
         subst (λ (v : Visit). VisitsMatch p q (visited occ a t img) v) (sym second)
-        (visit-by p q (c .trains .zero-stays) img img′ m (a .moved) u u′ (f .number) f (isFinished img) (eqb t (a .moved))
+        (visit-by p q (c .trains .zero-stays) img img′ m u u′ (f .number) f (isFinished img) (eqb t (a .moved))
         (update-match top p q occ occ′ (a .blocking) (a′ .blocking) c (a .moved) (a .local) (a .limit) img img′ m b b′ low w empty) s)
 
 -- from slot 1 on every slot is visited

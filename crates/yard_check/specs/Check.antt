@@ -95,16 +95,16 @@ movedRow = plainRow 2
 abbrev pub refusedRow : Refusal → ℕ → ℕ → Row
 refusedRow f rounds strays = record { code = 16 + f .number; place = f .place; rounds = rounds; holder = 0; strays = strays; faults = 0 }
 
--- holder (document 01): of a blocked slot the moved train, else 0
-abbrev pub statusRow : Status → ℕ → ℕ → ℕ → Row
-statusRow Success moved rounds strays = record { code = 3; place = 0; rounds = rounds; holder = 0; strays = strays; faults = 0 }
-statusRow Blocked moved rounds strays = record { code = 4; place = 0; rounds = rounds; holder = moved; strays = strays; faults = 0 }
-statusRow (Faulty n) moved rounds strays = record { code = 5; place = 0; rounds = rounds; holder = 0; strays = strays; faults = n }
-statusRow (UpdateRefused f) moved rounds strays = refusedRow f rounds strays
+-- holder (document 02, Q-3): the train by which a slot is blocked, else 0
+abbrev pub statusRow : Status → ℕ → ℕ → Row
+statusRow Success rounds strays = record { code = 3; place = 0; rounds = rounds; holder = 0; strays = strays; faults = 0 }
+statusRow (Blocked holder) rounds strays = record { code = 4; place = 0; rounds = rounds; holder = holder .0; strays = strays; faults = 0 }
+statusRow (Faulty n) rounds strays = record { code = 5; place = 0; rounds = rounds; holder = 0; strays = strays; faults = n }
+statusRow (UpdateRefused f) rounds strays = refusedRow f rounds strays
 
 -- of a slot that was updated, from the update's answer
-abbrev pub updatedRow : UpdateAnswer → ℕ → Row
-updatedRow u moved = statusRow (u .status) moved (u .tally .rounds) (u .tally .strays)
+abbrev pub updatedRow : UpdateAnswer → Row
+updatedRow u = statusRow (u .status) (u .tally .rounds) (u .tally .strays)
 
 abbrev pub isFinishedRow : Row → Bool
 isFinishedRow r = eqb (r .code) 1
@@ -156,18 +156,18 @@ abbrev pub visit : Row → List ℕ → Visit
 visit r img = record { row = r; image = img }
 
 -- by the number of the refusal f: refused by 6 to 9, else finished, else moved, else updated
-abbrev pub visitBy : ℕ → Refusal → Bool → Bool → ℕ → UpdatedImage → List ℕ → Visit
-visitBy (suc n) f isDone isMoved moved u img = visit (refusedRow f 0 0) img
-visitBy zero f true isMoved moved u img = visit finishedRow img
-visitBy zero f false true moved u img = visit movedRow img
-visitBy zero f false false moved u img = visit (updatedRow (u .answer) moved) (u .image)
+abbrev pub visitBy : ℕ → Refusal → Bool → Bool → UpdatedImage → List ℕ → Visit
+visitBy (suc n) f isDone isMoved u img = visit (refusedRow f 0 0) img
+visitBy zero f true isMoved u img = visit finishedRow img
+visitBy zero f false true u img = visit movedRow img
+visitBy zero f false false u img = visit (updatedRow (u .answer)) (u .image)
 
 -- of slot t with this image
 unfoldable pub visited : List ℕ → CheckArgs → ℕ → List ℕ → Visit
 visited occ a t img =
     let f = imageFault img (length occ) in
     let u = updatedImage img occ (a .blocking) (a .moved) (a .local) (a .limit) in
-    visitBy (f .number) f (isFinished img) (eqb t (a .moved)) (a .moved) u img
+    visitBy (f .number) f (isFinished img) (eqb t (a .moved)) u img
 
 -- slots below begin are not visited
 unfoldable pub slotVisit : List ℕ → List ℕ → CheckArgs → ℕ → Visit

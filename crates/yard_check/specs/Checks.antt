@@ -42,7 +42,7 @@ staysRow (suc n) f code = refusedRow f 0 0
 -- what an update counts and its refusal have room in their columns
 abbrev pub StatusFits : Update.Status → Type 0
 StatusFits Update.Success = Unit {0}
-StatusFits Update.Blocked = Unit {0}
+StatusFits (Update.Blocked holder) = Unit {0}
 StatusFits (Update.Faulty n) = n < 4294967296
 StatusFits (Update.Refused r) = r .number ≤ 13
 

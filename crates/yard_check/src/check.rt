@@ -145,14 +145,14 @@ fn worked_row(code: u16, u: Updated, holder: TrainIdx, faults: u32) -> Row
     }
 }
 
-fn updated_row(u: Updated, moved: TrainIdx) -> Row
+fn updated_row(u: Updated) -> Row
     requires { ⌜ ColumnsFit (Updates.statusOf (u .status)) (u .tally .strays) ⌝ }
-    ensures { λ r. ⌜ rowOf r ≡ Check.updatedRow (Updates.answerOf u) (moved .0) ⌝ }
+    ensures { λ r. ⌜ rowOf r ≡ Check.updatedRow (Updates.answerOf u) ⌝ }
 {
     let s = u.status;
     match s {
         Status::Success => worked_row(3, u, TrainIdx(0), 0),
-        Status::Blocked => worked_row(4, u, moved, 0),
+        Status::Blocked(holder) => worked_row(4, u, holder, 0),
         Status::Faulty(n) => worked_row(5, u, TrainIdx(0), n as u32),
         Status::Refused(f) => refused_row(f, u.tally.rounds, u.tally.strays as u32),
     }
@@ -204,7 +204,7 @@ fn visit(img: &mut [u8], occ: &[u32], blocking: &[u32], a: Args, t: u16) -> Row
         return stays_row(img, occ, 2);
     }
     let u = update_free_path::update_over(img, occ, blocking, a.moved, a.local, a.limit);
-    updated_row(u, a.moved)
+    updated_row(u)
 }
 
 // The slot's own part of the yard is lent to the visit. Slots below begin are not visited.

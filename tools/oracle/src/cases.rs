@@ -219,15 +219,15 @@ impl Case {
         let mut image = self.ins[0].clone();
         let (occ, blocking) = (u16s(&self.ins[1]), u32s(&self.ins[2]));
         let u = model::update(&mut image, &occ, &blocking, a[0] as u16, a[1] != 0, a[2] as u16);
-        let (kind, number, place, faults) = match u.outcome {
+        let (kind, number, place, faults_or_holder) = match u.outcome {
             Outcome::Success => (0, 0, 0, 0),
-            Outcome::Blocked => (1, 0, 0, 0),
+            Outcome::Blocked => (1, 0, 0, u.holder),
             Outcome::Faulty(n) => (2, 0, 0, n),
             Outcome::Refused(r) => (3, r.number as u32, r.place, 0),
         };
         // at most 3E + 1 for each of 65,535 rounds
         let steps = u32::try_from(u.steps).expect("steps within their ceiling");
-        self.answer = [kind, number, place, faults, u.rounds, u.strays, steps, 0];
+        self.answer = [kind, number, place, faults_or_holder, u.rounds, u.strays, steps, 0];
         self.line = u.line;
         self.outs = [image, vec![]];
     }

@@ -490,10 +490,10 @@ pub fn row_refused(r: Refusal) -> Row {
     Row { code: REFUSED + r.number as u16, place: r.place as u16, ..Row::default() }
 }
 
-pub fn row_of(u: &Updated, moved: u32) -> Row {
+pub fn row_of(u: &Updated) -> Row {
     let row = match u.outcome {
         Outcome::Success => Row { code: SUCCESS, ..Row::default() },
-        Outcome::Blocked => Row { code: BLOCKED, holder: moved, ..Row::default() },
+        Outcome::Blocked => Row { code: BLOCKED, holder: u.holder, ..Row::default() },
         Outcome::Faulty(faults) => Row { code: FAULTY, faults, ..Row::default() },
         Outcome::Refused(r) => row_refused(r),
     };
@@ -561,7 +561,7 @@ fn check_slot(image: &mut [u8], slot: usize, a: &CheckArgs, occ: &[TrainIdx]) ->
     if !matches!(u.outcome, Outcome::Refused(_)) {
         write_image(&t, image);
     }
-    Visit { row: row_of(&u, a.moved as u32), updated: Some(u) }
+    Visit { row: row_of(&u), updated: Some(u) }
 }
 
 fn check_refusal(yard: &[u8], a: &CheckArgs, report: &[u8]) -> Result<Vec<std::ops::Range<usize>>, Refusal> {

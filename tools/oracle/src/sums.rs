@@ -35,11 +35,11 @@ fn image_fault(c: &Case) -> String {
 }
 
 fn update(c: &Case) -> String {
-    let [kind, number, place, faults, rounds, strays, steps, _] = c.answer;
+    let [kind, number, place, faults_or_holder, rounds, strays, steps, _] = c.answer;
     let status = match kind {
         0 => "success".into(),
-        1 => "blocked".into(),
-        2 => format!("faulty {faults}"),
+        1 => format!("blocked by {faults_or_holder}"),
+        2 => format!("faulty {faults_or_holder}"),
         _ => refused(number, place),
     };
     let counts = format!("rounds {rounds} strays {strays} steps {steps}");

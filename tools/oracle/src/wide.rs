@@ -215,7 +215,7 @@ fn visit(image: &mut [u8], slot: usize, a: &WideArgs) -> Visit {
     if !matches!(u.outcome, Outcome::Refused(_)) {
         write_image(&t, image);
     }
-    Visit { row: model::row_of(&u, a.moved), updated: Some(u) }
+    Visit { row: model::row_of(&u), updated: Some(u) }
 }
 
 pub fn check(yard: &mut [u8], a: &WideArgs, report: &mut [u8]) -> Checked {

@@ -37,6 +37,12 @@ put-word-requires-4 c κs = search needs
 put-word-requires-5 : tie.Need-put-word-requires-5
 put-word-requires-5 c κs = search needs
 
+holder-in-requires : tie.Need-holder-in-requires
+holder-in-requires c κs = search needs
+
+put-word-requires-6 : tie.Need-put-word-requires-6
+put-word-requires-6 c κs = search needs
+
 status-word-requires : tie.Need-status-word-requires
 status-word-requires c κs = search needs
 
@@ -48,12 +54,12 @@ same-length-2 c = search needs
 
 returns : tie.Need-returns
 returns c =
-    let a = c .before .before .before .before .before .before .before .before .before .before .before .before .before .before .before .before .before .before .before .before .before .before .before .before .before .before .before .before .before .before .before .before .before .args in
-    let e = c .before .before .before .before .before .before .before .before .before .before .before .before .before .before .before .before .before .before .before .before .before .before .before .before .before .before .update-free-path .ensures ∙ ap (λ (b : Bool). updatedImage (now (a .image)) (now (a .occupancy)) (now (a .blocking)) (a .moved) b (a .limit)) (c .before .before .before .before .before .before .before .before .before .before .before .before .before .before .before .before .before .before .before .before .before .before .before .before .before .before .before .flag-of .ensures) in
+    let a = c .before .before .before .before .before .before .before .before .before .before .before .before .before .before .before .before .before .before .before .before .before .before .before .before .before .before .before .before .before .before .before .before .before .before .before .before .before .before .args in
+    let e = c .before .before .before .before .before .before .before .before .before .before .before .before .before .before .before .before .before .before .before .before .before .before .before .before .before .before .before .before .before .before .before .update-free-path .ensures ∙ ap (λ (b : Bool). updatedImage (now (a .image)) (now (a .occupancy)) (now (a .blocking)) (a .moved) b (a .limit)) (c .before .before .before .before .before .before .before .before .before .before .before .before .before .before .before .before .before .before .before .before .before .before .before .before .before .before .before .before .before .before .before .before .flag-of .ensures) in
     record {
       word = c .status-word .ensures ∙ ap (λ (u : UpdatedImage). statusWord (u .answer .status)) e;
       bytes = ap (λ (u : UpdatedImage). u .image) e;
-      words = rw (c .before .before .before .put-word5 .ensures, c .before .before .before .before .before .before .before .put-word4 .ensures, c .before .before .before .before .before .before .before .before .before .before .before .put-word3 .ensures, c .before .before .before .before .before .before .before .before .before .before .before .before .before .before .before .before .put-word2 .ensures, c .before .before .before .before .before .before .before .before .before .before .before .before .before .before .before .before .before .errors-of .ensures, c .before .before .before .before .before .before .before .before .before .before .before .before .before .before .before .before .before .before .before .before .before .put-word .ensures, c .before .before .before .before .before .before .before .before .before .before .before .before .before .before .before .before .before .before .before .before .before .before .code-of .ensures) (ap (λ (u : UpdatedImage). updateWords u (now (a .answer))) e);
+      words = rw (c .before .before .before .put-word6 .ensures, c .before .before .before .before .holder-in .ensures, c .before .before .before .before .before .before .before .before .put-word5 .ensures, c .before .before .before .before .before .before .before .before .before .before .before .before .put-word4 .ensures, c .before .before .before .before .before .before .before .before .before .before .before .before .before .before .before .before .put-word3 .ensures, c .before .before .before .before .before .before .before .before .before .before .before .before .before .before .before .before .before .before .before .before .before .put-word2 .ensures, c .before .before .before .before .before .before .before .before .before .before .before .before .before .before .before .before .before .before .before .before .before .before .errors-of .ensures, c .before .before .before .before .before .before .before .before .before .before .before .before .before .before .before .before .before .before .before .before .before .before .before .before .before .before .put-word .ensures, c .before .before .before .before .before .before .before .before .before .before .before .before .before .before .before .before .before .before .before .before .before .before .before .before .before .before .before .code-of .ensures) (ap (λ (u : UpdatedImage). updateWords u (now (a .answer))) e);
     }
 
 pub lavtoeu-update-spec : {M : Type 1} → statement M
@@ -70,6 +76,8 @@ lavtoeu-update-spec =
     put-word-requires-3
     put-word-requires-4
     put-word-requires-5
+    holder-in-requires
+    put-word-requires-6
     status-word-requires
     same-length
     same-length-2

@@ -42,8 +42,8 @@ ended-requires-4 : tie.Need-ended-requires-4
 ended-requires-4 c κs = search needs
 
 -- src/ending.rt:63:27
-enum-told-3 : tie.Need-enum-told-3
-enum-told-3 c = search needs
+enum-known-effect-3 : tie.Need-enum-known-effect-3
+enum-known-effect-3 c = search needs
 
 -- src/ending.rt:63:27
 blocked-requires : tie.Need-blocked-requires
@@ -67,7 +67,7 @@ returns-4 c = clash true refl (sym (ap onward (c .before .enum-told2 .given .1))
 
 -- src/ending.rt:54:1
 returns-5 : tie.Need-returns-5
-returns-5 c = ((λ img dt dn r s f q. rw (c .before .enum-told3 .given .1, c .blocked .ensures) (ends-blocked img dt dn (c .before .before .before .args .h) r s f q)), ap (λ (y : RoundEnd). isAtEnd (y .end)) (c .blocked .ensures), ap (λ (y : RoundEnd). y .steps) (c .blocked .ensures))
+returns-5 c = ((λ img dt dn r s f q. rw (c .before .before .effect3 .given .1, c .blocked .ensures) (ends-blocked img dt dn (c .before .before .before .before .args .h) r s f q _)), ap (λ (y : RoundEnd). isAtEnd (y .end)) (c .blocked .ensures), ap (λ (y : RoundEnd). y .steps) (c .blocked .ensures))
 
 pub by-effect-spec : {M : Type 1} → statement M
 by-effect-spec =
@@ -81,7 +81,7 @@ by-effect-spec =
     ended-requires-3
     enum-told-2
     ended-requires-4
-    enum-told-3
+    enum-known-effect-3
     blocked-requires
     returns
     returns-2

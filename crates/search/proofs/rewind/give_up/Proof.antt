@@ -11,19 +11,19 @@ use Rattle.search.proofs.rewind.give_up.Lts as lts
 returns : tie.Need-returns
 returns c =
     let a = (c .before .before .args) in
-    (refl, λ t occ img dt dn r new divs pool views l. stop-divs (roundOf t occ img dt dn r) (hereOf (a .h)) (searchOf (a .p) new divs pool views) (a .p .«div_count») l (c .if1 .taken))
+    (refl, λ t occ img dt dn r new divs pool views l. stop-divs (roundOf t occ img dt dn r) (hereOf (a .h)) (a .holder) (searchOf (a .p) new divs pool views) (a .p .«div_count») l (c .if1 .taken))
 
 -- src/rewind.rt:165:9
 returns-2 : tie.Need-returns-2
 returns-2 c =
     let a = (c .before .before .before .before .before .args) in
-    (refl, λ t occ img dt dn r new divs pool views l. stop-join (roundOf t occ img dt dn r) (hereOf (a .h)) (searchOf (a .p) new divs pool views) (a .p .«div_count») l (c .before .before .before .if1 .left) (c .if2 .taken))
+    (refl, λ t occ img dt dn r new divs pool views l. stop-join (roundOf t occ img dt dn r) (hereOf (a .h)) (a .holder) (searchOf (a .p) new divs pool views) (a .p .«div_count») l (c .before .before .before .if1 .left) (c .if2 .taken))
 
 -- src/rewind.rt:155:1
 returns-3 : tie.Need-returns-3
 returns-3 c =
     let a = (c .before .before .before .before .before .args) in
-    (refl, λ t occ img dt dn r new divs pool views l. stop-good (roundOf t occ img dt dn r) (hereOf (a .h)) (searchOf (a .p) new divs pool views) (a .p .«div_count») l (c .before .before .before .if1 .left) (c .if2 .left))
+    (refl, λ t occ img dt dn r new divs pool views l. stop-good (roundOf t occ img dt dn r) (hereOf (a .h)) (a .holder) (searchOf (a .p) new divs pool views) (a .p .«div_count») l (c .before .before .before .if1 .left) (c .if2 .left))
 
 pub give-up-spec : {M : Type 1} → statement M
 give-up-spec = tie.close (tie.spec returns returns-2 returns-3)

@@ -14,7 +14,7 @@ returns : tie.Need-returns
 returns c =
     let a = (c .before .before .args) in
     let s = (c .before .before .pre) in
-    ((λ t occ img dt dn new divs pool views l m. one-pop (roundOf t occ img dt dn (a .r)) (hereOf (a .h)) (searchOf (a .p) new divs pool views) (λ z. c .if1 .taken (sym l ∙ z))), record { split = omega arith; divSplit = s .divSplit; save = s .save; divs = s .divs; pool = s .pool; free = λ b u v. omega (arith, u) }, refl, refl)
+    ((λ t occ img dt dn new divs pool views l m. one-pop (roundOf t occ img dt dn (a .r)) (hereOf (a .h)) (a .holder) (searchOf (a .p) new divs pool views) (λ z. c .if1 .taken (sym l ∙ z))), record { split = omega arith; divSplit = s .divSplit; save = s .save; divs = s .divs; pool = s .pool; free = λ b u v. omega (arith, u) }, refl, refl)
 
 -- src/rewind.rt:188:9
 give-up-requires : tie.Need-give-up-requires
@@ -27,7 +27,7 @@ returns-2 c =
     let s = (c .before .before .before .before .before .before .pre) in
     let g = (c .give-up) in
     let e = g .ensures .0 in
-    ((λ t occ img dt dn new divs pool views l m. rw e (g .ensures .1 t occ img dt dn (a .r) new divs pool views m ∙ one-first (roundOf t occ img dt dn (a .r)) (hereOf (a .h)) (searchOf (a .p) new divs pool views) (l ∙ c .before .before .before .before .if1 .left) (c .before .if2 .taken))), rw e (record { split = omega arith; divSplit = s .divSplit; save = s .save; divs = s .divs; pool = s .pool; free = λ b u v. omega (arith, u) }), rw e, rw e)
+    ((λ t occ img dt dn new divs pool views l m. rw e (g .ensures .1 t occ img dt dn (a .r) new divs pool views m ∙ one-first (roundOf t occ img dt dn (a .r)) (hereOf (a .h)) (a .holder) (searchOf (a .p) new divs pool views) (l ∙ c .before .before .before .before .if1 .left) (c .before .if2 .taken))), rw e (record { split = omega arith; divSplit = s .divSplit; save = s .save; divs = s .divs; pool = s .pool; free = λ b u v. omega (arith, u) }), rw e, rw e)
 
 -- src/rewind.rt:192:23
 sub-q : tie.Need-sub-q
@@ -38,7 +38,7 @@ returns-3 : tie.Need-returns-3
 returns-3 c =
     let a = (c .before .before .before .before .before .before .before .before .before .args) in
     let s = (c .before .before .before .before .before .before .before .before .before .pre) in
-    ((λ t occ img dt dn new divs pool views l m. one-down (roundOf t occ img dt dn (a .r)) (hereOf (a .h)) (searchOf (a .p) new divs pool views) (l ∙ c .before .before .before .before .before .before .before .if1 .left) (c .before .before .before .before .if2 .left) (c .before .if3 .taken)), record { split = omega arith; divSplit = s .divSplit; save = s .save; divs = s .divs; pool = s .pool; free = λ b u v. omega (arith, u) }, refl, refl)
+    ((λ t occ img dt dn new divs pool views l m. one-down (roundOf t occ img dt dn (a .r)) (hereOf (a .h)) (a .holder) (searchOf (a .p) new divs pool views) (l ∙ c .before .before .before .before .before .before .before .if1 .left) (c .before .before .before .before .if2 .left) (c .before .if3 .taken)), record { split = omega arith; divSplit = s .divSplit; save = s .save; divs = s .divs; pool = s .pool; free = λ b u v. omega (arith, u) }, refl, refl)
 
 -- src/rewind.rt:198:5
 give-up-requires-2 : tie.Need-give-up-requires-2
@@ -51,7 +51,7 @@ returns-4 c =
     let s = (c .before .before .before .before .before .before .before .before .before .pre) in
     let g = (c .give-up2) in
     let e = g .ensures .0 in
-    ((λ t occ img dt dn new divs pool views l m. rw e (g .ensures .1 t occ img dt dn (a .r) new divs pool views m ∙ one-near (roundOf t occ img dt dn (a .r)) (hereOf (a .h)) (searchOf (a .p) new divs pool views) (l ∙ c .before .before .before .before .before .before .before .if1 .left) (c .before .before .before .before .if2 .left) (c .before .if3 .left))), rw e (record { split = omega arith; divSplit = s .divSplit; save = s .save; divs = s .divs; pool = s .pool; free = λ b u v. omega (arith, u) }), rw e, rw e)
+    ((λ t occ img dt dn new divs pool views l m. rw e (g .ensures .1 t occ img dt dn (a .r) new divs pool views m ∙ one-near (roundOf t occ img dt dn (a .r)) (hereOf (a .h)) (a .holder) (searchOf (a .p) new divs pool views) (l ∙ c .before .before .before .before .before .before .before .if1 .left) (c .before .before .before .before .if2 .left) (c .before .if3 .left))), rw e (record { split = omega arith; divSplit = s .divSplit; save = s .save; divs = s .divs; pool = s .pool; free = λ b u v. omega (arith, u) }), rw e, rw e)
 
 pub one-back-spec : {M : Type 1} → statement M
 one-back-spec =

@@ -44,8 +44,8 @@ goes-on-requires-3 : tie.Need-goes-on-requires-3
 goes-on-requires-3 c κs = search needs
 
 -- src/lib.rt:97:27
-enum-told-3 : tie.Need-enum-told-3
-enum-told-3 c = search needs
+enum-known-effect-3 : tie.Need-enum-known-effect-3
+enum-known-effect-3 c = search needs
 
 -- src/lib.rt:97:27
 stops-requires-2 : tie.Need-stops-requires-2
@@ -69,7 +69,7 @@ returns-4 c = let a = c .before .before .before .args in rw (c .before .enum-tol
 
 -- src/lib.rt:88:1
 returns-5 : tie.Need-returns-5
-returns-5 c = let a = c .before .before .before .args in rw (c .before .enum-told3 .given .1, c .stops2 .ensures) (follows-give-up (a .k) (a .curr))
+returns-5 c = let a = c .before .before .before .before .args in rw (c .before .before .effect3 .given .1, c .stops2 .ensures) (follows-give-up (a .k) (a .curr) _)
 
 pub next-of-spec : {M : Type 1} → statement M
 next-of-spec =
@@ -85,7 +85,7 @@ next-of-spec =
     goes-on-requires-2
     enum-told-2
     goes-on-requires-3
-    enum-told-3
+    enum-known-effect-3
     stops-requires-2
     returns
     returns-2

@@ -24,8 +24,8 @@ tallied-requires-2 c κs = search needs
 ran-with-requires-2 : tie.Need-ran-with-requires-2
 ran-with-requires-2 c κs = search needs
 
-enum-told-2 : tie.Need-enum-told-2
-enum-told-2 c = search needs
+enum-known-end-2 : tie.Need-enum-known-end-2
+enum-known-end-2 c = search needs
 
 tallied-requires-3 : tie.Need-tallied-requires-3
 tallied-requires-3 c κs = search needs
@@ -33,8 +33,8 @@ tallied-requires-3 c κs = search needs
 ran-with-requires-3 : tie.Need-ran-with-requires-3
 ran-with-requires-3 c κs = search needs
 
-enum-told-3 : tie.Need-enum-told-3
-enum-told-3 c = search needs
+enum-told-2 : tie.Need-enum-told-2
+enum-told-2 c = search needs
 
 tallied-requires-4 : tie.Need-tallied-requires-4
 tallied-requires-4 c κs = search needs
@@ -54,13 +54,13 @@ returns-2 c =
 
 returns-3 : tie.Need-returns-3
 returns-3 c =
-    let a = c .before .before .before .before .before .args in
-    c .ran-with3 .ensures ∙ ap (ranOf _ (a .h)) (c .before .tallied3 .ensures) ∙ sym (ap (λ (e : End). stoppedBy e (a .h) (a .w .tally) (a .steps) (a .strays)) (c .before .before .enum-told2 .given .1))
+    let a = c .before .before .before .before .before .before .args in
+    c .ran-with3 .ensures ∙ ap (ranOf _ (a .h)) (c .before .tallied3 .ensures) ∙ sym (ap (λ (e : End). stoppedBy e (a .h) (a .w .tally) (a .steps) (a .strays)) (c .before .before .before .end2 .given .1))
 
 returns-4 : tie.Need-returns-4
 returns-4 c =
     let a = c .before .before .before .before .before .args in
-    c .ran-with4 .ensures ∙ ap (ranOf _ (a .h)) (c .before .tallied4 .ensures) ∙ sym (ap (λ (e : End). stoppedBy e (a .h) (a .w .tally) (a .steps) (a .strays)) (c .before .before .enum-told3 .given .1))
+    c .ran-with4 .ensures ∙ ap (ranOf _ (a .h)) (c .before .tallied4 .ensures) ∙ sym (ap (λ (e : End). stoppedBy e (a .h) (a .w .tally) (a .steps) (a .strays)) (c .before .before .enum-told2 .given .1))
 
 pub stopped-spec : {M : Type 1} → statement M
 stopped-spec =
@@ -72,10 +72,10 @@ stopped-spec =
     enum-told
     tallied-requires-2
     ran-with-requires-2
-    enum-told-2
+    enum-known-end-2
     tallied-requires-3
     ran-with-requires-3
-    enum-told-3
+    enum-told-2
     tallied-requires-4
     ran-with-requires-4
     returns

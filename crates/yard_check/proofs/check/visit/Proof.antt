@@ -57,7 +57,7 @@ returns-3 : tie.Need-returns-3
 returns-3 c =
     let a = c .before .before .before .before .before .before .before .before .before .before .before .before .before .args in
     ap (λ (r : Check.Row). Check.visit r (c .before .before .before .update-over .last .0)) (c .updated-row .ensures)
-    ∙ (ap (λ (x : UpdatedImage). Check.visit (Check.updatedRow (x .answer) (a .a .moved .0)) (x .image)) (c .before .before .before .update-over .ensures)
+    ∙ (ap (λ (x : UpdatedImage). Check.visit (Check.updatedRow (x .answer)) (x .image)) (c .before .before .before .update-over .ensures)
     ∙ sym (updated-at-once (now (a .occ)) (argsOf (now (a .blocking)) (a .a)) (a .t) (now (a .img)) (c .before .before .before .before .before .before .before .before .before .before .before .before .before .pre) (sym (c .before .before .before .before .before .before .before .before .is-finished .ensures) ∙ c .before .before .before .before .before .before .before .if1 .left) (c .before .before .before .before .before .if2 .left)))
 
 pub visit-spec : {M : Type 1} → statement M
