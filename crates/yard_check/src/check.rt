@@ -8,6 +8,7 @@ use image_reader;
 use link_rules::link_idx::NarrowTrainIdx;
 use link_rules::link_idx::TrainIdx;
 use link_rules::octets;
+use link_rules::refusal;
 use link_rules::refusal::Refusal;
 use update_free_path;
 use update_free_path::answer::Status;
@@ -68,9 +69,9 @@ fn fault(number: u16) -> Refusal
     }
 }
 
-// 15, 16; long is the length of the report.
-fn slots_fault(slots: u32, a: Args, long: usize) -> Refusal
-    ensures { λ r. ⌜ r ≡ orElse (Check.slotsFault slots (argsOf [] a)) (Check.reportFault slots long) ⌝ }
+// 15
+fn slots_fault(slots: u32, a: Args) -> Refusal
+    ensures { λ r. ⌜ r ≡ Check.slotsFault slots (argsOf [] a) ⌝ }
 {
     if slots < a.moved.0 {
         return fault(15);
@@ -81,10 +82,26 @@ fn slots_fault(slots: u32, a: Args, long: usize) -> Refusal
     if slots < (a.begin - 1) as u32 {
         return fault(15);
     }
+    fault(0)
+}
+
+// 16; long is the length of the report.
+fn report_fault(slots: u32, long: usize) -> Refusal
+    ensures { λ r. ⌜ r ≡ Check.reportFault slots long ⌝ }
+{
     if long != 16 * (slots as usize) {
         return fault(16);
     }
     fault(0)
+}
+
+// 15, 16.
+fn slots_or_report_fault(slots: u32, a: Args, long: usize) -> Refusal
+    ensures { λ r. ⌜ r ≡ orElse (Check.slotsFault slots (argsOf [] a)) (Check.reportFault slots long) ⌝ }
+{
+    let s = slots_fault(slots, a);
+    let f = report_fault(slots, long);
+    refusal::or_else(s, f)
 }
 
 // Of the occupancy only the length is asked.
@@ -96,7 +113,7 @@ fn check_fault(yard: &[u8], l: usize, blocking: &[u32], a: Args, long: usize) ->
         return f;
     }
     if yard::yard_fits(yard) {
-        return slots_fault(yard::slot_count(yard), a, long);
+        return slots_or_report_fault(yard::slot_count(yard), a, long);
     }
     fault(14)
 }

@@ -66,15 +66,6 @@ pub fn part(yard: &[u8], t: TrainIdx) -> &[u8]
     &yard[a..e]
 }
 
-pub fn part_mut(yard: &mut [u8], t: TrainIdx) -> &mut [u8]
-    ensures { λ r. ⌜ now r ≡ partOf (now (yard .entry)) (t .0) ⌝ }
-{
-    let slot = t.0;
-    let a = part_from(yard, slot);
-    let e = part_until(yard, slot);
-    &mut yard[a..e]
-}
-
 // ---- 14: bad yard header, a part below 64 bytes, or wrong slot train
 
 fn part_fits(yard: &[u8], t: u32) -> bool

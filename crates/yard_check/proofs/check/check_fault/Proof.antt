@@ -21,8 +21,8 @@ yard-fits-requires c κs = search needs
 slot-count-requires : tie.Need-slot-count-requires
 slot-count-requires c κs = search needs
 
-slots-fault-requires : tie.Need-slots-fault-requires
-slots-fault-requires c κs = search needs
+slots-or-report-fault-requires : tie.Need-slots-or-report-fault-requires
+slots-or-report-fault-requires c κs = search needs
 
 returns-2 : tie.Need-returns-2
 unfolding checkFault slotsFault
@@ -30,7 +30,7 @@ returns-2 c occ q =
     let f = c .before .before .before .before .before .before .call-fault in
     let y = now (c .before .before .before .before .before .before .before .before .before .args .yard) in
     let ok : yardFits y ≡ true = sym (c .before .before .before .yard-fits .ensures) ∙ c .before .before .if2 .taken in
-    rw (← f .ensures occ q, eq-eqb (f .result .number) 0 (c .before .before .before .before .if1 .left), ok, ← c .before .slot-count .ensures) (c .slots-fault .ensures)
+    rw (← f .ensures occ q, eq-eqb (f .result .number) 0 (c .before .before .before .before .if1 .left), ok, ← c .before .slot-count .ensures) (c .slots-or-report-fault .ensures)
 
 fault-requires : tie.Need-fault-requires
 fault-requires c κs = search needs
@@ -51,7 +51,7 @@ check-fault-spec =
     returns
     yard-fits-requires
     slot-count-requires
-    slots-fault-requires
+    slots-or-report-fault-requires
     returns-2
     fault-requires
     returns-3)

@@ -1,7 +1,7 @@
-use Prim.Native.Nat.{_+_, _*_}
+use Prim.Native.Nat.{_+_}
 use native.Mathlib.Omega.{arith}
-use borrow.Author.Tests.{eq-eqb, ne-eqb, le-leb, lt-leb}
-use Rattle.yard_check.specs.Check.{rowSize, slotsFault, reportFault}
+use borrow.Author.Tests.{le-leb, lt-leb}
+use Rattle.yard_check.specs.Check.{slotsFault}
 use borrow.Author.Needs.{needs}
 use Rattle.yard_check.proofs.check.slots_fault.Statement.{statement}
 use Rattle.yard_check.proofs.check.slots_fault.Tie as tie
@@ -36,40 +36,15 @@ returns-3 c =
     let a = c .before .before .before .before .before .before .before .args in
     rw (le-leb (a .a .moved .0) (a .slots) (omega arith), le-leb 1 (a .a .begin) (omega arith), lt-leb (a .a .begin) (a .slots + 1) (omega arith)) (c .fault3 .ensures)
 
-mul-if4 : tie.Need-mul-if4
-mul-if4 c = search needs
-
 fault-requires-4 : tie.Need-fault-requires-4
 fault-requires-4 c κs = search needs
 
 returns-4 : tie.Need-returns-4
-unfolding slotsFault reportFault
+unfolding slotsFault
 returns-4 c =
-    let a = c .before .before .before .before .before .before .before .before .args in
-    rw (le-leb (a .a .moved .0) (a .slots) (omega arith), le-leb 1 (a .a .begin) (omega arith), le-leb (a .a .begin) (a .slots + 1) (omega arith), ne-eqb (a .long) (rowSize * a .slots) (c .before .if4 .taken)) (c .fault4 .ensures)
-
-fault-requires-5 : tie.Need-fault-requires-5
-fault-requires-5 c κs = search needs
-
-returns-5 : tie.Need-returns-5
-unfolding slotsFault reportFault
-returns-5 c =
-    let a = c .before .before .before .before .before .before .before .before .args in
-    rw (le-leb (a .a .moved .0) (a .slots) (omega arith), le-leb 1 (a .a .begin) (omega arith), le-leb (a .a .begin) (a .slots + 1) (omega arith), eq-eqb (a .long) (rowSize * a .slots) (c .before .if4 .left)) (c .fault5 .ensures)
+    let a = c .before .before .before .before .before .before .before .args in
+    rw (le-leb (a .a .moved .0) (a .slots) (omega arith), le-leb 1 (a .a .begin) (omega arith), le-leb (a .a .begin) (a .slots + 1) (omega arith)) (c .fault4 .ensures)
 
 pub slots-fault-spec : {M : Type 1} → statement M
 slots-fault-spec =
-    tie.close
-    (tie.spec
-    fault-requires
-    returns
-    fault-requires-2
-    returns-2
-    cast-if3
-    fault-requires-3
-    returns-3
-    mul-if4
-    fault-requires-4
-    returns-4
-    fault-requires-5
-    returns-5)
+    tie.close (tie.spec fault-requires returns fault-requires-2 returns-2 cast-if3 fault-requires-3 returns-3 fault-requires-4 returns-4)
