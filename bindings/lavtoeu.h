@@ -32,7 +32,7 @@ enum {
     LAVTOEU_TABLE_HEADER = 16, LAVTOEU_LINK_RECORD = 12, LAVTOEU_LOCKOUT_RECORD = 4,
     LAVTOEU_IMAGE_HEADER = 64, LAVTOEU_EST_RECORD = 32, LAVTOEU_PATH_RECORD = 32, LAVTOEU_DIVERGE_RECORD = 4,
     LAVTOEU_YARD_HEADER = 8, LAVTOEU_YARD_OFFSET = 4,
-    LAVTOEU_REPORT_RECORD = 16,
+    LAVTOEU_REPORT_RECORD = 20,
     LAVTOEU_BUNDLE_HEADER = 32,
     LAVTOEU_SHEET_ROOM = 4096,
     LAVTOEU_PAGE_LINE = 40
@@ -63,7 +63,7 @@ typedef struct {
     uint8_t spare[6];
     double search, fixed_max;
 } lavtoeu_image_header;
-typedef struct { uint16_t code, place, rounds, holder; uint32_t strays, faults; } lavtoeu_row;
+typedef struct { uint16_t code, place, rounds, holder; uint32_t strays, faults, met; } lavtoeu_row;
 typedef struct {
     uint32_t size, occupancy_at, occupancy, blocking_at, blocking, yard_at;
     uint16_t moved, begin, limit, local;
@@ -88,23 +88,25 @@ uint32_t lavtoeu_profile(const uint8_t *image, size_t image_len);
 uint32_t lavtoeu_lay_out(const uint8_t *est, size_t est_len, uint16_t train, double search, double fixed, uint32_t room, uint32_t links, uint8_t *image, size_t image_len);
 
 /* The words of an update's answer. */
-enum { LAVTOEU_CODE = 0, LAVTOEU_ERRORS = 1, LAVTOEU_ROUNDS = 2, LAVTOEU_STRAYS = 3, LAVTOEU_STEPS = 4, LAVTOEU_HOLDER = 5, LAVTOEU_UPDATE_WORDS = 6 };
+enum { LAVTOEU_CODE = 0, LAVTOEU_ERRORS = 1, LAVTOEU_ROUNDS = 2, LAVTOEU_STRAYS = 3, LAVTOEU_STEPS = 4, LAVTOEU_HOLDER = 5, LAVTOEU_MET = 6, LAVTOEU_UPDATE_WORDS = 7 };
 
 /* Codes, as a report has them. 16 + n is refused by n. */
 enum { LAVTOEU_UNVISITED = 0, LAVTOEU_FINISHED = 1, LAVTOEU_MOVED = 2, LAVTOEU_SUCCESS = 3, LAVTOEU_BLOCKED = 4, LAVTOEU_FAULTY = 5, LAVTOEU_REFUSED = 16 };
 
 /* Updates the train of an image: the occupancy, the blocking list, the moved train, local (0 is no), the round limit. The first
- * six words of the answer get the code, the number of errors where it is FAULTY, the rounds entered, the strays counted, the steps
- * of the search, those of a refused update up to its refusal, and the train that holds this one where it is BLOCKED, else 0; words
- * past answer_len are left out. Refused by 2 and 4 to 13; the words are written then too. */
+ * seven words of the answer get the code, the number of errors where it is FAULTY, the rounds entered, the strays counted, the
+ * steps of the search, those of a refused update up to its refusal, the train that holds this one where it is BLOCKED, else 0, and
+ * the train that was met where the first round stopped on the path, 0 where it met none or the update is refused; words past
+ * answer_len are left out. Refused by 2 and 4 to 13; the words are written then too. */
 uint32_t lavtoeu_update(uint8_t *image, size_t image_len, const uint16_t *occupancy, size_t occupancy_len, const uint32_t *blocking, size_t blocking_len, uint16_t moved, uint32_t local, uint16_t limit, uint64_t *answer, size_t answer_len);
 
 /* The words of a check's answer. */
 enum { LAVTOEU_ERRED = 0, LAVTOEU_DEADLOCK = 1, LAVTOEU_NEXT = 2, LAVTOEU_CHECK_WORDS = 3 };
 
-/* Checks a yard from slot begin on; the report gets 16 bytes for each slot: u16 code, place, rounds, holder; u32 strays, faults. The
- * first three words of the answer get the number of slots that erred; where it is 0, 1 for a deadlock, and the next begin. Refused by
- * 2, 4, 5, 14, 15, 16; a refused check leaves `answer` as it was. */
+/* Checks a yard from slot begin on; the report gets 20 bytes for each slot: u16 code, place, rounds, holder; u32 strays, faults, met.
+ * Holder and met are as of the slot's update, 0 where it had none. The first three words of the answer get the number of slots that
+ * erred; where it is 0, 1 for a deadlock, and the next begin. Refused by 2, 4, 5, 14, 15, 16; a refused check leaves `answer` as it
+ * was. */
 uint32_t lavtoeu_check(uint8_t *yard, size_t yard_len, const uint16_t *occupancy, size_t occupancy_len, const uint32_t *blocking, size_t blocking_len, uint16_t moved, uint16_t begin, uint32_t local, uint16_t limit, uint8_t *report, size_t report_len, uint64_t *answer, size_t answer_len);
 
 /* Writes the sheet of a bundle to the text, as many bytes as it has room for, and returns how many; no byte 0 behind them. */

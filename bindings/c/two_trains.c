@@ -65,7 +65,7 @@ int main(void) {
     need("check", lavtoeu_check(yard, YARD, occupancy, LINKS, blocking, 1, 2, 1, 0, 5, (uint8_t *)report, sizeof report, answer, LAVTOEU_CHECK_WORDS));
     printf("%d erred, deadlock %d, next %d\n", (int)answer[LAVTOEU_ERRED], (int)answer[LAVTOEU_DEADLOCK], (int)answer[LAVTOEU_NEXT]);
     for (int t = 1; t <= SLOTS; t++)
-        printf("slot %d: code %d, %d rounds, %u strays\n", t, report[t - 1].code, report[t - 1].rounds, report[t - 1].strays);
+        printf("slot %d: code %d, %d rounds, %u strays, met %u\n", t, report[t - 1].code, report[t - 1].rounds, report[t - 1].strays, report[t - 1].met);
     print_path(yard + FIRST_AT);
     return 0;
 }

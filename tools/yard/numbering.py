@@ -307,7 +307,7 @@ def sheets_differ(first, second, numbering):
     if len(first) == len(second):
         for row in first[1:]:
             slot = numbering.train(int(row[0]))
-            want = [str(slot), row[1], row[2], str(numbering.train(int(row[3]))), *row[4:]]
+            want = [str(slot), *(str(numbering.train(int(x))) if i in programs.TRAINS else x for i, x in enumerate(row[1:], 1))]
             for column, a, b in zip(programs.COLUMNS, want, second[slot]):
                 yield from told(f"the sheet's slot {slot}, {column}", b, a)
 

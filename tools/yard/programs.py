@@ -5,7 +5,8 @@ import subprocess
 
 from yard import Wrong, in_file, read_file, text_of
 
-COLUMNS = ["slot", "code word", "rounds", "holder", "strays", "faults", "free"]
+COLUMNS = ["slot", "code word", "rounds", "holder", "strays", "faults", "free", "met"]
+TRAINS = [3, 7]  # which columns hold trains
 BUILT = os.path.join(os.path.dirname(os.path.dirname(os.path.dirname(os.path.abspath(__file__)))), "target", "bin")
 
 

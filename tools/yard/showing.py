@@ -3,7 +3,7 @@ import struct
 
 import faults
 import programs
-from yard import Wrong, bundle_of, drawn, in_file, options, parts_of, train_text, write_out
+from yard import ROW, Wrong, bundle_of, drawn, in_file, options, parts_of, train_text, write_out
 
 # What a refusal means, by its number; docs/REFUSALS.md has the whole.
 REFUSALS = {
@@ -22,7 +22,7 @@ REFUSALS = {
     13: "an assert, an index, an unwrap or a difference of the Rust fails",
     14: "the yard's header does not fit, or slot t does not hold train t",
     15: "the moved train is none of the slots, or begin is outside them",
-    16: "the report has not 16 bytes for each slot",
+    16: "the report has not 20 bytes for each slot",
     17: "the bundle is too long, its size or its parts do not fit, or local is neither 0 nor 1",
     18: "the page has fewer than 40 bytes for each node of the path",
     29: "a value outside the training track profile",
@@ -51,7 +51,7 @@ def counted(n, what):
 
 def row_words(row, after, links, occupancy):
     """The lines that say what a slot's record of the report means."""
-    code, place, rounds, holder, strays, errors = row
+    code, place, rounds, holder, strays, errors, met = row
     if code < 16:
         out = [WORDS.get(code, f"code {code}, which this tool does not know")]
     else:
@@ -59,6 +59,7 @@ def row_words(row, after, links, occupancy):
         why = faults.refused(code - 16, place, after, links) if 22 <= code <= 25 and after else None
         out += [why] if why else []
     out += [f"held by train {holder}"] if holder else []
+    out += [f"it met train {met} first"] if met else []
     out += [f"{counted(rounds, 'round')}"] if rounds else []
     out += [f"{counted(strays, 'stray')}: free nodes that arrive at an occupied link outside the blocking links of the path"] if strays else []
     if code == 5 and after and faults.within(after, links):
@@ -131,11 +132,12 @@ def shown(data, sheet, after):
         return [*out, "", refusal(int(sheet[0][1]))]
     at_occ, links, at_block, blocks, at_yard = struct.unpack_from("<5I", data, 4)
     before = parts_of(data, at_yard)
-    if len(after) != len(data) + 16 * len(before):
-        raise Wrong(0, f"it wrote {len(after)} bytes; a bundle of {len(data)} and a report of {len(before)} slots are {len(data) + 16 * len(before)}", "after")
+    whole = len(data) + ROW * len(before)
+    if len(after) != whole:
+        raise Wrong(0, f"it wrote {len(after)} bytes; a bundle of {len(data)} and a report of {len(before)} slots are {whole}", "after")
     occupancy = struct.unpack_from(f"<{links}H", data, at_occ)
     blocking = set(struct.unpack_from(f"<{blocks}I", data, at_block))
-    rows = struct.iter_unpack("<4H2I", after[len(data):])
+    rows = struct.iter_unpack("<4H3I", after[len(data):])
     out += ["", first_words(sheet[0])]
     for t, (parts, row) in enumerate(zip(zip(before, parts_of(after[:len(data)], at_yard)), rows), 1):
         out += ["", f"slot {t}", *(f"  {line}" for line in slot_lines(parts, row, occupancy, blocking))]

@@ -29,7 +29,7 @@ fn main() -> Result<(), Refusal> {
     let moved = Move { occupancy: &occupancy, blocking: &[1], moved: 2, local: false, limit: 5 };
     println!("{:?}", check(&mut yard, moved, 1, &mut report)?);
     for (t, row) in rows(&report).iter().enumerate() {
-        println!("slot {}: {:?}, {} rounds, {} strays", t + 1, row.slot, row.rounds, row.strays);
+        println!("slot {}: {:?}, {} rounds, {} strays, met {}", t + 1, row.slot, row.rounds, row.strays, row.met);
     }
     // The check has led train 1 over the siding.
     for node in Image::from_bytes(parts(&yard)?[0])?.path {

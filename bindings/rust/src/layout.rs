@@ -16,10 +16,10 @@ pub const YARD_HEADER: usize = 8;
 pub const YARD_OFFSET: usize = 4;
 
 /// The row of a slot in a report.
-pub const REPORT_RECORD: usize = 16;
+pub const REPORT_RECORD: usize = 20;
 
 /// The words of an update's answer, and of a check's.
-pub const UPDATE_WORDS: usize = 6;
+pub const UPDATE_WORDS: usize = 7;
 pub const CHECK_WORDS: usize = 3;
 
 /// A bundle before its occupancy, and the longest bundle.

@@ -183,7 +183,8 @@ pub enum Status {
     Faulty(u64),
 }
 
-/// An update: its status or its refusal, the rounds entered, the strays counted, the steps of the search, and who holds the train.
+/// An update: its status or its refusal, the rounds entered, the strays counted, the steps of the search, who holds the train, and
+/// whom it met.
 #[derive(Clone, Copy, Debug, PartialEq, Eq)]
 pub struct Updated {
     pub status: Result<Status, Refusal>,
@@ -193,6 +194,9 @@ pub struct Updated {
     pub steps: u64,
     /// Where the update ended Blocked, the first train of the blocking view that was given last; else 0.
     pub holder: u32,
+    /// The train where the first round's search along the path stopped; 0 where it came to its end or stopped at an empty link,
+    /// where none ran, and in a refused update.
+    pub met: u32,
 }
 
 /// Updates the free path of the train of an image.
@@ -203,11 +207,12 @@ pub fn update(image: &mut [u8], m: Move) -> Updated {
         5 => Status::Faulty(words[1]),
         _ => Status::Success,
     });
-    Updated { status, rounds: words[2] as u16, strays: words[3], steps: words[4], holder: words[5] as u32 }
+    let (holder, met) = (words[5] as u32, words[6] as u32);
+    Updated { status, rounds: words[2] as u16, strays: words[3], steps: words[4], holder, met }
 }
 
 /// [`update`] with its answer in words, as many as there is room for: the code, the errors, the rounds, the strays, the
-/// steps, of a refused update too, and the holder.
+/// steps, of a refused update too, the holder, and the train met.
 pub fn update_into(image: &mut [u8], m: Move, answer: &mut [u64]) -> Result<(), Refusal> {
     // SAFETY: each pointer goes with its own length, and the function keeps to them.
     Refusal::of(unsafe {
@@ -262,6 +267,8 @@ pub struct Row {
     pub slot: Slot,
     pub rounds: u16,
     pub strays: u32,
+    /// The train that the slot's update met, as [`Updated`] has it; 0 where the slot was not updated.
+    pub met: u32,
 }
 
 /// The records of a report, in the order of the slots.
@@ -280,7 +287,7 @@ pub fn rows(report: &[u8]) -> Vec<Row> {
                 5 => Slot::Faulty(word(12)),
                 code => Slot::Refused(Refusal { number: code.saturating_sub(16), place: half(2) }),
             };
-            Row { slot, rounds: half(4), strays: word(8) }
+            Row { slot, rounds: half(4), strays: word(8), met: word(16) }
         })
         .collect()
 }

@@ -28,8 +28,8 @@ fn bytes_may_begin_at_any_address() {
     same(at_each_address(&siding(), |est| lay_out(est, order(1, 4), &mut vec![0; image_size(5, 4)])));
     same(at_each_address(&vec![0; image_size(5, 4)], |image| lay_out(&siding(), order(1, 4), image)));
     same(at_each_address(&laid_out(1, 4), |image| update(image, MOVE)));
-    same(at_each_address(&two_trains(), |yard| check(yard, MOVE, 1, &mut [0; 32])));
-    same(at_each_address(&[0; 32], |report| check(&mut two_trains(), MOVE, 1, report)));
+    same(at_each_address(&two_trains(), |yard| check(yard, MOVE, 1, &mut [0; 40])));
+    same(at_each_address(&[0; 40], |report| check(&mut two_trains(), MOVE, 1, report)));
     same(at_each_address(&bundle(&two_trains(), MOVE, 1), |bundle| sheet(bundle)));
     same(at_each_address(&[0; 4_096], |text| sheet_into(&bundle(&two_trains(), MOVE, 1), text)));
 }
@@ -37,7 +37,7 @@ fn bytes_may_begin_at_any_address() {
 #[test]
 fn threads_may_call_at_once() {
     let once = || {
-        let (mut yard, mut report) = (two_trains(), [0; 32]);
+        let (mut yard, mut report) = (two_trains(), [0; 40]);
         let answer = check(&mut yard, MOVE, 1, &mut report);
         (answer, sheet(&bundle(&yard, MOVE, 1)), yard, report)
     };

@@ -111,7 +111,7 @@ fn a_refused_layout_leaves_the_buffer() {
 #[test]
 fn an_update_takes_the_siding() {
     let mut image = laid_out(1, 4);
-    assert_eq!(update(&mut image, MOVE), Updated { status: Ok(Status::Success), rounds: 2, strays: 0, steps: 3, holder: 0 });
+    assert_eq!(update(&mut image, MOVE), Updated { status: Ok(Status::Success), rounds: 2, strays: 0, steps: 3, holder: 0, met: 2 });
     assert_eq!(path(&image), [0, 2, 3, 4]);
     assert_eq!(judge(&image, 4), Ok(()));
 }
@@ -120,7 +120,7 @@ fn an_update_takes_the_siding() {
 fn a_blocked_update_keeps_its_path() {
     let mut image = laid_out(1, 4);
     let m = Move { occupancy: &[0, 2, 2, 0], blocking: &[1, 2], ..MOVE };
-    assert_eq!(update(&mut image, m), Updated { status: Ok(Status::Blocked), rounds: 1, strays: 0, steps: 3, holder: 2 });
+    assert_eq!(update(&mut image, m), Updated { status: Ok(Status::Blocked), rounds: 1, strays: 0, steps: 3, holder: 2, met: 2 });
     assert_eq!(path(&image), [0, 1, 4]);
 }
 
@@ -131,7 +131,7 @@ fn refused_updates_leave_the_image_and_say_how_far_they_came() {
         let before = image.clone();
         let m = Move { limit, ..MOVE };
         let status = Err(Refusal { number, place: 0 });
-        assert_eq!(update(&mut image, m), Updated { status, rounds, strays: 0, steps, holder: 0 });
+        assert_eq!(update(&mut image, m), Updated { status, rounds, strays: 0, steps, holder: 0, met: 0 });
         assert_eq!(image, before);
     }
 }
@@ -154,17 +154,17 @@ fn no_bytes_and_any_bytes_get_an_answer() {
 #[test]
 fn a_check_works_every_slot_but_the_moved_train() {
     let mut yard = two_trains();
-    let mut report = [0xaa; 32];
+    let mut report = [0xaa; 40];
     assert_eq!(check(&mut yard, MOVE, 1, &mut report), Ok(Checked::Done { deadlock: false, next: 1 }));
-    let row = |slot, rounds| Row { slot, rounds, strays: 0 };
-    assert_eq!(rows(&report), [row(Slot::Success, 2), row(Slot::Moved, 0)]);
+    let row = |slot, rounds, met| Row { slot, rounds, strays: 0, met };
+    assert_eq!(rows(&report), [row(Slot::Success, 2, 2), row(Slot::Moved, 0, 0)]);
     assert_eq!(path(&yard[16..16 + 400]), [0, 2, 3, 4]);
 }
 
 #[test]
 fn a_blocked_slot_is_a_deadlock_and_names_its_holder() {
     let mut yard = two_trains();
-    let mut report = [0; 32];
+    let mut report = [0; 40];
     let m = Move { occupancy: &[0, 2, 2, 0], blocking: &[1, 2], ..MOVE };
     assert_eq!(check(&mut yard, m, 1, &mut report), Ok(Checked::Done { deadlock: true, next: 1 }));
     assert_eq!(rows(&report)[0].slot, Slot::Blocked(2));
@@ -175,10 +175,40 @@ fn a_blocked_train_may_be_held_by_another_than_the_moved_one() {
     // Train 9 stands on the siding: the view of both begins with it, since it lies at the end of the pool.
     let m = Move { occupancy: &[0, 2, 9, 0], blocking: &[1, 2], ..MOVE };
     let updated = update(&mut laid_out(1, 4), m);
-    assert_eq!((updated.status, updated.holder), (Ok(Status::Blocked), 9));
+    assert_eq!((updated.status, updated.holder, updated.met), (Ok(Status::Blocked), 9, 2));
     let mut report = vec![0; 2 * layout::REPORT_RECORD];
     assert_eq!(check(&mut two_trains(), m, 1, &mut report), Ok(Checked::Done { deadlock: true, next: 1 }));
-    assert_eq!(rows(&report)[0].slot, Slot::Blocked(9));
+    assert_eq!(rows(&report)[0], Row { slot: Slot::Blocked(9), rounds: 1, strays: 0, met: 2 });
+}
+
+#[test]
+fn the_train_met_is_the_one_on_the_link_where_the_search_stops() {
+    // Links 1 and 3 are a range: the first of them that is held. Twice link 3: link 1 lies outside. Link 2 is not on the path.
+    for (occupancy, blocking, met) in [
+        ([0, 7, 0, 9], vec![1, 3], 7),
+        ([0, 0, 0, 9], vec![1, 3], 9),
+        ([0, 7, 0, 9], vec![3, 3], 9),
+        ([0, 7, 0, 9], vec![2], 0),
+        ([0, 7, 0, 9], vec![], 0),
+    ] {
+        let m = Move { occupancy: &occupancy, blocking: &blocking, ..MOVE };
+        let updated = update(&mut laid_out(1, 4), m);
+        assert!(updated.status.is_ok());
+        assert_eq!(updated.met, met, "{occupancy:?} {blocking:?}");
+        let mut report = [0; 40];
+        assert!(check(&mut two_trains(), m, 1, &mut report).is_ok());
+        assert_eq!((rows(&report)[0].met, rows(&report)[1].met), (met, 0), "{occupancy:?} {blocking:?}");
+    }
+}
+
+#[test]
+fn a_single_link_stops_the_search_though_it_is_empty_and_nobody_is_met() {
+    let m = Move { occupancy: &[0; 4], ..MOVE };
+    let updated = update(&mut laid_out(1, 4), m);
+    assert_eq!((updated.status, updated.met), (Err(Refusal { number: 12, place: 0 }), 0));
+    let mut report = [0xaa; 40];
+    assert_eq!(check(&mut two_trains(), m, 1, &mut report), Ok(Checked::Erred(1)));
+    assert_eq!(rows(&report)[0].met, 0);
 }
 
 #[test]
@@ -186,7 +216,7 @@ fn a_refused_slot_errs_and_the_others_are_worked() {
     let mut yard = two_trains();
     yard[16 + 42] = 1;
     let before = yard.clone();
-    let mut report = [0; 32];
+    let mut report = [0; 40];
     let m = Move { moved: 1, occupancy: &[0; 4], blocking: &[], ..MOVE };
     assert_eq!(check(&mut yard, m, 1, &mut report), Ok(Checked::Erred(1)));
     assert_eq!(rows(&report)[0].slot, Slot::Refused(Refusal { number: 6, place: 0 }));
@@ -195,7 +225,7 @@ fn a_refused_slot_errs_and_the_others_are_worked() {
 
 #[test]
 fn refused_checks_change_nothing() {
-    for (yard_byte, begin, len, number) in [(4, 1, 32, 14), (0, 4, 32, 15), (0, 1, 31, 16)] {
+    for (yard_byte, begin, len, number) in [(4, 1, 40, 14), (0, 4, 40, 15), (0, 1, 39, 16), (0, 1, 32, 16)] {
         let mut yard = two_trains();
         if yard_byte != 0 {
             yard[yard_byte] = 64;

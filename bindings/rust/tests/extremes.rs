@@ -136,7 +136,7 @@ fn the_largest_train_is_laid_out_and_updated_and_no_larger() {
     assert_eq!(lay_out(&chain(512), o, &mut image), Ok(()));
     assert_eq!(judge(&image, 4_000), Ok(()));
     let m = Move { occupancy: &[u16::MAX; 4_000], blocking: &[3_999; 4_000], moved: u16::MAX, local: true, limit: u16::MAX };
-    assert_eq!(update(&mut image, m), Updated { status: Ok(Status::Success), rounds: 1, strays: 0, steps: 0, holder: 0 });
+    assert_eq!(update(&mut image, m), Updated { status: Ok(Status::Success), rounds: 1, strays: 0, steps: 0, holder: 0, met: 0 });
     let larger = vec![0; image_size(513, 1_024)];
     assert_eq!(leaves(&larger, |image| lay_out(&chain(513), o, image)), refused(6));
     let larger = vec![0; image_size(512, 1_025)];
@@ -164,7 +164,7 @@ fn update_refuses_wrong_moves_and_lengths() {
     let image = laid_out(1, 4);
     for (m, number) in wrong_moves() {
         let answer = leaves(&image, |image| update(image, m));
-        assert_eq!(answer, Updated { status: Err(Refusal { number, place: 0 }), rounds: 0, strays: 0, steps: 0, holder: 0 });
+        assert_eq!(answer, Updated { status: Err(Refusal { number, place: 0 }), rounds: 0, strays: 0, steps: 0, holder: 0, met: 0 });
     }
     for cut in other_lengths(&image) {
         assert_eq!(leaves(&cut, |image| update_into(image, MOVE, &mut [])), refused(6), "{} bytes", cut.len());
@@ -181,9 +181,9 @@ fn update_takes_the_longest_lists_and_the_largest_numbers() {
     occupancy[1] = 2;
     let m = Move { occupancy: &occupancy, blocking: &[1; 4_000], moved: u16::MAX, local: true, limit: u16::MAX };
     let mut image = laid_out(u16::MAX, 4);
-    assert_eq!(update(&mut image, m), Updated { status: Ok(Status::Success), rounds: 2, strays: 0, steps: 3, holder: 0 });
+    assert_eq!(update(&mut image, m), Updated { status: Ok(Status::Success), rounds: 2, strays: 0, steps: 3, holder: 0, met: 2 });
     let m = Move { blocking: &[], ..m };
-    assert_eq!(update(&mut laid_out(1, 4), m), Updated { status: Ok(Status::Faulty(1)), rounds: 1, strays: 2, steps: 0, holder: 0 });
+    assert_eq!(update(&mut laid_out(1, 4), m), Updated { status: Ok(Status::Faulty(1)), rounds: 1, strays: 2, steps: 0, holder: 0, met: 0 });
 }
 
 /// Link 3 follows link 1 and is held; the only way round it leaves before link 1, farther back than a local search goes.
@@ -231,13 +231,13 @@ fn a_pointer_with_length_0_may_be_null() {
 
 #[test]
 fn an_answer_gets_as_many_words_as_it_has_room_for() {
-    for room in 0..=7 {
+    for room in 0..=8 {
         let mut answer = vec![9; room];
         assert_eq!(update_into(&mut laid_out(1, 4), MOVE, &mut answer), Ok(()));
-        assert_eq!(answer, [3, 0, 2, 0, 3, 0, 9][..room]);
-        let (mut report, mut answer) = (vec![0; 32], vec![9; room]);
+        assert_eq!(answer, [3, 0, 2, 0, 3, 0, 2, 9][..room]);
+        let (mut report, mut answer) = (vec![0; 40], vec![9; room]);
         assert_eq!(check_into(&mut two_trains(), MOVE, 1, &mut report, &mut answer), Ok(()));
-        assert_eq!(answer, [0, 0, 1, 9, 9, 9, 9][..room]);
+        assert_eq!(answer, [0, 0, 1, 9, 9, 9, 9, 9][..room]);
     }
 }
 
@@ -277,28 +277,28 @@ fn check_refuses_wrong_moves_slots_and_lengths() {
         told
     };
     for (m, number) in wrong_moves() {
-        assert_eq!(asked(&yard, m, 1, 32), refused(number));
+        assert_eq!(asked(&yard, m, 1, 40), refused(number));
     }
     for cut in other_lengths(&yard) {
-        assert_eq!(asked(&cut, MOVE, 1, 32), refused(14), "{} bytes", cut.len());
+        assert_eq!(asked(&cut, MOVE, 1, 40), refused(14), "{} bytes", cut.len());
     }
     for begin in [0, 4, u16::MAX] {
-        assert_eq!(asked(&yard, MOVE, begin, 32), refused(15), "begin {begin}");
+        assert_eq!(asked(&yard, MOVE, begin, 40), refused(15), "begin {begin}");
     }
     for moved in [3, u16::MAX] {
-        assert_eq!(asked(&yard, Move { moved, ..MOVE }, 1, 32), refused(15), "moved {moved}");
+        assert_eq!(asked(&yard, Move { moved, ..MOVE }, 1, 40), refused(15), "moved {moved}");
     }
-    for rows in [0, 1, 15, 16, 17, 31, 33, 48, 1_008] {
+    for rows in [0, 1, 19, 20, 21, 32, 39, 41, 60, 1_008, 1_260] {
         assert_eq!(asked(&yard, MOVE, 1, rows), refused(16), "{rows} bytes");
     }
 }
 
 #[test]
 fn check_takes_the_shortest_and_the_longest_occupancy() {
-    let mut report = vec![0xaa; 32];
+    let mut report = vec![0xaa; 40];
     let m = Move { occupancy: &[0; 2], ..MOVE };
     assert_eq!(leaves(&two_trains(), |yard| check(yard, m, 1, &mut report)), Ok(Checked::Erred(2)));
-    let row = Row { slot: Slot::Refused(Refusal { number: 7, place: 3 }), rounds: 0, strays: 0 };
+    let row = Row { slot: Slot::Refused(Refusal { number: 7, place: 3 }), rounds: 0, strays: 0, met: 0 };
     assert_eq!(rows(&report), [row, row]);
     let m = Move { occupancy: &[0; 4_000], blocking: &[3_999; 4_000], ..MOVE };
     assert_eq!(check(&mut two_trains(), m, 1, &mut report), Ok(Checked::Done { deadlock: false, next: 1 }));
@@ -309,13 +309,13 @@ fn check_takes_the_shortest_and_the_longest_occupancy() {
 fn check_takes_63_slots_and_no_more() {
     let images: Vec<Vec<u8>> = (1..=64).map(|t| laid_out(t, 4)).collect();
     let images: Vec<&[u8]> = images.iter().map(Vec::as_slice).collect();
-    let mut report = vec![0xaa; 63 * 16];
+    let mut report = vec![0xaa; 63 * layout::REPORT_RECORD];
     let m = Move { moved: 63, limit: u16::MAX, ..MOVE };
     assert_eq!(check(&mut yard(&images[..63]), m, 1, &mut report), Ok(Checked::Done { deadlock: false, next: 1 }));
-    assert!(rows(&report)[..62].iter().all(|r| *r == Row { slot: Slot::Success, rounds: 2, strays: 0 }));
+    assert!(rows(&report)[..62].iter().all(|r| *r == Row { slot: Slot::Success, rounds: 2, strays: 0, met: 2 }));
     assert_eq!(check(&mut yard(&images[..63]), m, 64, &mut report), Ok(Checked::Done { deadlock: false, next: 64 }));
     assert!(rows(&report).iter().all(|r| r.slot == Slot::Unvisited));
-    let answer = leaves(&yard(&images), |yard| check(yard, m, 1, &mut vec![0; 64 * 16]));
+    let answer = leaves(&yard(&images), |yard| check(yard, m, 1, &mut vec![0; 64 * layout::REPORT_RECORD]));
     assert_eq!(answer, Err(Refusal { number: 14, place: 0 }));
 }
 

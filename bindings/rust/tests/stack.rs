@@ -136,7 +136,7 @@ fn stacks(image: fn(u16) -> Vec<u8>, m: Move) -> [usize; 11] {
     let (all, yard_ceilings) = stack_of(|| yard_ceiling(&yard, m.limit));
 
     assert_eq!((number, marked, judged, laid), (VERSION, Ok(()), Ok(()), Ok(())));
-    assert_eq!(updated, Updated { status: Ok(Status::Success), rounds: 2, strays: 0, steps: 3, holder: 0 });
+    assert_eq!(updated, Updated { status: Ok(Status::Success), rounds: 2, strays: 0, steps: 3, holder: 0, met: 2 });
     assert_eq!(checked, Ok(Checked::Done { deadlock: false, next: 1 }));
     assert!(text[..printed].starts_with(b"yard 2 deadlock no next 1\n1 success 2"));
     assert_eq!((paged, profiled), (Ok(()), Ok(())));

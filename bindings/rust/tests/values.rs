@@ -219,5 +219,5 @@ fn a_bundle_is_the_check_of_its_parts() {
     let m = Move { occupancy: &[0; 3], blocking: &[], moved: 2, local: false, limit: 1 };
     let example = bundle(&yard(&[&image(1), &image(2)]), m, 1);
     assert_eq!(example, include_bytes!("../../../examples/two-slots.bundle"));
-    assert_eq!(sheet(&bundle(&two_trains(), MOVE, 1)), "yard 2 deadlock no next 1\n1 success 2 0 0 0 0\n2 moved 0 0 0 0 0\n");
+    assert_eq!(sheet(&bundle(&two_trains(), MOVE, 1)), "yard 2 deadlock no next 1\n1 success 2 0 0 0 0 2\n2 moved 0 0 0 0 0 0\n");
 }

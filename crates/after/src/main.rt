@@ -13,10 +13,10 @@ fn input_room() -> [u8; 65537]
     [0u8; 65537]
 }
 
-fn report_room() -> [u8; 1008]
-    ensures { λ r. ⌜ 1008 ≡ length r ⌝ }
+fn report_room() -> [u8; 1260]
+    ensures { λ r. ⌜ 1260 ≡ length r ⌝ }
 {
-    [0u8; 1008]
+    [0u8; 1260]
 }
 
 // Was all of it written?

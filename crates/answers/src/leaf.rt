@@ -192,7 +192,7 @@ fn answer_intersection(head: &[u8], body: &[u8]) -> bool {
     let sentinel = case::argument(head, 1) as usize;
     let n = links.len() / 4;
     let r = link_opt_type::find_train_intersect(split, sentinel, class_in(head), &path, n, &occ);
-    print_line(r.code, r.idx, 0)
+    print_line(r.code, r.idx, r.met.0 as usize)
 }
 
 // ---- union

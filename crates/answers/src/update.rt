@@ -45,10 +45,18 @@ fn answer_by(
 ) -> bool {
     case::u32s(blocking, case::third_input(head, body));
     case::copy(image, case::first_input(head, body));
+    let x = updated(head, image, occ, blocking);
+    print_updated(head, body, x, image, sums)
+}
+
+fn updated(head: &[u8], image: &mut [u8], occ: &[u16], blocking: &[u32]) -> Updated {
     let moved = NarrowTrainIdx((case::argument(head, 0) % 65536) as u16);
     let local = 0 < case::argument(head, 1);
     let limit = (case::argument(head, 2) % 65536) as u16;
-    let x = update_free_path::update_free_path(image, occ, blocking, moved, local, limit);
+    update_free_path::update_free_path(image, occ, blocking, moved, local, limit)
+}
+
+fn print_updated(head: &[u8], body: &[u8], x: Updated, image: &[u8], sums: bool) -> bool {
     if !print_status(x) {
         return false;
     }
@@ -72,11 +80,19 @@ fn print_status(x: Updated) -> bool {
 fn print_steps(x: Updated) -> bool {
     let status = x.status;
     match status {
-        Status::Success => print::number_line(b" steps ", x.tally.steps),
-        Status::Blocked(holder) => print::number_line(b" steps ", x.tally.steps),
-        Status::Faulty(n) => print::number_line(b" steps ", x.tally.steps),
+        Status::Success => print_met(x),
+        Status::Blocked(holder) => print_met(x),
+        Status::Faulty(n) => print_met(x),
         Status::Refused(r) => print::end(),
     }
+}
+
+// The steps, and the train met.
+fn print_met(x: Updated) -> bool {
+    if print::number(b" steps ", x.tally.steps) {
+        return print::number_line(b" met ", x.met.0 as u64);
+    }
+    false
 }
 
 // What is counted, the image that is left, and what 6 to 9 say of the image that was there.
@@ -88,6 +104,9 @@ fn print_left(head: &[u8], body: &[u8], x: Updated, image: &[u8]) -> bool {
         return false;
     }
     if !print::number(b" steps ", x.tally.steps) {
+        return false;
+    }
+    if !print::number(b" met ", x.met.0 as u64) {
         return false;
     }
     if !print::number(b" image ", print::sum_of(image)) {

@@ -21,16 +21,16 @@ pub struct Numbers {
     pub limit: u16,
 }
 
-// How many bytes the report of a bundle's yard takes, at most 1,008; none where 14 refuses the yard.
+// How many bytes the report of a bundle's yard takes, at most 1,260; none where 14 refuses the yard.
 pub fn report_length(bundle: &[u8]) -> usize
     ensures { λ r. ⌜ r ≡ reportLength (now (bundle .entry)) ⌝ }
-    ensures { λ r. ⌜ r ≤ 1008 ⌝ }
+    ensures { λ r. ⌜ r ≤ 1260 ⌝ }
 {
     let at = octets::u32_at(bundle, 20) as usize;
     if bundle.len() < at {
         return 0;
     }
-    16 * (bundle::report_slots(&bundle[at..]) as usize)
+    20 * (bundle::report_slots(&bundle[at..]) as usize)
 }
 
 fn numbers_of(bundle: &[u8]) -> Numbers

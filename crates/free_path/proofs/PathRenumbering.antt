@@ -4,20 +4,20 @@ use mathlib.Core.Bool.{Bool, true, false, cond, not, _&&_}
 use mathlib.Core.List.{List, [], _∷_, map}
 use Prim.Native.Nat.{ℕ, _+_, _-_, _≤_}
 use lib.Dec.{ltb, leb, eqb}
-use lib.ListN.{length, drop, length-map}
-use Rattle.link_rules.specs.LinkIdx.{noLink, sameLink, sameTrain, occupied}
+use lib.ListN.{length, getD, drop, length-map, List·getD-map}
+use Rattle.link_rules.specs.LinkIdx.{noLink, noTrain, sameLink, sameTrain, entryAt, occupied}
 use Rattle.link_rules.specs.Renumbering.{Renumbering, rLink, rTrain}
 use Rattle.link_rules.specs.Matching.{OccupanciesMatch}
 use Rattle.link_rules.specs.declared.link_idx.LinkIdx.{LinkIdx}
 use Rattle.link_rules.specs.declared.link_idx.TrainIdx.{TrainIdx}
-use Rattle.link_rules.proofs.RenumberingLaws.{sameLink-r, sameTrain-r, occupied-r}
+use Rattle.link_rules.proofs.RenumberingLaws.{sameLink-r, sameTrain-r, entry-r, occupied-r}
 use Rattle.disp_structs.specs.Values.{isArrive, arriving}
 use Rattle.disp_structs.specs.Renumbered.{rEst, rNode, rDiv}
 use Rattle.disp_structs.specs.declared.EstTime.{EstTime}
 use Rattle.disp_structs.specs.declared.DispNode.{DispNode}
 use Rattle.disp_structs.specs.declared.DivergeNode.{DivergeNode}
-use Rattle.free_path.specs.Base.{ok, at, last, part, passes, walkFrom, count}
-use Rattle.free_path.specs.LinkOptType.{linksOnPath, contains, linkIdxPath, classMore, classWalk, classEnd, linkOptType, afterSentinel, calcIdxSentinels, stops, isNone, intersect, findTrainIntersect, plainly}
+use Rattle.free_path.specs.Base.{Res, ok, no, at, last, part, passes, walkFrom, count}
+use Rattle.free_path.specs.LinkOptType.{linksOnPath, contains, linkIdxPath, classMore, classWalk, classEnd, linkOptType, afterSentinel, calcIdxSentinels, stops, isNone, intersect, findTrainIntersect, trainMet, plainly}
 use Rattle.free_path.specs.Validate.{known, isStray, strays, badStep, badSteps, badPath, inConflict, stepsNext, stepsAlt, validateFreePath}
 use Rattle.free_path.specs.AnyOrder.{Perm}
 use Rattle.free_path.specs.Renumbered.{rClass}
@@ -139,6 +139,17 @@ module _ (p q : ℕ → ℕ) (top : ℕ) (rq : Renumbering top q) (occ occ′ : 
   pub findTrainIntersect-r : (split sentinel : ℕ) (c : LinkOptType) (ls : List LinkIdx) → findTrainIntersect split sentinel (rClass p (plainly c)) (map (rLink p) ls) occ′ ≡ findTrainIntersect split sentinel (plainly c) ls occ
   unfolding findTrainIntersect
   findTrainIntersect-r split sentinel c ls = rw (length-map ls (rLink p), none-r c, intersect-r split sentinel c ls)
+
+  -- at the same index the renumbered train is met
+  pub trainMet-r : (sentinel : ℕ) (ls : List LinkIdx) (x : Res ℕ) → trainMet sentinel (map (rLink p) ls) occ′ x ≡ rTrain q (trainMet sentinel ls occ x)
+  trainMet-r sentinel ls (no n) = ap (λ (k : ℕ). record { 0 = k }) (sym (rq .zero-stays))
+  trainMet-r sentinel ls (ok i) = cond-map (rTrain q) (ltb i sentinel) _ (entryAt occ (getD ls i noLink)) noTrain _ _ refl there (ap (λ (k : ℕ). record { 0 = k }) (sym (rq .zero-stays)))
+    where
+      there : entryAt occ′ (getD (map (rLink p) ls) i noLink) ≡ rTrain q (entryAt occ (getD ls i noLink))
+      there =
+          ap (λ (l : LinkIdx). entryAt occ′ (getD (map (rLink p) ls) i l)) (sym (noLink-r (length occ - 1) p rp))
+          ∙ ap (entryAt occ′) (List·getD-map (rLink p) ls i noLink)
+          ∙ entry-r p q top rq occ occ′ rp m (getD ls i noLink)
 
   -- ---- strays and conflicts
 

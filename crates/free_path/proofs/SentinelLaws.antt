@@ -7,17 +7,18 @@ use native.Mathlib.Omega.{arith}
 use lib.Dec.{eqb}
 use lib.ListN.{length, getD}
 use borrow.Author.Tests.{lt-ltb, le-ltb, le-leb, lt-leb, eq-eqb, ne-eqb}
+use Rattle.link_rules.specs.LinkIdx.{noLink, noTrain, entryAt}
 use Rattle.link_rules.specs.declared.link_idx.LinkIdx.{LinkIdx}
 use Rattle.link_rules.specs.declared.link_idx.TrainIdx.{TrainIdx}
 use Rattle.disp_structs.specs.declared.DivergeNode.{DivergeNode}
 use Rattle.free_path.specs.Base.{ok, no, _>>=_, at, last, walkFrom}
-use Rattle.free_path.specs.LinkOptType.{afterSentinel, calcIdxSentinels, isNone, intersect, findTrainIntersect}
+use Rattle.free_path.specs.LinkOptType.{afterSentinel, calcIdxSentinels, isNone, intersect, findTrainIntersect, trainMet}
 use Rattle.free_path.specs.declared.link_opt_type.LinkOptType.{LinkOptType}
 use Rattle.free_path.specs.Columns.{entries, linkAt, divAt, ended}
 use Rattle.disp_structs.specs.Listed.{listed}
 use Rattle.free_path.proofs.MapLaws.{walkFrom-map}
 use Rattle.free_path.proofs.ColumnLaws.{listed-read, listed-last}
-use Rattle.disp_structs.proofs.ListedLaws.{listed-length, listed-map}
+use Rattle.disp_structs.proofs.ListedLaws.{listed-length, listed-at, listed-map}
 
 module _ (i n : ℕ) (moved : TrainIdx) (ts ns : List ℕ) where
   abbrev divs : List DivergeNode
@@ -73,6 +74,14 @@ module _ (i n : ℕ) (moved : TrainIdx) (ts ns : List ℕ) where
 
             pub sentinel-on : k < n → ok (record { node = x; divs = k }) ≡ calcIdxSentinels i moved divs
             sentinel-on u = rw (after, lt-ltb k n u)
+
+-- the train met at an index
+module _ (i sentinel : ℕ) (col : List ℕ) (n : ℕ) (occ : List ℕ) where
+  pub met-none : sentinel ≤ i → noTrain ≡ trainMet sentinel (listed n (linkAt col)) occ (ok i)
+  met-none h = rw (le-ltb i sentinel h)
+
+  pub met-there : sentinel ≤ n → i < sentinel → entryAt occ (linkAt col i) ≡ trainMet sentinel (listed n (linkAt col)) occ (ok i)
+  met-there m h = rw (lt-ltb i sentinel h, listed-at n (linkAt col) i noLink (omega arith))
 
 module _ (split sentinel : ℕ) (class : LinkOptType) (col : List ℕ) (n : ℕ) (occ : List ℕ) where
   abbrev path : List LinkIdx

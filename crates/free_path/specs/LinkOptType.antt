@@ -3,14 +3,14 @@ use Prim.Native.Nat.{ℕ, _+_, _-_, _^_, _%_}
 use mathlib.Core.Bool.{Bool, true, false, cond, not, _&&_}
 use mathlib.Core.List.{List, [], _∷_, map}
 use lib.Dec.{ltb, leb, eqb}
-use lib.ListN.{length}
-use Rattle.link_rules.specs.LinkIdx.{sameLink, sameTrain, occupied}
+use lib.ListN.{length, getD}
+use Rattle.link_rules.specs.LinkIdx.{noLink, noTrain, sameLink, sameTrain, entryAt, occupied}
 use Rattle.link_rules.specs.declared.link_idx.LinkIdx.{LinkIdx}
 use Rattle.link_rules.specs.declared.link_idx.TrainIdx.{TrainIdx}
 use Rattle.disp_structs.specs.Values.{isArrive, arriving}
 use Rattle.disp_structs.specs.declared.DispNode.{DispNode}
 use Rattle.disp_structs.specs.declared.DivergeNode.{DivergeNode}
-use Rattle.free_path.specs.Base.{Res, ok, _>>=_, _>>_, need, at, last, part, walkFrom, passes, any}
+use Rattle.free_path.specs.Base.{Res, ok, no, _>>=_, _>>_, need, at, last, part, walkFrom, passes, any}
 use Rattle.free_path.specs.declared.link_opt_type.LinkOptType.{LinkOptType}
 use Rattle.free_path.specs.declared.link_opt_type.LinkOptType.the-variants.{None, Single, Range, Check}
 
@@ -125,3 +125,8 @@ unfoldable pub findTrainIntersect : ℕ → ℕ → LinkOptType → List LinkIdx
 findTrainIntersect split sentinel class links occ =
     let r = (need (leb sentinel (length links)) >> (need (not (isNone class)) >> ok (intersect split sentinel class links occ))) in
     cond (leb sentinel split) (ok split) r
+
+-- the train met (document 02, Q-14) at the index that it found: the one on the link there, 0 where that is empty; 0 from the sentinel on, the straighten point
+abbrev pub trainMet : ℕ → List LinkIdx → List ℕ → Res ℕ → TrainIdx
+trainMet sentinel links occ (ok i) = cond (ltb i sentinel) (entryAt occ (getD links i noLink)) noTrain
+trainMet sentinel links occ (no n) = noTrain

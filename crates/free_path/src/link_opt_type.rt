@@ -3,11 +3,12 @@ ghost use mathlib.Core.Path.{_≡_};
 ghost use Prim.Native.Nat.{_-_, _≤_};
 ghost use mathlib.Core.Bool.{cond, not};
 ghost use lib.Dec.{leb, eqb};
-ghost use Rattle.free_path.specs.Base.{walkFrom};
-ghost use Rattle.free_path.specs.LinkOptType.{least, most, classMore, classEnd, linkOptType, calcIdxSentinels, wrapping, inRange, stops, isNone, intersect, findTrainIntersect};
+ghost use Rattle.free_path.specs.Base.{walkFrom, ok};
+ghost use Rattle.free_path.specs.LinkOptType.{least, most, classMore, classEnd, linkOptType, calcIdxSentinels, wrapping, inRange, stops, isNone, intersect, findTrainIntersect, trainMet};
 ghost use Rattle.free_path.specs.declared.link_opt_type.LinkOptType.the-variants.{Range, Check};
 ghost use Rattle.free_path.specs.Columns.{answer, links, entries, linkAt, divAt, flagged, ended};
 ghost use Rattle.disp_structs.specs.Listed.{listed};
+ghost use Rattle.link_rules.specs.LinkIdx.{noTrain};
 use crate::columns;
 use link_rules::link_idx::LinkIdx;
 use link_rules::link_idx::TrainIdx;
@@ -246,10 +247,33 @@ fn intersect_from(
     i
 }
 
-// A refusal's number, or 0; and the index.
+// A refusal's number, or 0; the index, and the train met there.
 pub struct Intersection {
     pub code: u32,
     pub idx: usize,
+    pub met: TrainIdx,
+}
+
+// The train on the link at an index that was found, 0 from the sentinel on.
+fn train_met(idx: usize, sentinel: usize, col: &[u32], n: usize, occ: &[u32]) -> TrainIdx
+    requires { ⌜ sentinel ≤ n ⌝ }
+    ensures { λ r. ⌜ r ≡ trainMet sentinel (listed n (linkAt (now (col .entry)))) (now (occ .entry)) (ok idx) ⌝ }
+{
+    if sentinel <= idx {
+        return TrainIdx(0);
+    }
+    let l = columns::link_of(col, idx);
+    TrainIdx(columns::u32_of(occ, l.0 as usize))
+}
+
+fn none_found() -> Intersection
+    ensures { λ r. ⌜ r ≡ record { code = 13; idx = 0; met = noTrain } ⌝ }
+{
+    Intersection {
+        code: 13,
+        idx: 0,
+        met: TrainIdx(0),
+    }
 }
 
 // link_idx_path, without its ending sentinel, as n links of a column.
@@ -261,22 +285,26 @@ pub fn find_train_intersect(
     n: usize,
     occ: &[u32],
 ) -> Intersection
-    ensures { λ r. ⌜ answer (r .code) (r .idx) ≡ findTrainIntersect split sentinel class (listed n (linkAt (now (col .entry)))) (now (occ .entry)) ⌝ }
+    ensures { λ r. ⌜ (answer (r .code) (r .idx) ≡ findTrainIntersect split sentinel class (listed n (linkAt (now (col .entry)))) (now (occ .entry)))
+        × (r .met ≡ trainMet sentinel (listed n (linkAt (now (col .entry)))) (now (occ .entry)) (findTrainIntersect split sentinel class (listed n (linkAt (now (col .entry)))) (now (occ .entry)))) ⌝ }
 {
     if sentinel <= split {
         return Intersection {
             code: 0,
             idx: split,
+            met: TrainIdx(0),
         };
     }
     if n < sentinel {
-        return Intersection { code: 13, idx: 0 };
+        return none_found();
     }
     if is_none(class) {
-        return Intersection { code: 13, idx: 0 };
+        return none_found();
     }
+    let i = intersect_from(split, sentinel, class, col, n, occ);
     Intersection {
         code: 0,
-        idx: intersect_from(split, sentinel, class, col, n, occ),
+        idx: i,
+        met: train_met(i, sentinel, col, n, occ),
     }
 }

@@ -61,9 +61,10 @@ errorsOf (Blocked holder) = 0
 errorsOf (Faulty n) = n
 errorsOf (RefusedBy r) = 0
 
--- code, errors, rounds, strays, search steps and holder in the first six words; a word past the end stays out
+-- code, errors, rounds, strays, search steps, holder and train met in the first seven words; a word past the end stays out
 abbrev pub updateWords : UpdatedImage → List ℕ → List ℕ
-updateWords u ws = set (set (set (set (set (set ws 0 (codeOf (u .answer .status))) 1 (errorsOf (u .answer .status))) 2 (u .answer .tally .rounds)) 3 (u .answer .tally .strays)) 4 (u .answer .tally .steps)) 5 (holderIn (u .answer .status))
+updateWords u ws =
+    set (set (set (set (set (set (set ws 0 (codeOf (u .answer .status))) 1 (errorsOf (u .answer .status))) 2 (u .answer .tally .rounds)) 3 (u .answer .tally .strays)) 4 (u .answer .tally .steps)) 5 (holderIn (u .answer .status))) 6 (u .answer .met .0)
 
 -- the update u as C sees it: the number that is returned, the image and the words that are left
 pub record Told (u : UpdatedImage) (r : ℕ) (image ws₀ ws : List ℕ) : Type 0 where

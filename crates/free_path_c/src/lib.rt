@@ -130,9 +130,9 @@ pub extern "C" fn lavtoeu_lay_out(
     answer_word(train_disp::lay_out(est, settings, image))
 }
 
-// Updates the train of an image. Answers 0, or the refusal's number with its place in the upper 16 bits, and puts into the first six words of `answer`
+// Updates the train of an image. Answers 0, or the refusal's number with its place in the upper 16 bits, and puts into the first seven words of `answer`
 // document 01's code (3 success, 4 blocked, 5 faulty, 16 + n refused by n), the number of errors, the rounds, the strays, the search steps,
-// and the train that holds a blocked one, else 0. Any local but 0 is yes.
+// the train that holds a blocked one, else 0, and the train met in the first round, else 0. Any local but 0 is yes.
 #[no_mangle]
 pub extern "C" fn lavtoeu_update(
     image: &mut [u8],
@@ -160,6 +160,7 @@ pub extern "C" fn lavtoeu_update(
     put_word(answer, 3, x.tally.strays);
     put_word(answer, 4, x.tally.steps);
     put_word(answer, 5, holder_in(s));
+    put_word(answer, 6, x.met.0 as u64);
     status_word(s)
 }
 

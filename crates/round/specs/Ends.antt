@@ -6,6 +6,7 @@ use mathlib.Core.List.{List}
 use lib.Ieee.{Float, lt}
 use lib.ListN.{length, replicate}
 use Rattle.link_rules.specs.declared.link_idx.LinkIdx.{LinkIdx}
+use Rattle.link_rules.specs.declared.link_idx.TrainIdx.{TrainIdx}
 use Rattle.disp_structs.specs.Train.{Train}
 use Rattle.image.specs.Image.{divergeRoom, nodeAt, distDispPathSearch}
 use Rattle.image.specs.declared.codec.PathHeader.{PathHeader}
@@ -95,3 +96,10 @@ EndsAs f occ img dt dn g h x img₁ dt₁ dn₁ = (blocking start : List LinkIdx
 -- and its steps are f of the same
 abbrev pub StepsAs : (f : Update.Given → Train → ℕ) (occ img dt dn : List ℕ) (g : Given) (h : PathHeader) (x : RoundEnd) → Type 0
 StepsAs f occ img dt dn g h x = (blocking start : List LinkIdx) → x .steps ≡ f (givenOf g occ blocking start) (trainOf img dt dn h)
+
+-- and the train that it met
+abbrev pub MetAs : (f : Update.Given → Train → TrainIdx) (occ img dt dn : List ℕ) (g : Given) (h : PathHeader) (x : RoundEnd) → Type 0
+MetAs f occ img dt dn g h x = (blocking start : List LinkIdx) → x .met ≡ f (givenOf g occ blocking start) (trainOf img dt dn h)
+
+abbrev pub withMet : RoundEnd → TrainIdx → RoundEnd
+withMet x met = record { end = x .end; header = x .header; split = x .split; «div_split» = x .«div_split»; steps = x .steps; met = met }

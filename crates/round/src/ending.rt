@@ -2,6 +2,7 @@
 ghost use mathlib.Core.Path.{_≡_};
 ghost use mathlib.Core.Bool.{false};
 ghost use Prim.Native.Nat.{_^_, _<_};
+ghost use Rattle.link_rules.specs.LinkIdx.{noTrain};
 ghost use Rattle.search.specs.Effects.{onward};
 ghost use Rattle.search.specs.Read.{arrays};
 ghost use Rattle.splice.specs.Read.{JoinFits, ChangeFits};
@@ -24,7 +25,7 @@ use splice::join;
 use update_definition::Move;
 
 fn ended(end: End, h: PathHeader, steps: u64) -> RoundEnd
-    ensures { λ x. ⌜ x ≡ record { end = end; header = h; split = 0; «div_split» = 0; steps = steps } ⌝ }
+    ensures { λ x. ⌜ x ≡ record { end = end; header = h; split = 0; «div_split» = 0; steps = steps; met = noTrain } ⌝ }
 {
     RoundEnd {
         end: end,
@@ -32,12 +33,13 @@ fn ended(end: End, h: PathHeader, steps: u64) -> RoundEnd
         split: 0,
         div_split: 0,
         steps: steps,
+        met: TrainIdx(0),
     }
 }
 
 // By a train; disp_node_idx_free = disp_node_idx_fixed.
 fn blocked(holder: TrainIdx, h: PathHeader, steps: u64) -> RoundEnd
-    ensures { λ x. ⌜ x ≡ record { end = End.Blocked holder; header = withFree h; split = 0; «div_split» = 0; steps = steps } ⌝ }
+    ensures { λ x. ⌜ x ≡ record { end = End.Blocked holder; header = withFree h; split = 0; «div_split» = 0; steps = steps; met = noTrain } ⌝ }
 {
     let mut q = h;
     q.free = h.fixed;
@@ -103,6 +105,7 @@ fn by_splice(a: Again, steps: u64) -> RoundEnd
         split: a.split as usize,
         div_split: a.div_split,
         steps: steps,
+        met: TrainIdx(0),
     }
 }
 

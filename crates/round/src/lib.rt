@@ -25,11 +25,13 @@ pub enum End {
     Again,
 }
 
-// How a round ends; the header's numbers that are left, the next idx_split and div_idx_split, and how often the loop of its search was entered.
+// How a round ends; the header's numbers that are left, the next idx_split and div_idx_split, how often the loop of its search was entered,
+// and the train that it met, which is known before the search.
 pub struct RoundEnd {
     pub end: End,
     pub header: PathHeader,
     pub split: usize,
     pub div_split: usize,
     pub steps: u64,
+    pub met: TrainIdx,
 }

@@ -7,11 +7,12 @@ ghost use Rattle.disp_structs.specs.Listed.{listed};
 ghost use Rattle.image.specs.Image.{divergeRoom};
 ghost use Rattle.free_path.specs.Columns.{linkAt};
 ghost use Rattle.free_path.specs.LinkOptType.{linkIdxPath};
-ghost use Rattle.update_definition.specs.Update.{roundOf, roundSteps};
+ghost use Rattle.link_rules.specs.LinkIdx.{noTrain};
+ghost use Rattle.update_definition.specs.Update.{roundOf, roundSteps, roundMet};
 ghost use Rattle.search.specs.Read.{pathOf};
 ghost use Rattle.splice.specs.Read.{trainOf, Kept};
 ghost use Rattle.round.specs.Rounds.{Held, roundFrom, stepsBy, startAt, endRefused, isAtEnd};
-ghost use Rattle.round.specs.Ends.{RoundAt, EndsAs, StepsAs};
+ghost use Rattle.round.specs.Ends.{RoundAt, EndsAs, StepsAs, MetAs, withMet};
 use crate::End;
 use crate::Given;
 use crate::RoundEnd;
@@ -20,6 +21,7 @@ use free_path::link_opt_type;
 use free_path::link_opt_type::IdxSentinels;
 use image::codec;
 use image::codec::PathHeader;
+use link_rules::link_idx::TrainIdx;
 use round_start::diverge;
 use round_start::limit;
 use round_start::path;
@@ -28,7 +30,7 @@ use search::Place;
 use search::Round;
 
 fn refused(code: u32, h: PathHeader) -> RoundEnd
-    ensures { λ x. ⌜ x ≡ record { end = End.Refused code; header = h; split = 0; «div_split» = 0; steps = 0 } ⌝ }
+    ensures { λ x. ⌜ x ≡ record { end = End.Refused code; header = h; split = 0; «div_split» = 0; steps = 0; met = noTrain } ⌝ }
 {
     RoundEnd {
         end: End::Refused(code),
@@ -36,11 +38,12 @@ fn refused(code: u32, h: PathHeader) -> RoundEnd
         split: 0,
         div_split: 0,
         steps: 0,
+        met: TrainIdx(0),
     }
 }
 
-fn at_end(h: PathHeader) -> RoundEnd
-    ensures { λ x. ⌜ x ≡ record { end = End.AtEnd; header = h; split = 0; «div_split» = 0; steps = 0 } ⌝ }
+fn at_end(h: PathHeader, met: TrainIdx) -> RoundEnd
+    ensures { λ x. ⌜ x ≡ record { end = End.AtEnd; header = h; split = 0; «div_split» = 0; steps = 0; met = met } ⌝ }
 {
     RoundEnd {
         end: End::AtEnd,
@@ -48,7 +51,17 @@ fn at_end(h: PathHeader) -> RoundEnd
         split: 0,
         div_split: 0,
         steps: 0,
+        met: met,
     }
+}
+
+// A round that has met a train before its search.
+fn with_met(x: RoundEnd, met: TrainIdx) -> RoundEnd
+    ensures { λ r. ⌜ r ≡ withMet x met ⌝ }
+{
+    let mut r = x;
+    r.met = met;
+    r
 }
 
 // What the search from the split point does not change.
@@ -143,7 +156,8 @@ pub fn round(
         (now (img .exit)) (now (dt .exit)) (now (dn .exit))
         × (endRefused (x .end) ≡ false → Kept (now (img .exit)) (now (img .entry)))
         × (isAtEnd (x .end) ≡ true → trainOf (now (img .exit)) (now (dt .exit)) (now (dn .exit)) (x .header) ≡ trainOf (now (img .entry)) (now (dt .entry)) (now (dn .entry)) h)
-        × StepsAs (λ G t. roundSteps G t split «div_split») (now (occ .entry)) (now (img .entry)) (now (dt .entry)) (now (dn .entry)) g h x ⌝ }
+        × StepsAs (λ G t. roundSteps G t split «div_split») (now (occ .entry)) (now (img .entry)) (now (dt .entry)) (now (dn .entry)) g h x
+        × MetAs (λ G t. roundMet G t split «div_split») (now (occ .entry)) (now (img .entry)) (now (dt .entry)) (now (dn .entry)) g h x ⌝ }
 {
     let n = h.path_count;
     let m = h.diverge_count as usize;
@@ -157,7 +171,8 @@ pub fn round(
         return refused(i.code, h);
     }
     if n as usize <= i.index {
-        return at_end(h);
+        return at_end(h, i.met);
     }
-    search_at(img, occ, on, g, h, i.index, div_split, z, dt, dn)
+    let x = search_at(img, occ, on, g, h, i.index, div_split, z, dt, dn);
+    with_met(x, i.met)
 }

@@ -2,14 +2,32 @@
 use crate::path;
 use free_path::link_opt_type;
 use free_path::link_opt_type::LinkOptType;
-use search::Index;
+use link_rules::link_idx::TrainIdx;
 ghost use mathlib.Core.Path.{_≡_};
 ghost use Rattle.disp_structs.specs.Listed.{listed};
-ghost use Rattle.free_path.specs.Columns.{answer, linkAt};
+ghost use Rattle.free_path.specs.Columns.{linkAt};
+ghost use Rattle.link_rules.specs.LinkIdx.{noTrain};
 ghost use Rattle.update_definition.specs.Update as Update;
 ghost use Rattle.update_definition.specs.Update.{searchBegin};
 ghost use Rattle.search.specs.Read.{pathOf};
-ghost use Rattle.round_start.specs.Start.{splitAt};
+ghost use Rattle.round_start.specs.Start.{splitAt, Splits};
+
+// A refusal's number, or 0; idx_split, and the train met there.
+pub struct Split {
+    pub code: u32,
+    pub index: usize,
+    pub met: TrainIdx,
+}
+
+fn no_split() -> Split
+    ensures { λ r. ⌜ r ≡ record { code = 13; index = 0; met = noTrain } ⌝ }
+{
+    Split {
+        code: 13,
+        index: 0,
+        met: TrainIdx(0),
+    }
+}
 
 // Where the intersection search begins.
 fn search_begin(split: usize, free: usize, sentinel: usize) -> usize
@@ -33,20 +51,22 @@ fn meeting(
     free: usize,
     split: usize,
     sentinel: usize,
-) -> Index
-    ensures { λ x. ⌜ answer (x .code) (x .index) ≡ Update.meeting class (now (occ .entry)) (listed n (linkAt (now (col .entry)))) free split sentinel ⌝ }
+) -> Split
+    ensures { λ x. ⌜ Splits x sentinel (listed n (linkAt (now (col .entry)))) (now (occ .entry)) (Update.meeting class (now (occ .entry)) (listed n (linkAt (now (col .entry)))) free split sentinel) ⌝ }
 {
     if sentinel < split {
-        return Index { code: 13, index: 0 };
+        return no_split();
     }
     let begin = search_begin(split, free, sentinel);
     if n <= begin {
-        return Index { code: 13, index: 0 };
+        return no_split();
     }
     let x = link_opt_type::find_train_intersect(begin, sentinel, class, col, n, occ);
-    Index {
+    let t = x.met;
+    Split {
         code: x.code,
         index: x.idx,
+        met: t,
     }
 }
 
@@ -60,13 +80,15 @@ pub fn split_point(
     free: usize,
     split: usize,
     sentinel: usize,
-) -> Index
-    ensures { λ x. ⌜ answer (x .code) (x .index) ≡ splitAt class (pathOf (now (img .entry)) n) (listed n (linkAt (now (col .entry)))) (now (occ .entry)) free split sentinel ⌝ }
+) -> Split
+    ensures { λ x. ⌜ Splits x sentinel (listed n (linkAt (now (col .entry)))) (now (occ .entry))
+        (splitAt class (pathOf (now (img .entry)) n) (listed n (linkAt (now (col .entry)))) (now (occ .entry)) free split sentinel) ⌝ }
 {
     if path::is_apart(class, img, n) {
-        return Index {
+        return Split {
             code: 0,
             index: sentinel,
+            met: TrainIdx(0),
         };
     }
     meeting(class, col, n as usize, occ, free, split, sentinel)

@@ -11,7 +11,7 @@ use Rattle.link_rules.specs.declared.link_idx.LinkIdx.{LinkIdx}
 use Rattle.disp_structs.specs.Renumbered.{rTrainDisp}
 use Rattle.free_path.specs.LinkOptType.{contains}
 use Rattle.free_path.specs.AnyOrder.{Perm}
-use Rattle.update_definition.specs.Update.{Status, Success, Blocked, Faulty, Refused, Answer, Updated, answerOf}
+use Rattle.update_definition.specs.Update.{Status, Success, Blocked, Faulty, Refused, Answer, Updated}
 
 -- the occupancy and the blocking list of an update, and those of it over the second numbering; top is the largest train
 pub record TwoNumberings (top : ℕ) (p q : ℕ → ℕ) (occ occ′ : List ℕ) (blocking blocking′ : List LinkIdx) : Type 0 where
@@ -35,9 +35,9 @@ rStatus q (Blocked holder) = Blocked (rTrain q holder)
 rStatus q (Faulty n) = Faulty n
 rStatus q (Refused r) = Refused r
 
--- and the same counts
+-- the same counts, and the renumbered train met
 abbrev pub rAnswer : (ℕ → ℕ) → Answer → Answer
-rAnswer q a = answerOf (rStatus q (a .status)) (a .tally)
+rAnswer q a = record { status = rStatus q (a .status); tally = a .tally; met = rTrain q (a .met) }
 
 -- the renumbered answer, and the renumbered train
 abbrev pub rUpdated : (ℕ → ℕ) → (ℕ → ℕ) → Updated → Updated

@@ -17,7 +17,7 @@ use Rattle.disp_structs.specs.declared.DivergeNode.{DivergeNode}
 use Rattle.tally.specs.Tally.{started, counted, faulted, stepped}
 use Rattle.tally.specs.declared.Tally.{Tally}
 use Rattle.free_path.specs.Base.{Res, ok, no, _>>=_, _>>_, need, at, before, walkFrom}
-use Rattle.free_path.specs.LinkOptType.{linksOnPath, contains, linkIdxPath, least, linkOptType, Sentinels, calcIdxSentinels, findTrainIntersect}
+use Rattle.free_path.specs.LinkOptType.{linksOnPath, contains, linkIdxPath, least, linkOptType, Sentinels, calcIdxSentinels, findTrainIntersect, trainMet}
 use Rattle.free_path.specs.SearchLimit.{offsetCancel}
 use Rattle.free_path.specs.Validate.{known, strays, validateFreePath}
 use Rattle.free_path.specs.declared.link_opt_type.LinkOptType.{LinkOptType}
@@ -104,6 +104,15 @@ unfoldable pub splitPoint : Given → Train → ℕ → ℕ → Res ℕ
 splitPoint g t split sentinel =
     let met = meeting (g .«link_opt_type») (g .«links_blocked») (linkIdxPath (t .«disp_path»)) (t .«disp_node_idx_free») split sentinel in
     cond (apart (g .«link_opt_type») (contains (linksOnPath (t .«disp_path»)))) (ok sentinel) met
+
+-- the train that a round meets, from its sentinels: 0 where no search for a meeting place ran, since the split point is then the sentinel
+abbrev pub metBefore : Given → Train → ℕ → Res Sentinels → TrainIdx
+metBefore g t split (ok z) = trainMet (z .node) (linkIdxPath (t .«disp_path»)) (g .«links_blocked») (splitPoint g t split (z .node))
+metBefore g t split (no n) = noTrain
+
+-- met (document 02, Q-14) of a round
+unfoldable pub roundMet : Given → Train → ℕ → ℕ → TrainIdx
+roundMet g t split divSplit = metBefore g t split (calcIdxSentinels divSplit (g .«train_idx_moved») (t .«div_nodes»))
 
 -- div_idx_split at the sentinel (324-325)
 abbrev pub atSentinel : List DivergeNode → ℕ → ℕ → Res ℕ
@@ -205,10 +214,11 @@ pub data Status : Type 0 where
   Faulty : ℕ → Status
   Refused : Refusal → Status
 
--- what every update answers: its status, and what it counted
+-- what every update answers: its status, what it counted, and the train met in its first round (document 02, Q-14)
 pub record Answer : Type 0 where
   pub status : Status
   pub tally : Tally
+  pub met : TrainIdx
 
 -- with the train that is left
 pub record Updated : Type 0 where
@@ -225,9 +235,9 @@ pub record Between : Type 0 where
 abbrev pub between : Train → ℕ → ℕ → Tally → Between
 between t split divSplit tally = record { train = t; «idx_split» = split; «div_idx_split» = divSplit; tally = tally }
 
--- every answer is made here
+-- every answer is made here, and has met no train
 abbrev pub answerOf : Status → Tally → Answer
-answerOf status tally = record { status = status; tally = tally }
+answerOf status tally = record { status = status; tally = tally; met = noTrain }
 
 abbrev pub answered : Status → Tally → Train → Updated
 answered status tally t = record { answer = answerOf status tally; train = t }
@@ -254,6 +264,17 @@ holderIn Success = 0
 holderIn (Blocked holder) = holder .0
 holderIn (Faulty n) = 0
 holderIn (Refused r) = 0
+
+-- of the train that its first round met, a refused update keeps none
+abbrev pub metIn : Status → TrainIdx → TrainIdx
+metIn Success met = met
+metIn (Blocked holder) met = met
+metIn (Faulty n) met = met
+metIn (Refused r) met = noTrain
+
+-- the answer with it
+abbrev pub meets : TrainIdx → Updated → Updated
+meets met u = record { answer = record { status = u .answer .status; tally = u .answer .tally; met = metIn (u .answer .status) met }; train = u .train }
 
 -- ---- the loop over rounds (278-637)
 
@@ -320,12 +341,16 @@ givenOf occ blocking moved local t n =
 abbrev pub startOf : Given → Train → Between
 startOf g t = between (withDivNodes t (adjustSentinel (g .«train_idx_moved») (t .«div_nodes»))) 1 1 (started (straysOf g t))
 
+-- the train that the first round meets; w is before it, and it may not be due
+abbrev pub firstMet : Given → Between → TrainIdx
+firstMet g w = cond (due w) (roundMet g (w .train) (w .«idx_split») (w .«div_idx_split»)) noTrain
+
 -- by disp_path[disp_node_idx_free]: past the end the train has finished its trip (259-264), which is refusal 10
 abbrev pub updateFrom : Res DispNode → List ℕ → List LinkIdx → TrainIdx → Bool → ℕ → Train → Updated
 updateFrom (no k) occ blocking moved local limit t = refused 10 (started 0) t
 updateFrom (ok n) occ blocking moved local limit t =
     let g = givenOf occ blocking moved local t n in
-    roundsFrom limit g t (startOf g t)
+    meets (firstMet g (startOf g t)) (roundsFrom limit g t (startOf g t))
 
 -- update_free_path: the occupancy, the blocking list, the moved train, is_local, the round limit, the train
 unfoldable pub updateFreePath : List ℕ → List LinkIdx → TrainIdx → Bool → ℕ → Train → Updated

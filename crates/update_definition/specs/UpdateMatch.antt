@@ -21,7 +21,7 @@ pub record GivenMatch (top : ℕ) (p q : ℕ → ℕ) (occ occ′ blocking block
   -- the renumbered links, in any order, repeats kept
   pub order : Perm ℕ (map p blocking) blocking′
 
--- the same answer, its status with number and place, but the renumbered holder; the images that are left match
+-- the same answer, its status with number and place, but the renumbered holder and train met; the images that are left match
 pub record UpdatesMatch (p q : ℕ → ℕ) (a b : UpdatedImage) : Type 0 where
   pub answer : b .answer ≡ rAnswer q (a .answer)
   pub images : ImagesMatch p q (a .image) (b .image)

@@ -5,6 +5,7 @@ use mathlib.Core.List.{List}
 use Prim.Native.Nat.{ℕ, zero, suc, _+_, _^_, _<_}
 use native.Mathlib.Omega.{arith}
 use Rattle.link_rules.specs.Refusals.{refused}
+use Rattle.link_rules.specs.declared.link_idx.TrainIdx.{TrainIdx}
 use Rattle.disp_structs.specs.Train.{Train}
 use Rattle.image.specs.Codec.{storedInto}
 use Rattle.free_path.specs.Base.{Res, ok, no}
@@ -70,11 +71,11 @@ done-stop s (Stops.Blocked holder) f e q = refl
 done-stop s Stops.Ended f e q = refl
 
 -- the answer and the image, as the definition has them
-module _ (tally : Tally) (was t : Train) (img : List ℕ) where
+module _ (tally : Tally) (met : TrainIdx) (was t : Train) (img : List ℕ) where
   abbrev left : Update.Status → Tally → List ℕ → UpdatedImage
-  left s y out = record { answer = Update.answerOf s y; image = out }
+  left s y out = record { answer = record { status = s; tally = y; met = Update.metIn s met }; image = out }
 
-  by-stop : (stop : Stop) (f : Res ℕ) → left (statusBy stop f) (faulted tally (Update.faultsIn (statusBy stop f))) (leftImage (statusBy stop f) t img) ≡ storedAnswer (ranBy stop f tally was t) img
+  by-stop : (stop : Stop) (f : Res ℕ) → left (statusBy stop f) (faulted tally (Update.faultsIn (statusBy stop f))) (leftImage (statusBy stop f) t img) ≡ storedAnswer (Update.meets met (ranBy stop f tally was t)) img
   unfolding Update.finish
   by-stop (Stops.Refused c) f = ap (λ (y : Tally). left (Update.Refused (refused c 0)) y img) (faulted-none tally)
   by-stop (Stops.Blocked holder) f = ap (λ (y : Tally). left (Update.Blocked holder) y (storedInto t img)) (faulted-none tally)
@@ -82,9 +83,10 @@ module _ (tally : Tally) (was t : Train) (img : List ℕ) where
   by-stop Stops.Ended (ok (suc n)) = refl
   by-stop Stops.Ended (no n) = ap (λ (y : Tally). left (Update.Refused (refused n 0)) y img) (faulted-none tally)
 
-  -- s is the status, n the errors that it tells, y the tally with them
-  pub answered-is : tally .faults ≡ 0 → (stop : Stop) (f : Res ℕ) (s : Update.Status) (n : ℕ) (y : Tally) (out : List ℕ) → s ≡ statusBy stop f → n < 2 ^ 64 → n ≡ Update.faultsIn s → y ≡ countedFaults tally n
-      → out ≡ leftImage s t img → left s y out ≡ storedAnswer (ranBy stop f tally was t) img
-  answered-is z stop f s n y out e l k m q =
-      ap₂ (λ (a : Tally) (o : List ℕ). left s a o) (m ∙ faulted-within tally n (omega (arith, z, l)) ∙ ap (faulted tally) k) q
+  -- s is the status, n the errors that it tells, y the tally with them, x the train met that is kept
+  pub answered-is : tally .faults ≡ 0 → (stop : Stop) (f : Res ℕ) (s : Update.Status) (n : ℕ) (y : Tally) (x : TrainIdx) (out : List ℕ) → s ≡ statusBy stop f → n < 2 ^ 64 → n ≡ Update.faultsIn s → y ≡ countedFaults tally n → x ≡ Update.metIn s met
+      → out ≡ leftImage s t img → record { answer = record { status = s; tally = y; met = x }; image = out } ≡ storedAnswer (Update.meets met (ranBy stop f tally was t)) img
+  answered-is z stop f s n y x out e l k m u q =
+      ap (λ (v : TrainIdx). record { answer = record { status = s; tally = y; met = v }; image = out }) u
+      ∙ ap₂ (λ (a : Tally) (o : List ℕ). left s a o) (m ∙ faulted-within tally n (omega (arith, z, l)) ∙ ap (faulted tally) k) q
       ∙ ap (λ (z : Update.Status). left z (faulted tally (Update.faultsIn z)) (leftImage z t img)) e ∙ by-stop stop f

@@ -4,10 +4,11 @@ use mathlib.Core.Bool.{Bool, true, false, cond, _&&_, false≢true}
 use mathlib.Core.List.{List, []}
 use Prim.Native.Nat.{ℕ, zero, suc, _+_, _-_, _≤_, _<_}
 use native.Mathlib.Omega.{arith}
-use lib.Dec.{ltb}
+use lib.Dec.{ltb, eqb}
 use lib.ListN.{length, drop, length-drop}
-use borrow.Author.Tests.{ltb-true, ltb-false}
+use borrow.Author.Tests.{ltb-true, ltb-false, ne-eqb}
 use Rattle.link_rules.specs.declared.link_idx.LinkIdx.{LinkIdx}
+use Rattle.link_rules.specs.declared.link_idx.TrainIdx.{TrainIdx}
 use Rattle.disp_structs.specs.Listed.{listed}
 use Rattle.disp_structs.specs.Train.{Train}
 use Rattle.disp_structs.proofs.ListedLaws.{listed-length}
@@ -38,7 +39,7 @@ use Rattle.update_laws.proofs.TallyBounds.{count-few}
 use Rattle.round_start.proofs.StrayLaws.{linked-accepted, count-strays}
 use Rattle.round.specs.Rounds as Rounds
 use Rattle.round.specs.Rounds.{givenOf, endBy, endedOf, isAtEnd}
-use Rattle.update_free_path.specs.Updates.{errorsOf, ranBy, betweenOf, dueAt, isLast, ranOf, stoppedBy, nextOf, closedAt, stopRefused, Known, Top, roundsAt, Going, RoundsEnded}
+use Rattle.update_free_path.specs.Updates.{errorsOf, ranBy, betweenOf, dueAt, isLast, ranOf, stoppedBy, keptMet, nextOf, closedAt, stopRefused, Known, Top, roundsAt, metFrom, Going, RoundsEnded}
 use Rattle.round.specs.declared.Given.{Given}
 use Rattle.round.specs.declared.End.{End}
 use Rattle.round.specs.declared.End.the-variants as Ends
@@ -74,21 +75,21 @@ module _ (g : Update.Given) (was : Train) (w : Update.Between) where
         ∙ entered
 
     -- no other follows
-    stops-at : (e : End) (u : Train) (h : PathHeader) (i j s : ℕ) → isLast e ≡ true → endBy e u i j ≡ rounded → (isAtEnd e ≡ true → u ≡ w .train) → s ≡ Update.straysOf g (w .train)
-        → ranIn g was (stoppedBy e h (w .tally) took s) u ≡ Update.roundsFrom (suc k) g was w
+    stops-at : (e : End) (u : Train) (h : PathHeader) (i j s : ℕ) (x : TrainIdx) → isLast e ≡ true → endBy e u i j ≡ rounded → (isAtEnd e ≡ true → u ≡ w .train) → s ≡ Update.straysOf g (w .train)
+        → ranIn g was (stoppedBy e h (w .tally) took s x) u ≡ Update.roundsFrom (suc k) g was w
     unfolding Update.afterRound
-    stops-at (Ends.Refused c) u h i j s a e l q = ap (λ x. Update.afterRound x (λ y. Update.roundsFrom k g was y) g was (Update.searched g w)) e ∙ entered
-    stops-at Ends.AtEnd u h i j s a e l q =
+    stops-at (Ends.Refused c) u h i j s x a e l q = ap (λ x. Update.afterRound x (λ y. Update.roundsFrom k g was y) g was (Update.searched g w)) e ∙ entered
+    stops-at Ends.AtEnd u h i j s x a e l q =
         ap (λ (z : Train). Update.finish (Update.faultsOf g z) (counted (stepped (w .tally) took) s) was z) (l refl)
         ∙ ap (λ (z : ℕ). Update.finish (Update.faultsOf g (w .train)) (counted (stepped (w .tally) took) z) was (w .train)) q
         ∙ ap (λ x. Update.afterRound x (λ y. Update.roundsFrom k g was y) g was (Update.searched g w)) e
         ∙ entered
-    stops-at (Ends.Blocked holder) u h i j s a e l q = ap (λ x. Update.afterRound x (λ y. Update.roundsFrom k g was y) g was (Update.searched g w)) e ∙ entered
-    stops-at Ends.Again u h i j s a e l q = absurd (false≢true a)
+    stops-at (Ends.Blocked holder) u h i j s x a e l q = ap (λ x. Update.afterRound x (λ y. Update.roundsFrom k g was y) g was (Update.searched g w)) e ∙ entered
+    stops-at Ends.Again u h i j s x a e l q = absurd (false≢true a)
 
-    rounds-stop : (e : End) (u : Train) (h : PathHeader) (i j n s : ℕ) → isLast e ≡ true → endBy e u i j ≡ rounded → (isAtEnd e ≡ true → u ≡ w .train) → n ≡ took → s ≡ Update.straysOf g (w .train)
-        → ranIn g was (stoppedBy e h (w .tally) n s) u ≡ Update.roundsFrom (suc k) g was w
-    rounds-stop e u h i j n s a q l p z = ap (λ (m : ℕ). ranIn g was (stoppedBy e h (w .tally) m s) u) p ∙ stops-at e u h i j s a q l z
+    rounds-stop : (e : End) (u : Train) (h : PathHeader) (i j n s : ℕ) (x : TrainIdx) → isLast e ≡ true → endBy e u i j ≡ rounded → (isAtEnd e ≡ true → u ≡ w .train) → n ≡ took → s ≡ Update.straysOf g (w .train)
+        → ranIn g was (stoppedBy e h (w .tally) n s x) u ≡ Update.roundsFrom (suc k) g was w
+    rounds-stop e u h i j n s x a q l p z = ap (λ (m : ℕ). ranIn g was (stoppedBy e h (w .tally) m s x) u) p ∙ stops-at e u h i j s x a q l z
 
   -- none is due
   rounds-end : (k : ℕ) → Update.due w ≡ false → Update.finish (Update.faultsOf g (w .train)) (w .tally) was (w .train) ≡ Update.roundsFrom k g was w
@@ -133,7 +134,7 @@ module _ (occ img dt dn : List ℕ) (h : PathHeader) (a : Accepted (length occ) 
 pub due-turn : (w : Between) (limit : ℕ) → (ltb (w .tally .rounds) limit && dueAt w) ≡ true → (w .tally .rounds < limit) × (dueAt w ≡ true)
 due-turn w limit e = let b = both (ltb (w .tally .rounds) limit) (dueAt w) e in (ltb-true (w .tally .rounds) limit (b .0), b .1)
 
-due-same : (img dt dn : List ℕ) (w : Between) → Update.due (betweenOf img dt dn w) ≡ dueAt w
+pub due-same : (img dt dn : List ℕ) (w : Between) → Update.due (betweenOf img dt dn w) ≡ dueAt w
 unfolding trainOf
 due-same img dt dn w = ap (λ (n : ℕ). ltb (w .split) n) (listed-length (w .header .«path_count») (nodeAt img))
 
@@ -154,25 +155,40 @@ kept-goes Ends.Again a = refl
 abbrev ran-at : List ℕ → List ℕ → List ℕ → List ℕ → Train → Ran → Update.Updated
 ran-at occ img dt dn was r = ranBy (r .stop) (errorsOf img occ (r .header)) (r .tally) was (trainOf img dt dn (r .header))
 
-stopped-at : (occ img dt dn : List ℕ) (g : Given) (blocking start : List LinkIdx) (was : Train) (e : End) (h : PathHeader) (n : Tally) (m s : ℕ)
-    → ran-at occ img dt dn was (stoppedBy e h n m s) ≡ ranIn (givenOf g occ blocking start) was (stoppedBy e h n m s) (trainOf img dt dn h)
+stopped-at : (occ img dt dn : List ℕ) (g : Given) (blocking start : List LinkIdx) (was : Train) (e : End) (h : PathHeader) (n : Tally) (m s : ℕ) (x : TrainIdx)
+    → ran-at occ img dt dn was (stoppedBy e h n m s x) ≡ ranIn (givenOf g occ blocking start) was (stoppedBy e h n m s x) (trainOf img dt dn h)
 unfolding trainOf
-stopped-at occ img dt dn g blocking start was (Ends.Refused c) h n m s = refl
-stopped-at occ img dt dn g blocking start was Ends.AtEnd h n m s = refl
-stopped-at occ img dt dn g blocking start was (Ends.Blocked holder) h n m s = refl
-stopped-at occ img dt dn g blocking start was Ends.Again h n m s = refl
+stopped-at occ img dt dn g blocking start was (Ends.Refused c) h n m s x = refl
+stopped-at occ img dt dn g blocking start was Ends.AtEnd h n m s x = refl
+stopped-at occ img dt dn g blocking start was (Ends.Blocked holder) h n m s x = refl
+stopped-at occ img dt dn g blocking start was Ends.Again h n m s x = refl
 
-stop-refused : (e : End) (h : PathHeader) (n : Tally) (m s : ℕ) → stopRefused (stoppedBy e h n m s .stop) ≡ false → Rounds.endRefused e ≡ false
-stop-refused (Ends.Refused c) h n m s q = absurd (false≢true (sym q))
-stop-refused Ends.AtEnd h n m s q = refl
-stop-refused (Ends.Blocked holder) h n m s q = refl
-stop-refused Ends.Again h n m s q = refl
+stop-refused : (e : End) (h : PathHeader) (n : Tally) (m s : ℕ) (x : TrainIdx) → stopRefused (stoppedBy e h n m s x .stop) ≡ false → Rounds.endRefused e ≡ false
+stop-refused (Ends.Refused c) h n m s x q = absurd (false≢true (sym q))
+stop-refused Ends.AtEnd h n m s x q = refl
+stop-refused (Ends.Blocked holder) h n m s x q = refl
+stop-refused Ends.Again h n m s x q = refl
 
-stop-faultless : (e : End) (h : PathHeader) (n : Tally) (m s : ℕ) → n .faults ≡ 0 → stoppedBy e h n m s .tally .faults ≡ 0
-stop-faultless (Ends.Refused c) h n m s q = q
-stop-faultless Ends.AtEnd h n m s q = q
-stop-faultless (Ends.Blocked holder) h n m s q = q
-stop-faultless Ends.Again h n m s q = q
+stop-faultless : (e : End) (h : PathHeader) (n : Tally) (m s : ℕ) (x : TrainIdx) → n .faults ≡ 0 → stoppedBy e h n m s x .tally .faults ≡ 0
+stop-faultless (Ends.Refused c) h n m s x q = q
+stop-faultless Ends.AtEnd h n m s x q = q
+stop-faultless (Ends.Blocked holder) h n m s x q = q
+stop-faultless Ends.Again h n m s x q = q
+
+stop-met : (e : End) (h : PathHeader) (n : Tally) (m s : ℕ) (x : TrainIdx) → stoppedBy e h n m s x .met ≡ x
+stop-met (Ends.Refused c) h n m s x = refl
+stop-met Ends.AtEnd h n m s x = refl
+stop-met (Ends.Blocked holder) h n m s x = refl
+stop-met Ends.Again h n m s x = refl
+
+-- a round has run, or none is due
+later-met : (b t : Bool) (x y : TrainIdx) → b ≡ false → cond (b && t) x y ≡ y
+later-met true t x y e = absurd (false≢true (sym e))
+later-met false t x y e = refl
+
+none-due : (b t : Bool) (x y : TrainIdx) → t ≡ false → cond (b && t) x y ≡ y
+none-due true t x y e = ap (λ (u : Bool). cond u x y) e
+none-due false t x y e = refl
 
 module _ (occ img col on dt dn flags : List ℕ) (g : Given) (w : Between) (t : Top occ img col on dt dn w) where
   abbrev train : Train
@@ -235,16 +251,24 @@ module _ (occ img col on dt dn flags : List ℕ) (g : Given) (w : Between) (t : 
           ∙ ap (λ (z : ℕ). Update.roundsFrom z (given blocking start) was (betweenOf img dt dn w)) (sym n)
 
     stop-same : isLast (x .end) ≡ true → (isAtEnd (x .end) ≡ true → train′ ≡ train) → (limit : ℕ) → w .tally .rounds < limit → dueAt w ≡ true → (blocking start : List LinkIdx) (was : Train) (s : ℕ) → s ≡ Update.straysOf (given blocking start) train
-        → ran-at occ img′ dt′ dn′ was (stoppedBy (x .end) (x .header) (w .tally) (x .steps) s) ≡ roundsAt occ g blocking start limit img dt dn was w
+        → ran-at occ img′ dt′ dn′ was (stoppedBy (x .end) (x .header) (w .tally) (x .steps) s (keptMet w x)) ≡ roundsAt occ g blocking start limit img dt dn was w
     stop-same a l limit r d blocking start was s q =
         let n : limit - w .tally .rounds ≡ suc (limit - (w .tally .rounds + 1)) = omega arith in
-        stopped-at occ img′ dt′ dn′ g blocking start was (x .end) (x .header) (w .tally) (x .steps) s
-        ∙ rounds-stop (given blocking start) was (betweenOf img dt dn w) (limit - (w .tally .rounds + 1)) (due-same img dt dn w ∙ d) (x .end) train′ (x .header) (x .split) (x .«div_split») (x .steps) s a (e blocking start) l (o blocking start) q
+        stopped-at occ img′ dt′ dn′ g blocking start was (x .end) (x .header) (w .tally) (x .steps) s (keptMet w x)
+        ∙ rounds-stop (given blocking start) was (betweenOf img dt dn w) (limit - (w .tally .rounds + 1)) (due-same img dt dn w ∙ d) (x .end) train′ (x .header) (x .split) (x .«div_split») (x .steps) s (keptMet w x) a (e blocking start) l (o blocking start) q
         ∙ ap (λ (z : ℕ). Update.roundsFrom z (given blocking start) was (betweenOf img dt dn w)) (sym n)
 
     -- ---- what the loop keeps and answers
 
-    module _ (limit : ℕ) (img₀ dt₀ dn₀ : List ℕ) (w₀ : Between) (v : Going occ flags g limit img₀ dt₀ dn₀ w₀ img dt dn w) (r : w .tally .rounds < limit) (d : dueAt w ≡ true) where
+    module _ (limit : ℕ) (img₀ dt₀ dn₀ : List ℕ) (w₀ : Between) (v : Going occ flags g limit img₀ dt₀ dn₀ w₀ img dt dn w) (r : w .tally .rounds < limit) (d : dueAt w ≡ true)
+        (y : (blocking start : List LinkIdx) → x .met ≡ Update.roundMet (given blocking start) train (w .split) (w .«div_split»)) where
+      kept-met : (blocking start : List LinkIdx) → keptMet w x ≡ metFrom occ g blocking start img dt dn w
+      kept-met blocking start = go (eqb (w .tally .rounds) 0) ∙ ap (λ (b : Bool). cond (eqb (w .tally .rounds) 0 && b) (Update.roundMet (given blocking start) train (w .split) (w .«div_split»)) (w .met)) (sym d)
+        where
+          go : (b : Bool) → cond b (x .met) (w .met) ≡ cond (b && true) (Update.roundMet (given blocking start) train (w .split) (w .«div_split»)) (w .met)
+          go true = y blocking start
+          go false = refl
+
       pub going-next : isLast (x .end) ≡ false → Kept img′ img → (col′ : List ℕ) → listed (x .header .«path_count») (linkAt col′) ≡ linkIdxPath (pathOf img′ (x .header .«path_count»))
           → (s : ℕ) → s ≡ count (strayLink occ (flagged flags)) (drop (x .header .free) (listed (x .header .«path_count») (linkAt col′)))
           → Going occ flags g limit img₀ dt₀ dn₀ w₀ img′ dt′ dn′ (nextOf w x s)
@@ -253,21 +277,24 @@ module _ (occ img col on dt dn flags : List ℕ) (g : Given) (w : Between) (t : 
             kept = kept-then img′ img img₀ k (v .kept);
             same = λ blocking start f was.
                 next-same a limit r d blocking start was s (c ∙ strays-are occ img′ dt′ dn′ (x .header) (next-accepted a) (t .held .links) col′ flags q g blocking start f) ∙ v .same blocking start f was;
+            met = λ blocking start.
+                later-met (eqb (w .tally .rounds + 1) 0) (dueAt (nextOf w x s)) _ (keptMet w x) (ne-eqb (w .tally .rounds + 1) 0 (λ z. omega arith)) ∙ kept-met blocking start ∙ v .met blocking start;
           }
 
       pub ended-stopped : isLast (x .end) ≡ true → (isAtEnd (x .end) ≡ true → train′ ≡ train) → (Rounds.endRefused (x .end) ≡ false → Kept img′ img)
           → (s : ℕ) → s ≡ count (strayLink occ (flagged flags)) (drop (w .header .free) (listed (w .header .«path_count») (linkAt col)))
-          → RoundsEnded occ flags g limit img₀ dt₀ dn₀ w₀ img′ dt′ dn′ (stoppedBy (x .end) (x .header) (w .tally) (x .steps) s)
+          → RoundsEnded occ flags g limit img₀ dt₀ dn₀ w₀ img′ dt′ dn′ (stoppedBy (x .end) (x .header) (w .tally) (x .steps) s (keptMet w x))
       ended-stopped a l k s c =
           record {
-            kept = λ q. kept-then img′ img img₀ (k (stop-refused (x .end) (x .header) (w .tally) (x .steps) s q)) (v .kept);
-            faultless = stop-faultless (x .end) (x .header) (w .tally) (x .steps) s (t .faultless);
+            kept = λ q. kept-then img′ img img₀ (k (stop-refused (x .end) (x .header) (w .tally) (x .steps) s (keptMet w x) q)) (v .kept);
+            faultless = stop-faultless (x .end) (x .header) (w .tally) (x .steps) s (keptMet w x) (t .faultless);
             is = λ blocking start f was.
                 stop-same a l limit r d blocking start was s (c ∙ strays-are occ img dt dn (w .header) (t .held .accepted) (t .held .links) col flags (t .column) g blocking start f) ∙ v .same blocking start f was;
+            met = λ _ blocking start. stop-met (x .end) (x .header) (w .tally) (x .steps) s (keptMet w x) ∙ kept-met blocking start ∙ v .met blocking start;
           }
 
 pub going-start : (occ flags : List ℕ) (g : Given) (limit : ℕ) (img dt dn : List ℕ) (w : Between) → Going occ flags g limit img dt dn w img dt dn w
-going-start occ flags g limit img dt dn w = record { kept = record { size = refl; below = λ i h. refl }; same = λ blocking start f was. refl }
+going-start occ flags g limit img dt dn w = record { kept = record { size = refl; below = λ i h. refl }; same = λ blocking start f was. refl; met = λ blocking start. refl }
 
 first-false : (b : Bool) → (b && true) ≡ false → b ≡ false
 first-false true e = absurd (false≢true (sym e))
@@ -278,14 +305,19 @@ pub ended-closed : (occ flags : List ℕ) (g : Given) (limit : ℕ) (img₀ dt�
     → Going occ flags g limit img₀ dt₀ dn₀ w₀ img dt dn w → w .tally .faults ≡ 0 → (ltb (w .tally .rounds) limit && dueAt w) ≡ false → RoundsEnded occ flags g limit img₀ dt₀ dn₀ w₀ img dt dn (closedAt w)
 unfolding trainOf
 ended-closed occ flags g limit img₀ dt₀ dn₀ w₀ img dt dn w v none q =
-    record { kept = λ _. v .kept; faultless = faultless-by (dueAt w); is = λ blocking start f was. go (dueAt w) refl blocking start was ∙ v .same blocking start f was }
+    record { kept = λ _. v .kept; faultless = faultless-by (dueAt w); is = λ blocking start f was. go (dueAt w) refl blocking start was ∙ v .same blocking start f was; met = λ u blocking start. kept-by (dueAt w) refl u blocking start ∙ v .met blocking start }
   where
-    faultless-by : (b : Bool) → cond b (ranOf (Stops.Refused 12) (w .header) (w .tally)) (ranOf Stops.Ended (w .header) (w .tally)) .tally .faults ≡ 0
+    faultless-by : (b : Bool) → cond b (ranOf (Stops.Refused 12) (w .header) (w .tally) (w .met)) (ranOf Stops.Ended (w .header) (w .tally) (w .met)) .tally .faults ≡ 0
     faultless-by true = none
     faultless-by false = none
 
+    kept-by : (b : Bool) → dueAt w ≡ b → stopRefused (cond b (ranOf (Stops.Refused 12) (w .header) (w .tally) (w .met)) (ranOf Stops.Ended (w .header) (w .tally) (w .met)) .stop) ≡ false
+        → (blocking start : List LinkIdx) → cond b (ranOf (Stops.Refused 12) (w .header) (w .tally) (w .met)) (ranOf Stops.Ended (w .header) (w .tally) (w .met)) .met ≡ metFrom occ g blocking start img dt dn w
+    kept-by true d u blocking start = absurd (false≢true (sym u))
+    kept-by false d u blocking start = sym (none-due (eqb (w .tally .rounds) 0) (dueAt w) _ (w .met) d)
+
     go : (b : Bool) → dueAt w ≡ b → (blocking start : List LinkIdx) (was : Train)
-        → ran-at occ img dt dn was (cond b (ranOf (Stops.Refused 12) (w .header) (w .tally)) (ranOf Stops.Ended (w .header) (w .tally))) ≡ roundsAt occ g blocking start limit img dt dn was w
+        → ran-at occ img dt dn was (cond b (ranOf (Stops.Refused 12) (w .header) (w .tally) (w .met)) (ranOf Stops.Ended (w .header) (w .tally) (w .met))) ≡ roundsAt occ g blocking start limit img dt dn was w
     go true d blocking start was =
         let m = ltb-false (w .tally .rounds) limit (first-false (ltb (w .tally .rounds) limit) (ap (λ (t : Bool). ltb (w .tally .rounds) limit && t) (sym d) ∙ q)) in
         let z : limit - w .tally .rounds ≡ 0 = omega arith in

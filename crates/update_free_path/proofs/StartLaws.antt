@@ -1,10 +1,13 @@
 -- The first round of an update: its train is accepted, and the loop from there is the update of the image's train. Assumes nothing.
 use mathlib.Core.Path.{_≡_, refl, sym, ap, ap₂, subst, _∙_}
+use mathlib.Core.Bool.{Bool, false, cond}
 use mathlib.Core.List.{List}
 use Prim.Native.Nat.{ℕ, _-_, _≤_}
 use native.Mathlib.Omega.{arith}
 use lib.ListN.{length, drop, replicate}
+use Rattle.link_rules.specs.LinkIdx.{noTrain}
 use Rattle.link_rules.specs.declared.link_idx.LinkIdx.{LinkIdx}
+use Rattle.link_rules.specs.declared.link_idx.TrainIdx.{TrainIdx}
 use Rattle.link_rules.proofs.OctetLaws.{Bytes}
 use Rattle.disp_structs.specs.Listed.{listed}
 use Rattle.disp_structs.specs.Train.{Train}
@@ -35,13 +38,13 @@ use Rattle.round_start.proofs.StrayLaws.{linked-accepted, class-flags, known-li
 use Rattle.search.specs.Read.{pathOf, Marked}
 use Rattle.splice.specs.Read.{trainOf}
 use Rattle.round.specs.Rounds.{givenOf}
-use Rattle.update_free_path.specs.Updates.{errorsOf, statusBy, ranBy, betweenOf, Known, Top, roundsAt, RoundsEnded, startAt, givenAt, UpdateBegins, updateOf, Finished}
+use Rattle.update_free_path.specs.Updates.{errorsOf, statusBy, ranBy, stopRefused, betweenOf, Known, Top, roundsAt, metFrom, RoundsEnded, startAt, givenAt, UpdateBegins, updateOf, Finished}
 use Rattle.round.specs.declared.Given.{Given}
 use Rattle.update_free_path.specs.declared.start.Args.{Args}
 use Rattle.update_free_path.specs.declared.rounds.Ran.{Ran}
 use Rattle.update_free_path.specs.declared.rounds.Stop.{Stop}
 use Rattle.update_free_path.specs.declared.rounds.Stop.the-variants as Stops
-use Rattle.update_free_path.proofs.RoundsLaws.{strays-are}
+use Rattle.update_free_path.proofs.RoundsLaws.{strays-are, due-same}
 
 -- the status of what the rounds end with
 status-ran : (stop : Stop) (f : Res ℕ) (tally : Tally) (was t : Train) → ranBy stop f tally was t .answer .status ≡ statusBy stop f
@@ -50,6 +53,12 @@ status-ran (Stops.Refused c) f tally was t = refl
 status-ran (Stops.Blocked holder) f tally was t = refl
 status-ran Stops.Ended (ok n) tally was t = refl
 status-ran Stops.Ended (no n) tally was t = refl
+
+-- of a refused update the train met is of no account
+by-met : (stop : Stop) (f : Res ℕ) (tally : Tally) (was t : Train) (x y : TrainIdx) → (stopRefused stop ≡ false → x ≡ y) → Update.meets x (ranBy stop f tally was t) ≡ Update.meets y (ranBy stop f tally was t)
+by-met (Stops.Refused c) f tally was t x y q = refl
+by-met (Stops.Blocked holder) f tally was t x y q = ap (λ (z : TrainIdx). Update.meets z (ranBy (Stops.Blocked holder) f tally was t)) (q refl)
+by-met Stops.Ended f tally was t x y q = ap (λ (z : TrainIdx). Update.meets z (ranBy Stops.Ended f tally was t)) (q refl)
 
 module _ (img occ : List ℕ) (h : PathHeader) (b : UpdateBegins img occ h) (bytes : Bytes img) where
   good : Accepted (length occ) (decoded img)
@@ -147,14 +156,25 @@ module _ (img occ : List ℕ) (h : PathHeader) (b : UpdateBegins img occ h) (byt
               e ∙ strays-are occ img dt dn h begin-accepted (b .few) col knowing c begun (linkIdxs blocking) first knows
               ∙ ap₂ (λ (g : Update.Given) (t : Train). Update.straysOf g t) given-is begin-train
 
-          begin-is : roundsAt occ begun (linkIdxs blocking) first (o .limit) img dt dn (decoded img) (startAt h s) ≡ updateOf img occ blocking o
-          unfolding Update.updateFreePath
+          abbrev started-at : Update.Between
+          started-at = Update.startOf given (decoded img)
+
+          begin-is : roundsAt occ begun (linkIdxs blocking) first (o .limit) img dt dn (decoded img) (startAt h s) ≡ Update.roundsFrom (o .limit) given (decoded img) started-at
           begin-is =
               let z : o .limit - 0 ≡ o .limit = omega arith in
               ap (λ (n : ℕ). Update.roundsFrom n (givenOf begun occ (linkIdxs blocking) first) (decoded img) (betweenOf img dt dn (startAt h s))) z
               ∙ ap (λ (g : Update.Given). Update.roundsFrom (o .limit) g (decoded img) (betweenOf img dt dn (startAt h s))) given-is
               ∙ ap₂ (λ (t : Train) (n : ℕ). Update.roundsFrom (o .limit) given (decoded img) (Update.between t 1 1 (started n))) begin-train strays-is
-              ∙ ap (λ (x : Res DispNode). Update.updateFrom x occ (linkIdxs blocking) (o .moved) (o .local) (o .limit) (decoded img)) node-is
+
+          -- the train that the first round meets
+          begin-met : metFrom occ begun (linkIdxs blocking) first img dt dn (startAt h s) ≡ Update.firstMet given started-at
+          begin-met =
+              ap (λ (b : Bool). cond b (Update.roundMet (givenOf begun occ (linkIdxs blocking) first) (trainOf img dt dn h) 1 1) noTrain) (sym (due-same img dt dn (startAt h s)))
+              ∙ ap₂ (λ (g : Update.Given) (t : Train). Update.firstMet g (Update.between t 1 1 (started s))) given-is begin-train
+
+          by-rounds : Update.meets (Update.firstMet given started-at) (Update.roundsFrom (o .limit) given (decoded img) started-at) ≡ updateOf img occ blocking o
+          unfolding Update.updateFreePath
+          by-rounds = ap (λ (x : Res DispNode). Update.updateFrom x occ (linkIdxs blocking) (o .moved) (o .local) (o .limit) (decoded img)) node-is
 
           pub finished : (img′ dt′ dn′ : List ℕ) (x : Ran) → RoundsEnded occ knowing begun (o .limit) img dt dn (startAt h s) img′ dt′ dn′ x → Finished img occ blocking o img′ dt′ dn′ x
           finished img′ dt′ dn′ x v =
@@ -162,7 +182,10 @@ module _ (img occ : List ℕ) (h : PathHeader) (b : UpdateBegins img occ h) (byt
               record {
                 kept = v .kept;
                 faultless = v .faultless;
-                is = r ∙ begin-is;
+                is =
+                    by-met (x .stop) (errorsOf img′ occ (x .header)) (x .tally) (decoded img) (trainOf img′ dt′ dn′ (x .header)) (x .met) (Update.firstMet given started-at) (λ q. v .met q (linkIdxs blocking) first ∙ begin-met)
+                    ∙ ap (Update.meets (Update.firstMet given started-at)) (r ∙ begin-is)
+                    ∙ by-rounds;
                 named = λ f y.
                     omega (arith, refused-number (o .limit - 0) (givenOf begun occ (linkIdxs blocking) first) (decoded img) (betweenOf img dt dn (startAt h s)) f (ap (λ (u : Update.Updated). u .answer .status) (sym r) ∙ status-ran (x .stop) (errorsOf img′ occ (x .header)) (x .tally) (decoded img) (trainOf img′ dt′ dn′ (x .header)) ∙ y) .0);
               }

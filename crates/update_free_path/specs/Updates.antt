@@ -1,11 +1,13 @@
 -- The answer of an update over the bytes of an image, and what its loop over rounds begins with, keeps and answers. Assumes nothing.
 use Prim.Native.Nat.{ℕ, _+_, _*_, _-_, _^_, _≤_, _<_}
 use mathlib.Core.Path.{_≡_}
-use mathlib.Core.Bool.{Bool, true, false, cond}
+use mathlib.Core.Bool.{Bool, true, false, cond, _&&_}
 use mathlib.Core.List.{List}
-use lib.Dec.{ltb}
+use lib.Dec.{ltb, eqb}
 use lib.ListN.{length, replicate}
+use Rattle.link_rules.specs.LinkIdx.{noTrain}
 use Rattle.link_rules.specs.declared.link_idx.LinkIdx.{LinkIdx}
+use Rattle.link_rules.specs.declared.link_idx.TrainIdx.{TrainIdx}
 use Rattle.disp_structs.specs.Listed.{listed}
 use Rattle.disp_structs.specs.Train.{Train}
 use Rattle.disp_structs.specs.Values.{minus}
@@ -49,7 +51,7 @@ statusOf (Faulty n) = Update.Faulty n
 statusOf (Refused r) = Update.Refused r
 
 abbrev pub answerOf : Updated → Update.Answer
-answerOf x = Update.answerOf (statusOf (x .status)) (x .tally)
+answerOf x = record { status = statusOf (x .status); tally = x .tally; met = x .met }
 
 -- with the image that is left
 abbrev pub updatedOf : Updated → List ℕ → UpdatedImage
@@ -102,7 +104,7 @@ AnswerFits image img occ r =
 -- x and the image that is left are the update's, was being the train before it
 abbrev pub Answers : (image img occ dt dn : List ℕ) (r : Ran) (x : Updated) (image₁ : List ℕ) → Type 0
 Answers image img occ dt dn r x image₁ =
-    (was : Train) → updatedOf x image₁ ≡ storedAnswer (ranBy (r .stop) (errorsOf img occ (r .header)) (r .tally) was (trainOf img dt dn (r .header))) image
+    (was : Train) → updatedOf x image₁ ≡ storedAnswer (Update.meets (r .met) (ranBy (r .stop) (errorsOf img occ (r .header)) (r .tally) was (trainOf img dt dn (r .header)))) image
 
 -- ---- the loop over rounds
 
@@ -119,23 +121,27 @@ isLast Ends.AtEnd = true
 isLast (Ends.Blocked holder) = true
 isLast Ends.Again = false
 
-abbrev pub ranOf : Stop → PathHeader → Tally → Ran
-ranOf stop h tally = record { stop = stop; header = h; tally = tally }
+abbrev pub ranOf : Stop → PathHeader → Tally → TrainIdx → Ran
+ranOf stop h tally met = record { stop = stop; header = h; tally = tally; met = met }
 
--- by the end of the last round, before which the tally was t, n being its steps and s the strays of its path
-abbrev pub stoppedBy : End → PathHeader → Tally → ℕ → ℕ → Ran
-stoppedBy (Ends.Refused c) h t n s = ranOf (Stops.Refused c) h (counted (stepped t n) 0)
-stoppedBy Ends.AtEnd h t n s = ranOf Stops.Ended h (counted (stepped t n) s)
-stoppedBy (Ends.Blocked holder) h t n s = ranOf (Stops.Blocked holder) h (counted (stepped t n) 0)
-stoppedBy Ends.Again h t n s = ranOf Stops.Ended h (counted (stepped t n) 0)
+-- by the end of the last round, before which the tally was t, n being its steps and s the strays of its path; met is the train met
+abbrev pub stoppedBy : End → PathHeader → Tally → ℕ → ℕ → TrainIdx → Ran
+stoppedBy (Ends.Refused c) h t n s met = ranOf (Stops.Refused c) h (counted (stepped t n) 0) met
+stoppedBy Ends.AtEnd h t n s met = ranOf Stops.Ended h (counted (stepped t n) s) met
+stoppedBy (Ends.Blocked holder) h t n s met = ranOf (Stops.Blocked holder) h (counted (stepped t n) 0) met
+stoppedBy Ends.Again h t n s met = ranOf Stops.Ended h (counted (stepped t n) 0) met
+
+-- the train met that is kept after a round: that of the first one
+abbrev pub keptMet : Between → RoundEnd → TrainIdx
+keptMet w x = cond (eqb (w .tally .rounds) 0) (x .met) (w .met)
 
 -- after a round that another may follow, s being the strays of the path that it left
 abbrev pub nextOf : Between → RoundEnd → ℕ → Between
-nextOf w x s = record { header = x .header; split = x .split; «div_split» = x .«div_split»; tally = counted (stepped (w .tally) (x .steps)) s }
+nextOf w x s = record { header = x .header; split = x .split; «div_split» = x .«div_split»; tally = counted (stepped (w .tally) (x .steps)) s; met = keptMet w x }
 
 -- no round follows
 abbrev pub closedAt : Between → Ran
-closedAt w = cond (dueAt w) (ranOf (Stops.Refused 12) (w .header) (w .tally)) (ranOf Stops.Ended (w .header) (w .tally))
+closedAt w = cond (dueAt w) (ranOf (Stops.Refused 12) (w .header) (w .tally) (w .met)) (ranOf Stops.Ended (w .header) (w .tally) (w .met))
 
 -- one more round, its n steps and s strays fit the tally, in which no fault is counted before the rounds have ended
 pub record Counting (t : Tally) (n s : ℕ) : Type 0 where
@@ -176,10 +182,16 @@ pub record Top (occ img col on dt dn : List ℕ) (w : Between) : Type 0 where
 abbrev pub roundsAt : List ℕ → Given → List LinkIdx → List LinkIdx → ℕ → List ℕ → List ℕ → List ℕ → Train → Between → Update.Updated
 roundsAt occ g blocking start limit img dt dn was w = Update.roundsFrom (limit - w .tally .rounds) (givenOf g occ blocking start) was (betweenOf img dt dn w)
 
+-- the train met by the loop from w on: that of the next round where it is the first one and due, else the one that is kept
+abbrev pub metFrom : List ℕ → Given → List LinkIdx → List LinkIdx → List ℕ → List ℕ → List ℕ → Between → TrainIdx
+metFrom occ g blocking start img dt dn w =
+    cond (eqb (w .tally .rounds) 0 && dueAt w) (Update.roundMet (givenOf g occ blocking start) (trainOf img dt dn (w .header)) (w .split) (w .«div_split»)) (w .met)
+
 -- the loop stands at w and began at w₀
 pub record Going (occ flags : List ℕ) (g : Given) (limit : ℕ) (img₀ dt₀ dn₀ : List ℕ) (w₀ : Between) (img dt dn : List ℕ) (w : Between) : Type 0 where
   pub kept : Kept img img₀
   pub same : (blocking start : List LinkIdx) → Known flags blocking start → (was : Train) → roundsAt occ g blocking start limit img dt dn was w ≡ roundsAt occ g blocking start limit img₀ dt₀ dn₀ was w₀
+  pub met : (blocking start : List LinkIdx) → metFrom occ g blocking start img dt dn w ≡ metFrom occ g blocking start img₀ dt₀ dn₀ w₀
 
 -- the loop has ended with x: the answer, and an image in which a train can be stored
 pub record RoundsEnded (occ flags : List ℕ) (g : Given) (limit : ℕ) (img₀ dt₀ dn₀ : List ℕ) (w₀ : Between) (img dt dn : List ℕ) (x : Ran) : Type 0 where
@@ -187,6 +199,8 @@ pub record RoundsEnded (occ flags : List ℕ) (g : Given) (limit : ℕ) (img₀ 
   pub faultless : x .tally .faults ≡ 0
   pub is : (blocking start : List LinkIdx) → Known flags blocking start → (was : Train)
       → ranBy (x .stop) (errorsOf img occ (x .header)) (x .tally) was (trainOf img dt dn (x .header)) ≡ roundsAt occ g blocking start limit img₀ dt₀ dn₀ was w₀
+  -- of a refused update it is any
+  pub met : stopRefused (x .stop) ≡ false → (blocking start : List LinkIdx) → x .met ≡ metFrom occ g blocking start img₀ dt₀ dn₀ w₀
 
 -- ---- the first round
 
@@ -195,7 +209,7 @@ abbrev pub columnTop : ℕ
 columnTop = 2 ^ 32 - 1
 
 abbrev pub startAt : PathHeader → ℕ → Between
-startAt h s = record { header = h; split = 1; «div_split» = 1; tally = started s }
+startAt h s = record { header = h; split = 1; «div_split» = 1; tally = started s; met = noTrain }
 
 -- what an update does not change, flags being those of the links on the path, and free the first node of the free path
 abbrev pub givenAt : List ℕ → List ℕ → List ℕ → Args → ℕ → Given
@@ -235,5 +249,5 @@ pub record Judged (f : Refusal) (img occ blocking : List ℕ) (o : Args) : Type 
 pub record Finished (img₀ occ blocking : List ℕ) (o : Args) (img dt dn : List ℕ) (x : Ran) : Type 0 where
   pub kept : stopRefused (x .stop) ≡ false → Kept img img₀
   pub faultless : x .tally .faults ≡ 0
-  pub is : ranBy (x .stop) (errorsOf img occ (x .header)) (x .tally) (decoded img₀) (trainOf img dt dn (x .header)) ≡ updateOf img₀ occ blocking o
+  pub is : Update.meets (x .met) (ranBy (x .stop) (errorsOf img occ (x .header)) (x .tally) (decoded img₀) (trainOf img dt dn (x .header))) ≡ updateOf img₀ occ blocking o
   pub named : Named (x .stop) (errorsOf img occ (x .header))

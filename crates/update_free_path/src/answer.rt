@@ -30,9 +30,11 @@ pub enum Status {
     Refused(Refusal),
 }
 
+// The train met is that of the first round.
 pub struct Updated {
     pub status: Status,
     pub tally: Tally,
+    pub met: TrainIdx,
 }
 
 // A refusal within an update has place 0.
@@ -52,6 +54,7 @@ pub(crate) fn refused(f: Refusal) -> Updated
     Updated {
         status: Status::Refused(f),
         tally: tally::started(0),
+        met: TrainIdx(0),
     }
 }
 
@@ -103,6 +106,18 @@ fn faults_in(s: Status) -> u64
     }
 }
 
+// Of the train met a refused update keeps none.
+fn met_in(s: Status, met: TrainIdx) -> TrainIdx
+    ensures { λ r. ⌜ r ≡ Update.metIn (statusOf s) met ⌝ }
+{
+    match s {
+        Status::Success => met,
+        Status::Blocked(holder) => met,
+        Status::Faulty(n) => met,
+        Status::Refused(r) => TrainIdx(0),
+    }
+}
+
 // The train goes to the image unless the update is refused.
 fn leave(image: &mut [u8], img: &[u8], s: Status, h: PathHeader, dt: &[u32], dn: &[u32])
     requires { ⌜ (isRefusal s ≡ false → (estCount (now image) ≡ estCount (now img)) × (divergeRoom (now image) ≡ divergeRoom (now img))) ⌝ }
@@ -134,5 +149,6 @@ pub(crate) fn answered(
     Updated {
         status: s,
         tally: tally::counted_faults(t, faults_in(s)),
+        met: met_in(s, r.met),
     }
 }

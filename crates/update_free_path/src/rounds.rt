@@ -22,14 +22,15 @@ ghost use Rattle.free_path.specs.LinkOptType.{linkIdxPath};
 ghost use Rattle.free_path.specs.Validate.{strayLink};
 ghost use Rattle.search.specs.Read.{pathOf, Marked};
 ghost use Rattle.tally.specs.Tally.{counted, stepped};
-ghost use Rattle.update_free_path.specs.Updates.{dueAt, isLast, ranOf, stoppedBy, nextOf, closedAt, Counting, Sizes, Top, RoundsEnded};
+ghost use Rattle.update_free_path.specs.Updates.{dueAt, isLast, ranOf, keptMet, stoppedBy, nextOf, closedAt, Counting, Sizes, Top, RoundsEnded};
 
-// Between two rounds: the header's numbers, idx_split and div_idx_split, and document 01's tally.
+// Between two rounds: the header's numbers, idx_split and div_idx_split, document 01's tally, and the train met in the first round.
 pub struct Between {
     pub header: PathHeader,
     pub split: usize,
     pub div_split: usize,
     pub tally: Tally,
+    pub met: TrainIdx,
 }
 
 // How the loop stops: refused by a number, blocked by a train, or with a path to validate.
@@ -43,6 +44,7 @@ pub struct Ran {
     pub stop: Stop,
     pub header: PathHeader,
     pub tally: Tally,
+    pub met: TrainIdx,
 }
 
 // Is another round due?
@@ -73,14 +75,25 @@ fn is_last(end: End) -> bool
     }
 }
 
-fn ran_with(stop: Stop, h: PathHeader, t: Tally) -> Ran
-    ensures { λ r. ⌜ r ≡ ranOf stop h t ⌝ }
+fn ran_with(stop: Stop, h: PathHeader, t: Tally, met: TrainIdx) -> Ran
+    ensures { λ r. ⌜ r ≡ ranOf stop h t met ⌝ }
 {
     Ran {
         stop: stop,
         header: h,
         tally: t,
+        met: met,
     }
+}
+
+// The train met that is kept once a round has ended: that of the first round.
+fn kept_met(w: Between, x: RoundEnd) -> TrainIdx
+    ensures { λ r. ⌜ r ≡ keptMet w x ⌝ }
+{
+    if w.tally.rounds == 0 {
+        return x.met;
+    }
+    w.met
 }
 
 // The tally with one more round and the steps of its search. The strays are those of a path; faults are counted once no round follows.
@@ -91,17 +104,20 @@ fn tallied(t: Tally, steps: u64, strays: usize) -> Tally
     tally::counted_round(tally::counted_steps(t, steps), strays as u64, 0)
 }
 
-// A round has ended after so many steps and no other follows; strays are those of its path.
-fn stopped(w: Between, end: End, h: PathHeader, steps: u64, strays: usize) -> Ran
-    requires { ⌜ Counting (w .tally) steps strays ⌝ }
-    ensures { λ r. ⌜ r ≡ stoppedBy end h (w .tally) steps strays ⌝ }
+// A round has ended and no other follows; strays are those of its path.
+fn stopped(w: Between, x: RoundEnd, strays: usize) -> Ran
+    requires { ⌜ Counting (w .tally) (x .steps) strays ⌝ }
+    ensures { λ r. ⌜ r ≡ stoppedBy (x .end) (x .header) (w .tally) (x .steps) strays (keptMet w x) ⌝ }
 {
     let t = w.tally;
+    let h = x.header;
+    let met = kept_met(w, x);
+    let end = x.end;
     match end {
-        End::Refused(c) => ran_with(Stop::Refused(c), h, tallied(t, steps, 0)),
-        End::AtEnd => ran_with(Stop::Ended, h, tallied(t, steps, strays)),
-        End::Blocked(holder) => ran_with(Stop::Blocked(holder), h, tallied(t, steps, 0)),
-        End::Again => ran_with(Stop::Ended, h, tallied(t, steps, 0)),
+        End::Refused(c) => ran_with(Stop::Refused(c), h, tallied(t, x.steps, 0), met),
+        End::AtEnd => ran_with(Stop::Ended, h, tallied(t, x.steps, strays), met),
+        End::Blocked(holder) => ran_with(Stop::Blocked(holder), h, tallied(t, x.steps, 0), met),
+        End::Again => ran_with(Stop::Ended, h, tallied(t, x.steps, 0), met),
     }
 }
 
@@ -117,6 +133,7 @@ fn next(w: Between, x: RoundEnd, strays: usize) -> Between
         split: x.split,
         div_split: x.div_split,
         tally: tallied(t, x.steps, strays),
+        met: kept_met(w, x),
     }
 }
 
@@ -126,10 +143,11 @@ fn closed(w: Between) -> Ran
 {
     let h = w.header;
     let t = w.tally;
+    let met = w.met;
     if is_due(w) {
-        return ran_with(Stop::Refused(12), h, t);
+        return ran_with(Stop::Refused(12), h, t, met);
     }
-    ran_with(Stop::Ended, h, t)
+    ran_with(Stop::Ended, h, t, met)
 }
 
 // The strays of the path of which col is link_idx_path.
@@ -170,7 +188,7 @@ pub(crate) fn rounds(
         let end = x.end;
         let h = x.header;
         if is_last(end) {
-            return stopped(w, end, h, x.steps, strays_of(col, w.header, occ, known));
+            return stopped(w, x, strays_of(col, w.header, occ, known));
         }
         derive(img, h.path_count, col, on);
         w = next(w, x, strays_of(col, h, occ, known));

@@ -55,6 +55,7 @@ fn start_of(h: PathHeader, strays: usize) -> Between
         split: 1,
         div_split: 1,
         tally: tally::started(strays as u64),
+        met: TrainIdx(0),
     }
 }
 

@@ -17,7 +17,7 @@ use Rattle.image.specs.Image.{typeOf, pathHeader, estFrom, nodeFrom, divergeFro
 use Rattle.image.specs.Codec.{decoded, putEach, putRecords, storedInto}
 use Rattle.link_rules.specs.Refusals.{refused}
 use Rattle.image_fault.specs.ImageFault.{firstUnfit, countsFit, partsFit, trainFits, estTypeFits, nodeTypeFits, zeroWord, unusedZero, recordsFit, imageFits, floatFits, timeFits, distFits, eventFits, estLinksFit, estFits, nodeFits, indicesFit, headerFits, valueFault, cycleFault, stepsTo as steps, comesFrom, endsAt, arrivesOn, arrived, firstArrival, onRoute, innerFits, divergeFits, routeFault, imageFault}
-use Rattle.update_definition.specs.Update.{Success, Faulty, answerOf, splitPoint, beginOf, roundOf, roundSteps, finish, afterRound, roundsFrom, adjustSentinel, updateFreePath}
+use Rattle.update_definition.specs.Update.{Success, Faulty, answerOf, splitPoint, roundMet, beginOf, roundOf, roundSteps, finish, afterRound, roundsFrom, adjustSentinel, updateFreePath}
 use Rattle.update_definition.specs.UpdateImage.{linksBelow, callFault, refusedAnswer, updateFault, updatedImage}
 
 -- numbers of 4 bytes
@@ -40,7 +40,7 @@ slot free end =
 
 -- what the examples compute with
 unfoldable everything : ℕ
-unfolding ofBits toBits add sub div neg lt le eq ne leAt putLe allBelow occupied realOf bitsOf inReach magnitude nearFloat listed follow via reach firstAt at walkFrom stepsTo count any linksOnPath contains classWalk linkOptType calcIdxSentinels isStray strays stepsNext badStep badSteps inConflict validateFreePath typeOf pathHeader estFrom nodeFrom divergeFrom putNode putDiverge zeroWords putPathHeader decoded putEach putRecords storedInto firstUnfit countsFit partsFit trainFits estTypeFits nodeTypeFits zeroWord unusedZero recordsFit imageFits floatFits timeFits distFits eventFits estLinksFit estFits nodeFits indicesFit headerFits valueFault cycleFault steps comesFrom endsAt arrivesOn arrived firstArrival onRoute innerFits divergeFits routeFault imageFault splitPoint beginOf roundOf roundSteps finish afterRound roundsFrom adjustSentinel updateFreePath words slot linksBelow callFault updateFault updatedImage
+unfolding ofBits toBits add sub div neg lt le eq ne leAt putLe allBelow occupied realOf bitsOf inReach magnitude nearFloat listed follow via reach firstAt at walkFrom stepsTo count any linksOnPath contains classWalk linkOptType calcIdxSentinels isStray strays stepsNext badStep badSteps inConflict validateFreePath typeOf pathHeader estFrom nodeFrom divergeFrom putNode putDiverge zeroWords putPathHeader decoded putEach putRecords storedInto firstUnfit countsFit partsFit trainFits estTypeFits nodeTypeFits zeroWord unusedZero recordsFit imageFits floatFits timeFits distFits eventFits estLinksFit estFits nodeFits indicesFit headerFits valueFault cycleFault steps comesFrom endsAt arrivesOn arrived firstArrival onRoute innerFits divergeFits routeFault imageFault splitPoint roundMet beginOf roundOf roundSteps finish afterRound roundsFrom adjustSentinel updateFreePath words slot linksBelow callFault updateFault updatedImage
 everything = 0
 
 -- the update of the sheet example: train 2 moved, nothing held, one round; the last diverge node gets train 2

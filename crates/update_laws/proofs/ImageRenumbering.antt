@@ -29,6 +29,7 @@ use Rattle.link_rules.specs.declared.refusal.Refusal.{Refusal}
 use Rattle.image_fault.proofs.ScanLaws.{both}
 use Rattle.image_fault.proofs.AcceptLaws.{accepted, or-else-clean}
 use Rattle.image_fault.proofs.MatchLaws.{image-fault-match, state-match, stored-match}
+use Rattle.tally.specs.Tally.{started}
 use Rattle.update_definition.specs.Update.{Status, Success, Blocked, Faulty, Refused, Updated, updateFreePath}
 use Rattle.update_definition.specs.Fits.{TrainsWithin}
 use Rattle.update_definition.specs.Renumbered.{TwoNumberings, rStatus, rUpdated}
@@ -36,7 +37,7 @@ use Rattle.update_laws.proofs.UpdateRenumbering.{update-renumbered}
 use Rattle.update_laws.specs.AfterRound.{Leaves}
 use Rattle.update_laws.specs.FitsGood.{TrainFits}
 use Rattle.update_laws.proofs.Updates.{StaysFit}
-use Rattle.update_definition.specs.UpdateImage.{linksBelow, callFault, leftImage, storedAnswer, answerBy, linkIdxs, updateFault, updatedImage}
+use Rattle.update_definition.specs.UpdateImage.{linksBelow, callFault, leftImage, storedAnswer, refusedAnswer, answerBy, linkIdxs, updateFault, updatedImage}
 use Rattle.update_definition.specs.UpdateMatch.{GivenMatch, UpdatesMatch}
 use Rattle.update_laws.proofs.UpdateLeaves.{keeps, fit-held, leaves}
 
@@ -116,15 +117,19 @@ call-below occ blocking moved limit h =
 
 -- ---- the answers
 
-module _ (p q : ℕ → ℕ) (img img′ : List ℕ) (m : ImagesMatch p q img img′) where
+module _ (p q : ℕ → ℕ) (zero-stays : q 0 ≡ 0) (img img′ : List ℕ) (m : ImagesMatch p q img img′) where
+  -- refused before anything is counted, and no train was met
+  refused-same : (x : Refusal) → UpdatesMatch p q (refusedAnswer x img) (refusedAnswer x img′)
+  refused-same x = record { answer = ap (λ (k : ℕ). record { status = Refused x; tally = started 0; met = record { 0 = k } }) (sym zero-stays); images = m }
+
   answers-match : (k : ℕ) (x : Refusal) (u u′ : Updated) → (k ≡ 0 → answerBy k x u img .answer .tally .strays ≡ 0 → UpdatesMatch p q (storedAnswer u img) (storedAnswer u′ img′)) → answerBy k x u img .answer .tally .strays ≡ 0
       → UpdatesMatch p q (answerBy k x u img) (answerBy k x u′ img′)
   answers-match zero x u u′ h s = h refl s
-  answers-match (suc k) x u u′ h s = record { answer = refl; images = m }
+  answers-match (suc k) x u u′ h s = refused-same x
 
   refusals-match : (k : ℕ) (x : Refusal) (u u′ : Updated) → (k ≡ 0 → ⊥) → UpdatesMatch p q (answerBy k x u img) (answerBy k x u′ img′)
   refusals-match zero x u u′ h = absurd (h refl)
-  refusals-match (suc k) x u u′ h = record { answer = refl; images = m }
+  refusals-match (suc k) x u u′ h = refused-same x
 
 module _ (top : ℕ) (p q : ℕ → ℕ) (occ occ′ blocking blocking′ : List ℕ) (c : GivenMatch top p q occ occ′ blocking blocking′) (moved : ℕ) (local : Bool) (limit : ℕ)
     (img img′ : List ℕ) (m : ImagesMatch p q img img′) where
@@ -151,7 +156,7 @@ module _ (top : ℕ) (p q : ℕ → ℕ) (occ occ′ blocking blocking′ : List
   unfolding updatedImage
   refused-match h =
       subst (λ (x : Refusal). UpdatesMatch p q (answerBy (f .number) f u img) (answerBy (x .number) x u′ img′)) (sym same-fault)
-      (refusals-match p q img img′ m (f .number) f u u′ h)
+      (refusals-match p q (c .trains .zero-stays) img img′ m (f .number) f u u′ h)
 
   -- the largest train, and the trains of the call, are ones that the image holds
   module _ (b : Bytes img) (b′ : Bytes img′) (low : top ≤ largestTrain img) (w : TrainsWithin (largestTrain img) occ moved) (z : occupied occ noLink ≡ false) where
@@ -197,4 +202,4 @@ module _ (top : ℕ) (p q : ℕ → ℕ) (occ occ′ blocking blocking′ : List
     unfolding updatedImage
     update-match s =
         subst (λ (x : Refusal). UpdatesMatch p q (answerBy (f .number) f u img) (answerBy (x .number) x u′ img′)) (sym same-fault)
-        (answers-match p q img img′ m (f .number) f u u′ (λ e r. stored-answers e (subst (λ (k : ℕ). answerBy k f u img .answer .tally .strays ≡ 0) e r)) s)
+        (answers-match p q (c .trains .zero-stays) img img′ m (f .number) f u u′ (λ e r. stored-answers e (subst (λ (k : ℕ). answerBy k f u img .answer .tally .strays ≡ 0) e r)) s)

@@ -47,6 +47,7 @@ pub mod BytesAccepted
 pub mod AcceptedClean
 pub mod StoredGood
 pub mod AcceptedBytes
+pub mod TrainsMet
 pub mod UpdateAnswers
 pub mod UpdateLeaves
 pub mod UpdateCounts

@@ -13,13 +13,13 @@ use Rattle.link_rules.specs.declared.link_idx.TrainIdx.{TrainIdx}
 use Rattle.disp_structs.specs.Train.{Train}
 use Rattle.disp_structs.specs.declared.Metres.{Metres}
 use Rattle.free_path.specs.Base.{Res, ok, no}
-use Rattle.free_path.specs.LinkOptType.{linksOnPath, contains, linkIdxPath, least, linkOptType, isNone, findTrainIntersect, calcIdxSentinels, plainly}
+use Rattle.free_path.specs.LinkOptType.{linksOnPath, contains, linkIdxPath, least, linkOptType, isNone, findTrainIntersect, Sentinels, calcIdxSentinels, plainly, trainMet}
 use Rattle.free_path.specs.declared.link_opt_type.LinkOptType.{LinkOptType}
 use Rattle.free_path.specs.declared.link_opt_type.LinkOptType.the-variants.{None, Single, Range, Check}
 use Rattle.free_path.proofs.ListLaws.{All}
 use Rattle.free_path.proofs.PlainLaws.{Link32, same-index}
 use Rattle.free_path.proofs.MapLaws.{map-id, id-map, bind-same}
-use Rattle.update_definition.specs.Update.{Given, apart, searchBegin, meeting, splitPoint, Entry, pathEnds, searches, beginAt, beginOf, endFrom, roundOf, stepsIn, roundSteps, straysOf}
+use Rattle.update_definition.specs.Update.{Given, apart, searchBegin, meeting, splitPoint, metBefore, roundMet, Entry, pathEnds, searches, beginAt, beginOf, endFrom, roundOf, stepsIn, roundSteps, straysOf}
 use Rattle.update_laws.proofs.RoundRenumbering.{given}
 
 apart-plain : (c : LinkOptType) (on : LinkIdx → Bool) → apart (plainly c) on ≡ apart c on
@@ -66,6 +66,14 @@ module _ (occ : List ℕ) (bs ls : List LinkIdx) (b : All Link32 bs) (z : occupi
           apart-plain class (contains (linksOnPath (t .«disp_path»))),
           find-plain (searchBegin split (t .«disp_node_idx_free») sentinel) sentinel (begins split (t .«disp_node_idx_free») sentinel),
         )
+
+    metBefore-plain : (split : ℕ) (x : Res Sentinels) → metBefore (g (plainly class)) t split x ≡ metBefore (g class) t split x
+    metBefore-plain split (no n) = refl
+    metBefore-plain split (ok y) = ap (trainMet (y .node) (linkIdxPath (t .«disp_path»)) occ) (splitPoint-plain split (y .node))
+
+    pub roundMet-plain : (split divSplit : ℕ) → roundMet (g (plainly class)) t split divSplit ≡ roundMet (g class) t split divSplit
+    unfolding roundMet
+    roundMet-plain split divSplit = metBefore-plain split (calcIdxSentinels divSplit moved (t .«div_nodes»))
 
     beginOf-plain : (split divSplit : ℕ) → beginOf (g (plainly class)) t split divSplit ≡ beginOf (g class) t split divSplit
     unfolding beginOf

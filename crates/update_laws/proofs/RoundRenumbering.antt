@@ -16,16 +16,16 @@ use Rattle.disp_structs.specs.declared.Metres.{Metres}
 use Rattle.disp_structs.specs.declared.DispNode.{DispNode}
 use Rattle.disp_structs.specs.declared.DivergeNode.{DivergeNode}
 use Rattle.free_path.specs.Base.{Res, ok, no, _>>=_, need, at, before}
-use Rattle.free_path.specs.LinkOptType.{linksOnPath, contains, linkIdxPath, Sentinels, calcIdxSentinels, plainly}
+use Rattle.free_path.specs.LinkOptType.{linksOnPath, contains, linkIdxPath, Sentinels, calcIdxSentinels, plainly, trainMet}
 use Rattle.free_path.specs.declared.link_opt_type.LinkOptType.{LinkOptType}
 use Rattle.free_path.specs.declared.link_opt_type.LinkOptType.the-variants.{None, Single, Range, Check}
 use Rattle.free_path.specs.Renumbered.{rClass}
-use Rattle.free_path.proofs.PathRenumbering.{contains-r, linksOnPath-r, linkIdxPath-r, findTrainIntersect-r, calcIdxSentinels-r}
+use Rattle.free_path.proofs.PathRenumbering.{contains-r, linksOnPath-r, linkIdxPath-r, findTrainIntersect-r, trainMet-r, calcIdxSentinels-r}
 use Rattle.free_path.proofs.MapLaws.{mapRes, map-id, id-map, bind-map, bind-same, need-map, cond-map, at-map, before-map, walkFrom-map}
 use Rattle.update_definition.specs.State.{Round, Search, Turn, goOn, ends, Ended, atEnd}
 use Rattle.update_definition.specs.Look.{Here, lookHere, storedTrains, occupiedNext, moveOf}
 use Rattle.update_definition.specs.Moves.{notFake}
-use Rattle.update_definition.specs.Update.{doMove, searchStep, searchFrom, stepsAfter, stepsFrom, turnLimit, Given, apart, searchBegin, meeting, splitPoint, atSentinel, divPoint, savePoint, searchAt, roundAt, Begin, Entry, pathEnds, searches, beginAt, beginOf, endFrom, roundOf, stepsIn, roundSteps}
+use Rattle.update_definition.specs.Update.{doMove, searchStep, searchFrom, stepsAfter, stepsFrom, turnLimit, Given, apart, searchBegin, meeting, splitPoint, metBefore, roundMet, atSentinel, divPoint, savePoint, searchAt, roundAt, Begin, Entry, pathEnds, searches, beginAt, beginOf, endFrom, roundOf, stepsIn, roundSteps}
 use Rattle.update_definition.specs.declared.Move.{Move}
 use Rattle.update_definition.specs.declared.Move.the-variants.{Rewind, Alternate, ChangeDiverge, PushSaved, BlockEmpty, Advance, Join}
 use Rattle.update_laws.proofs.StateRenumbering.{rRound, rSearch, rHere, rEnded, rTurn, noTrain-r}
@@ -170,6 +170,17 @@ module _ (p q : ℕ → ℕ) (topT : ℕ) (rq : Renumbering topT q) (occ occ′ 
         ap₂ (λ v x. cond v (ok sentinel) x)
         (apart-r p (plainly c) (contains (linksOnPath path)) (contains (linksOnPath (map (rNode p) path))) (onPathLinks-r (length occ - 1) p rp path))
         (meeting-r split sentinel)
+
+    metBefore-r : (split : ℕ) (x : Res Sentinels) → metBefore g′ (rTrainDisp p q t) split x ≡ rTrain q (metBefore g t split x)
+    metBefore-r split (no n) = sym (noTrain-r topT q rq)
+    metBefore-r split (ok z) =
+        ap₂ (λ ls x. trainMet (z .node) ls occ′ x) (linkIdxPath-r (length occ - 1) p rp path) (splitPoint-r split (z .node))
+        ∙ trainMet-r p q topT rq occ occ′ rp m (z .node) (linkIdxPath path) (splitPoint g t split (z .node))
+
+    -- the train met is renumbered
+    pub roundMet-r : (split divSplit : ℕ) → roundMet g′ (rTrainDisp p q t) split divSplit ≡ rTrain q (roundMet g t split divSplit)
+    unfolding roundMet
+    roundMet-r split divSplit = ap (metBefore g′ (rTrainDisp p q t) split) (calcIdxSentinels-r topT q rq divSplit moved (t .«div_nodes»)) ∙ metBefore-r split (calcIdxSentinels divSplit moved (t .«div_nodes»))
 
     beginAt-r : (split divSplit : ℕ) (z : Sentinels) → beginAt (rTrainDisp p q t) split divSplit z ≡ mapRes (rEntry p) (beginAt t split divSplit z)
     unfolding beginAt

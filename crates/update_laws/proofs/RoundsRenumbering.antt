@@ -25,11 +25,11 @@ use Rattle.free_path.proofs.MapLaws.{mapRes, cond-map}
 use Rattle.tally.specs.Tally.{counted, stepped}
 use Rattle.tally.specs.declared.Tally.{Tally}
 use Rattle.update_definition.specs.State.{Ended, atEnd, blockedAt, again}
-use Rattle.update_definition.specs.Update.{Given, Updated, Between, between, roundOf, straysOf, faultsOf, finish, afterRound, searched, roundSteps, due, roundsFrom}
-use Rattle.update_definition.specs.Renumbered.{rUpdated}
-use Rattle.update_laws.proofs.StateRenumbering.{rEnded}
-use Rattle.update_laws.proofs.RoundRenumbering.{given, roundOf-r, roundSteps-r}
-use Rattle.update_laws.proofs.PlainRound.{roundOf-plain, roundSteps-plain}
+use Rattle.update_definition.specs.Update.{Given, Updated, Between, between, roundOf, straysOf, faultsOf, finish, afterRound, searched, roundSteps, roundMet, firstMet, due, roundsFrom, answered}
+use Rattle.update_definition.specs.Renumbered.{rStatus}
+use Rattle.update_laws.proofs.StateRenumbering.{rEnded, noTrain-r}
+use Rattle.update_laws.proofs.RoundRenumbering.{given, roundOf-r, roundSteps-r, roundMet-r}
+use Rattle.update_laws.proofs.PlainRound.{roundOf-plain, roundSteps-plain, roundMet-plain}
 
 -- ---- the strays counted never fall
 
@@ -66,6 +66,10 @@ rounds-strays (suc k) g was w =
 abbrev pub rBetween : (ℕ → ℕ) → (ℕ → ℕ) → Between → Between
 rBetween p q w = between (rTrainDisp p q (w .train)) (w .«idx_split») (w .«div_idx_split») (w .tally)
 
+-- what the rounds answer, which have met no train yet, and the train
+abbrev pub rRan : (ℕ → ℕ) → (ℕ → ℕ) → Updated → Updated
+rRan p q u = answered (rStatus q (u .answer .status)) (u .answer .tally) (rTrainDisp p q (u .train))
+
 -- ---- the rounds
 
 module _ (p q : ℕ → ℕ) (topT : ℕ) (rq : Renumbering topT q) (occ occ′ : List ℕ) (rp : Renumbering (length occ - 1) p) (m : OccupanciesMatch p q occ occ′) (bs bs′ ls ls′ : List LinkIdx) (b : All Link32 bs) (b′ : All Link32 bs′)
@@ -101,18 +105,25 @@ module _ (p q : ℕ → ℕ) (topT : ℕ) (rq : Renumbering topT q) (occ occ′ 
       ∙ roundSteps-r p q topT rq occ occ′ rp m bs bs′ ls ls′ moved local lowest (linkOptType bs (contains ls)) t i d
       ∙ roundSteps-plain occ bs ls b z moved local lowest t s i d
 
+  met-r : (t : Train) → straysOf g t ≡ 0 → (i d : ℕ) → roundMet g′ (W t) i d ≡ rTrain q (roundMet g t i d)
+  met-r t s i d =
+      sym (roundMet-plain occ′ bs′ ls′ b′ z′ (rTrain q moved) local lowest (W t) (straysOf-r t ∙ s) i d)
+      ∙ ap (λ c. roundMet (given c occ′ bs′ ls′ (rTrain q moved) local lowest) (W t) i d) classes
+      ∙ roundMet-r p q topT rq occ occ′ rp m bs bs′ ls ls′ moved local lowest (linkOptType bs (contains ls)) t i d
+      ∙ ap (rTrain q) (roundMet-plain occ bs ls b z moved local lowest t s i d)
+
   searched-r : (w : Between) → straysOf g (w .train) ≡ 0 → searched g′ (rBetween p q w) ≡ rBetween p q (searched g w)
   searched-r w s = ap (λ n. between (W (w .train)) (w .«idx_split») (w .«div_idx_split») (stepped (w .tally) n)) (steps-r (w .train) s (w .«idx_split») (w .«div_idx_split»))
 
-  finish-r : (n : Res ℕ) (tally : Tally) (was t : Train) → finish n tally (W was) (W t) ≡ rUpdated p q (finish n tally was t)
+  finish-r : (n : Res ℕ) (tally : Tally) (was t : Train) → finish n tally (W was) (W t) ≡ rRan p q (finish n tally was t)
   unfolding finish
   finish-r (ok zero) tally was t = refl
   finish-r (ok (suc n)) tally was t = refl
   finish-r (no n) tally was t = refl
 
   after-r : (e : Res Ended) (next next′ : Between → Updated) (was : Train) (w : Between)
-      → ((x : Between) → straysOf g (x .train) ≤ x .tally .strays → straysIn (next x) ≡ 0 → next′ (rBetween p q x) ≡ rUpdated p q (next x))
-      → straysIn (afterRound e next g was w) ≡ 0 → afterRound (mapRes (rEnded p q) e) next′ g′ (W was) (rBetween p q w) ≡ rUpdated p q (afterRound e next g was w)
+      → ((x : Between) → straysOf g (x .train) ≤ x .tally .strays → straysIn (next x) ≡ 0 → next′ (rBetween p q x) ≡ rRan p q (next x))
+      → straysIn (afterRound e next g was w) ≡ 0 → afterRound (mapRes (rEnded p q) e) next′ g′ (W was) (rBetween p q w) ≡ rRan p q (afterRound e next g was w)
   unfolding afterRound
   after-r (no n) next next′ was w h s = refl
   after-r (ok atEnd) next next′ was w h s =
@@ -122,15 +133,19 @@ module _ (p q : ℕ → ℕ) (topT : ℕ) (rq : Renumbering topT q) (occ occ′ 
   after-r (ok (again t i d)) next next′ was w h s =
       ap (λ k. next′ (between (W t) i d (counted (w .tally) k))) (straysOf-r t) ∙ h (between t i d (counted (w .tally) (straysOf g t))) (omega arith) s
 
-  end-r : (was : Train) (w : Between) → finish (faultsOf g′ (W (w .train))) (w .tally) (W was) (W (w .train)) ≡ rUpdated p q (finish (faultsOf g (w .train)) (w .tally) was (w .train))
+  end-r : (was : Train) (w : Between) → finish (faultsOf g′ (W (w .train))) (w .tally) (W was) (W (w .train)) ≡ rRan p q (finish (faultsOf g (w .train)) (w .tally) was (w .train))
   end-r was w = ap (λ n. finish n (w .tally) (W was) (W (w .train))) (faultsOf-r (w .train)) ∙ finish-r (faultsOf g (w .train)) (w .tally) was (w .train)
 
   due-r : (w : Between) → due (rBetween p q w) ≡ due w
   due-r w = ap (ltb (w .«idx_split»)) (length-map (w .train .«disp_path») (rNode p))
 
-  pub rounds-r : (k : ℕ) (was : Train) (w : Between) → straysOf g (w .train) ≤ w .tally .strays → straysIn (roundsFrom k g was w) ≡ 0 → roundsFrom k g′ (W was) (rBetween p q w) ≡ rUpdated p q (roundsFrom k g was w)
+  -- the train that the first round meets
+  pub firstMet-r : (w : Between) → straysOf g (w .train) ≡ 0 → firstMet g′ (rBetween p q w) ≡ rTrain q (firstMet g w)
+  firstMet-r w s = cond-map (rTrain q) (due w) _ _ _ _ _ (due-r w) (met-r (w .train) s (w .«idx_split») (w .«div_idx_split»)) (sym (noTrain-r topT q rq))
+
+  pub rounds-r : (k : ℕ) (was : Train) (w : Between) → straysOf g (w .train) ≤ w .tally .strays → straysIn (roundsFrom k g was w) ≡ 0 → roundsFrom k g′ (W was) (rBetween p q w) ≡ rRan p q (roundsFrom k g was w)
   unfolding roundsFrom
-  rounds-r zero was w l s = cond-map (rUpdated p q) (due w) _ _ _ _ _ (due-r w) refl (end-r was w)
+  rounds-r zero was w l s = cond-map (rRan p q) (due w) _ _ _ _ _ (due-r w) refl (end-r was w)
   rounds-r (suc k) was w l s =
       ap (λ v. cond v more′ end′) (due-r w) ∙ go (due w) (round-r (w .train) none (w .«idx_split») (w .«div_idx_split»)) (searched-r w none) (rounds-r k was) s
     where
@@ -151,8 +166,8 @@ module _ (p q : ℕ → ℕ) (topT : ℕ) (rq : Renumbering topT q) (occ occ′ 
 
       go : (v : Bool) → roundOf g′ (W (w .train)) (w .«idx_split») (w .«div_idx_split») ≡ mapRes (rEnded p q) (roundOf g (w .train) (w .«idx_split») (w .«div_idx_split»))
           → searched g′ (rBetween p q w) ≡ rBetween p q (searched g w)
-          → ((x : Between) → straysOf g (x .train) ≤ x .tally .strays → straysIn (roundsFrom k g was x) ≡ 0 → roundsFrom k g′ (W was) (rBetween p q x) ≡ rUpdated p q (roundsFrom k g was x))
-          → straysIn (cond v more end) ≡ 0 → cond v more′ end′ ≡ rUpdated p q (cond v more end)
+          → ((x : Between) → straysOf g (x .train) ≤ x .tally .strays → straysIn (roundsFrom k g was x) ≡ 0 → roundsFrom k g′ (W was) (rBetween p q x) ≡ rRan p q (roundsFrom k g was x))
+          → straysIn (cond v more end) ≡ 0 → cond v more′ end′ ≡ rRan p q (cond v more end)
       go false e u ih h = end-r was w
       go true e u ih h =
           ap₂ (λ r v. afterRound r (λ x. roundsFrom k g′ (W was) x) g′ (W was) v) e u

@@ -426,3 +426,18 @@ saved-path-in =
 saved-path : digest (updateFreePath (0 ∷ 6 ∷ 0 ∷ 6 ∷ 0 ∷ 0 ∷ 3 ∷ 6 ∷ 0 ∷ 6 ∷ 0 ∷ 6 ∷ 6 ∷ 6 ∷ 6 ∷ 5 ∷ 5 ∷ 4 ∷ 37627 ∷ []) (link 1 ∷ link 5 ∷ link 11 ∷ []) (train 6) false 40 saved-path-in) ≡ (0 ∷ 0 ∷ 0 ∷ 2 ∷ 0 ∷ 7 ∷ 7 ∷ 1 ∷ 1 ∷ 0 ∷ 0 ∷ 0 ∷ 0 ∷ 0 ∷ 2 ∷ 4617315517961601024 ∷ 4616189618054758400 ∷ 10 ∷ 12 ∷ 0 ∷ 0 ∷ 4625759767262920704 ∷ 4621819117588971520 ∷ 17 ∷ 5 ∷ 0 ∷ 0 ∷ 4631811479262199808 ∷ 4622945017495814144 ∷ 10 ∷ 7 ∷ 0 ∷ 1 ∷ 4631811479262199808 ∷ 4622945017495814144 ∷ 0 ∷ 2 ∷ 0 ∷ 2 ∷ 4631858391758318251 ∷ 4625196817309499392 ∷ 9 ∷ 3 ∷ 0 ∷ 0 ∷ 4634931160254076246 ∷ 4629418941960159232 ∷ 1 ∷ 11 ∷ 0 ∷ 0 ∷ 4636620010114340182 ∷ 9218868437227405312 ∷ 0 ∷ 4 ∷ 0 ∷ 2 ∷ 0 ∷ 0 ∷ 6 ∷ 4 ∷ 6 ∷ 8 ∷ [])
 unfolding everything saved-path-in
 saved-path = refl
+
+-- ---- the train met in the first round (document 02, Q-14): train 9 on link 2
+
+met-success : updateFreePath (0 ∷ 0 ∷ 9 ∷ 0 ∷ 0 ∷ []) (link 2 ∷ []) (train 9) false 5 siding-taken-in .answer .met ≡ train 9
+unfolding everything siding-taken-in
+met-success = refl
+
+met-blocked : updateFreePath (0 ∷ 0 ∷ 9 ∷ 8 ∷ 0 ∷ []) (link 2 ∷ []) (train 9) false 5 siding-blocked-in .answer .met ≡ train 9
+unfolding everything siding-blocked-in
+met-blocked = refl
+
+-- refused by 12
+met-refused : updateFreePath (0 ∷ 0 ∷ 9 ∷ 0 ∷ 0 ∷ []) (link 2 ∷ []) (train 9) false 1 siding-limit-in .answer .met ≡ train 0
+unfolding everything siding-limit-in
+met-refused = refl

@@ -7,7 +7,7 @@ use Prim.Native.Nat.{ℕ, _-_, _≤_, _<_}
 use native.Mathlib.Omega.{arith}
 use lib.ListN.{length}
 use borrow.Author.Tests.{eq-eqb}
-use Rattle.link_rules.specs.LinkIdx.{noLink, sameLink, occupied}
+use Rattle.link_rules.specs.LinkIdx.{noLink, noTrain, sameLink, occupied}
 use Rattle.link_rules.specs.Renumbering.{Renumbering, rLink, rTrain}
 use Rattle.link_rules.specs.declared.link_idx.LinkIdx.{LinkIdx}
 use Rattle.link_rules.specs.declared.link_idx.TrainIdx.{TrainIdx}
@@ -27,10 +27,11 @@ use Rattle.free_path.proofs.PlainLaws.{Link32}
 use Rattle.free_path.proofs.MapLaws.{mapRes, at-map}
 use Rattle.tally.specs.Tally.{started}
 use Rattle.update_definition.specs.State.{withDivNodes}
-use Rattle.update_definition.specs.Update.{Given, Between, between, roundsFrom, adjustSentinel, givenOf, startOf, updateFrom, updateFreePath}
-use Rattle.update_definition.specs.Renumbered.{TwoNumberings, rUpdated}
+use Rattle.update_definition.specs.Update.{Given, Between, between, roundsFrom, adjustSentinel, givenOf, startOf, updateFrom, updateFreePath, Status, Success, Blocked, Faulty, Refused, Updated, refused, metIn, meets, firstMet}
+use Rattle.update_definition.specs.Renumbered.{TwoNumberings, rStatus, rUpdated}
+use Rattle.update_laws.proofs.StateRenumbering.{noTrain-r}
 use Rattle.update_laws.proofs.RoundRenumbering.{onPathLinks-r}
-use Rattle.update_laws.proofs.RoundsRenumbering.{rBetween, straysOf-r, rounds-r}
+use Rattle.update_laws.proofs.RoundsRenumbering.{rBetween, rRan, straysOf-r, rounds-strays, firstMet-r, rounds-r}
 
 -- ---- what follows of the second list and the second occupancy
 
@@ -62,6 +63,17 @@ unfolding adjustSentinel
 adjustSentinel-r q m [] = refl
 adjustSentinel-r q m (d ∷ []) = refl
 adjustSentinel-r q m (d ∷ (e ∷ es)) = ap (λ x. rDiv q d ∷ x) (adjustSentinel-r q m (e ∷ es))
+
+-- the train met in an answer
+met-in : (top : ℕ) (q : ℕ → ℕ) → Renumbering top q → (s : Status) (x : TrainIdx) → metIn (rStatus q s) (rTrain q x) ≡ rTrain q (metIn s x)
+met-in top q rq Success x = refl
+met-in top q rq (Blocked holder) x = refl
+met-in top q rq (Faulty n) x = refl
+met-in top q rq (Refused r) x = sym (noTrain-r top q rq)
+
+meets-r : (top : ℕ) (p q : ℕ → ℕ) → Renumbering top q → (x : TrainIdx) (u : Updated) → meets (rTrain q x) (rRan p q u) ≡ rUpdated p q (meets x u)
+meets-r top p q rq x u =
+    ap (λ (y : TrainIdx). record { answer = record { status = rStatus q (u .answer .status); tally = u .answer .tally; met = y }; train = rTrainDisp p q (u .train) }) (met-in top q rq (u .answer .status) x)
 
 -- ---- the update, by the first node of its free path
 
@@ -108,16 +120,22 @@ module _ (top : ℕ) (p q : ℕ → ℕ) (occ occ′ : List ℕ) (blocking block
         ap₂ startWith (adjustSentinel-r q moved (t .«div_nodes»))
         (straysOf-r p q top (n .trains) occ occ′ rp (n .occupancies) blocking blocking′ on on′ b b′ (n .zero-empty) z′ moved local (g .«offset_lowest») classes knowns t)
 
-    started-r : roundsFrom limit g t (startOf g t) .answer .tally .strays ≡ 0 → roundsFrom limit g′ (rTrainDisp p q t) (startOf g′ (rTrainDisp p q t)) ≡ rUpdated p q (roundsFrom limit g t (startOf g t))
+    started-r : roundsFrom limit g t (startOf g t) .answer .tally .strays ≡ 0 → roundsFrom limit g′ (rTrainDisp p q t) (startOf g′ (rTrainDisp p q t)) ≡ rRan p q (roundsFrom limit g t (startOf g t))
     unfolding strays
     started-r s =
         ap (roundsFrom limit g′ (rTrainDisp p q t)) start-r
         ∙ rounds-r p q top (n .trains) occ occ′ rp (n .occupancies) blocking blocking′ on on′ b b′ (n .zero-empty) z′ moved local (g .«offset_lowest») classes knowns limit t (startOf g t) (omega arith) s
 
+    first-r : roundsFrom limit g t (startOf g t) .answer .tally .strays ≡ 0 → firstMet g′ (startOf g′ (rTrainDisp p q t)) ≡ rTrain q (firstMet g (startOf g t))
+    unfolding strays
+    first-r s =
+        ap (firstMet g′) start-r
+        ∙ firstMet-r p q top (n .trains) occ occ′ rp (n .occupancies) blocking blocking′ on on′ b b′ (n .zero-empty) z′ moved local (g .«offset_lowest») classes knowns (startOf g t) (omega (arith, s, rounds-strays limit g t (startOf g t)))
+
   from-r : (x : Res DispNode) → updateFrom x occ blocking moved local limit t .answer .tally .strays ≡ 0
       → updateFrom (mapRes (rNode p) x) occ′ blocking′ (rTrain q moved) local limit (rTrainDisp p q t) ≡ rUpdated p q (updateFrom x occ blocking moved local limit t)
-  from-r (no k) s = refl
-  from-r (ok first) s = started-r first s
+  from-r (no k) s = meets-r top p q (n .trains) noTrain (refused 10 (started 0) t)
+  from-r (ok first) s = ap₂ meets (first-r first s) (started-r first s) ∙ meets-r top p q (n .trains) (firstMet (g first) (startOf (g first) t)) (roundsFrom limit (g first) t (startOf (g first) t))
 
 -- ---- the theorem
 

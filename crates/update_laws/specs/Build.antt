@@ -22,7 +22,7 @@ use Rattle.update_definition.specs.State.{pushTrains, pushNode, pushDivs, diver
 use Rattle.update_definition.specs.Look.{lookFrom, blockBy, storedFrom, blockStored, takeStored, storedTrains, occupiedNext, moveOf}
 use Rattle.update_definition.specs.Moves.{shiftSave, rewindDivs, oneBack, rewind, alternate, changeDiverge, pushSaved, blockEmpty, advance}
 use Rattle.update_definition.specs.Join.{without, removeLinks, insertLinks, shiftOffsets, moveEnds, newEnds, updateFreePathHelpers, shiftDivs, updateDivNodes, freeIsCorrect, spliceAt, join}
-use Rattle.update_definition.specs.Update.{Updated, Status, Success, Blocked, Faulty, Refused, searchStep, searchFrom, stepsFrom, meeting, splitPoint, beginAt, beginOf, roundOf, roundSteps, finish, afterRound, roundsFrom, adjustSentinel, updateFreePath}
+use Rattle.update_definition.specs.Update.{Updated, Status, Success, Blocked, Faulty, Refused, searchStep, searchFrom, stepsFrom, meeting, splitPoint, roundMet, beginAt, beginOf, roundOf, roundSteps, finish, afterRound, roundsFrom, adjustSentinel, updateFreePath}
 
 abbrev pub link : ℕ → LinkIdx
 link n = record { 0 = n }
@@ -89,5 +89,5 @@ digest u =
 
 -- what a case computes with: `unfolding everything` unfolds all of it
 unfoldable pub everything : ℕ
-unfolding nodeNumbers divNumbers digest ofBits toBits add sub div neg lt le eq isNan at slice stepsTo walkFrom walkBack passes count any sameEvent arriving occupied inReach magnitude nearFloat maximumNumber onPath pushTrains blockBy pushNode diverging pushDivs linksOnPath contains classWalk linkOptType calcIdxSentinels findTrainIntersect poolPush addOne addFrom closed addBlockingTrains addAllBlockingTrains concatTrainIdxViews lookFrom storedFrom blockStored takeStored storedTrains occupiedNext moveOf shiftSave rewindDivs oneBack rewind alternate changeDiverge pushSaved blockEmpty advance without removeLinks insertLinks shiftOffsets moveEnds newEnds updateFreePathHelpers shiftDivs updateDivNodes freeIsCorrect spliceAt join isStray strays stepsNext stepsAlt badStep badSteps inConflict validateFreePath searchStep searchFrom stepsFrom meeting splitPoint beginAt beginOf roundOf roundSteps finish afterRound roundsFrom adjustSentinel updateFreePath
+unfolding nodeNumbers divNumbers digest ofBits toBits add sub div neg lt le eq isNan at slice stepsTo walkFrom walkBack passes count any sameEvent arriving occupied inReach magnitude nearFloat maximumNumber onPath pushTrains blockBy pushNode diverging pushDivs linksOnPath contains classWalk linkOptType calcIdxSentinels findTrainIntersect poolPush addOne addFrom closed addBlockingTrains addAllBlockingTrains concatTrainIdxViews lookFrom storedFrom blockStored takeStored storedTrains occupiedNext moveOf shiftSave rewindDivs oneBack rewind alternate changeDiverge pushSaved blockEmpty advance without removeLinks insertLinks shiftOffsets moveEnds newEnds updateFreePathHelpers shiftDivs updateDivNodes freeIsCorrect spliceAt join isStray strays stepsNext stepsAlt badStep badSteps inConflict validateFreePath searchStep searchFrom stepsFrom meeting splitPoint roundMet beginAt beginOf roundOf roundSteps finish afterRound roundsFrom adjustSentinel updateFreePath
 everything = 0

@@ -30,22 +30,23 @@ use Rattle.yard_check.proofs.SlotLaws.{some, many-same, many-renumbered
 use Rattle.yard_check.proofs.YardLaws.{fits, slots-after, part-bytes, part-done}
 use Rattle.yard_check.proofs.VisitLaws.{images-fit}
 use Rattle.yard_check.proofs.CheckLaws.{taken, taken-done, slots-within}
+use Rattle.yard_check.proofs.RowLaws.{slot-met}
 use Rattle.yard_check.proofs.ReportLaws.{keptRow, report-length, report-row}
 use Rattle.yard_check.proofs.VisitMatch.{VisitsMatch, visit-match, visited-slot}
 
 -- ---- the holder of a row is one that the image holds
 
-holder-row : (s : Status) (rounds strays : ℕ) → statusRow s rounds strays .holder ≤ holderIn s
-holder-row Success rounds strays = omega arith
-holder-row (Blocked holder) rounds strays = omega arith
-holder-row (Faulty n) rounds strays = omega arith
-holder-row (Refused r) rounds strays = omega arith
+holder-row : (s : Status) (rounds strays met : ℕ) → statusRow s rounds strays met .holder ≤ holderIn s
+holder-row Success rounds strays met = omega arith
+holder-row (Blocked holder) rounds strays met = omega arith
+holder-row (Faulty n) rounds strays met = omega arith
+holder-row (Refused r) rounds strays met = omega arith
 
 holder-by : (n : ℕ) (f : Refusal) (isDone isMoved : Bool) (u : UpdatedImage) (img : List ℕ) → visitBy n f isDone isMoved u img .row .holder ≤ holderIn (u .answer .status)
 holder-by (suc n) f isDone isMoved u img = omega arith
 holder-by zero f true isMoved u img = omega arith
 holder-by zero f false true u img = omega arith
-holder-by zero f false false u img = holder-row (u .answer .status) (u .answer .tally .rounds) (u .answer .tally .strays)
+holder-by zero f false false u img = holder-row (u .answer .status) (u .answer .tally .rounds) (u .answer .tally .strays) (u .answer .met .0)
 
 holder-few : (occ : List ℕ) (a : CheckArgs) (t : ℕ) (img : List ℕ) → Bytes img → TrainsWithin (largestTrain img) occ (a .moved) → visited occ a t img .row .holder ≤ largestTrain img
 unfolding visited
@@ -59,17 +60,17 @@ renumbers-more top more q l r = record { one-to-one = r .one-to-one; zero-stays 
 
 -- ---- the strays of a row fit the report
 
-strays-row : (s : Status) (rounds strays : ℕ) → statusRow s rounds strays .strays ≤ strays
-strays-row Success rounds strays = omega arith
-strays-row (Blocked holder) rounds strays = omega arith
-strays-row (Faulty n) rounds strays = omega arith
-strays-row (Refused r) rounds strays = omega arith
+strays-row : (s : Status) (rounds strays met : ℕ) → statusRow s rounds strays met .strays ≤ strays
+strays-row Success rounds strays met = omega arith
+strays-row (Blocked holder) rounds strays met = omega arith
+strays-row (Faulty n) rounds strays met = omega arith
+strays-row (Refused r) rounds strays met = omega arith
 
 strays-by : (n : ℕ) (f : Refusal) (isDone isMoved : Bool) (u : UpdatedImage) (img : List ℕ) → visitBy n f isDone isMoved u img .row .strays ≤ u .answer .tally .strays
 strays-by (suc n) f isDone isMoved u img = omega arith
 strays-by zero f true isMoved u img = omega arith
 strays-by zero f false true u img = omega arith
-strays-by zero f false false u img = strays-row (u .answer .status) (u .answer .tally .rounds) (u .answer .tally .strays)
+strays-by zero f false false u img = strays-row (u .answer .status) (u .answer .tally .rounds) (u .answer .tally .strays) (u .answer .met .0)
 
 strays-few : (occ : List ℕ) (a : CheckArgs) (t : ℕ) (img : List ℕ) → Bytes img → a .limit < 65536 → visited occ a t img .row .strays < 4294967296
 unfolding visited
@@ -77,11 +78,13 @@ strays-few occ a t img b h =
     omega (arith, image-counts img occ (a .blocking) (a .moved) (a .local) (a .limit) b .strays, strays-by (imageFault img (length occ) .number) (imageFault img (length occ)) (isFinished img) (eqb t (a .moved)) (updatedImage img occ (a .blocking) (a .moved) (a .local) (a .limit)) img)
 
 -- what the report keeps of a renumbered row
-kept-renumbered : (q : ℕ → ℕ) (r : Row) → r .holder < 65536 → q (r .holder) < 65536 → keptRow (rRow q r) ≡ rRow q (keptRow r)
-kept-renumbered q r h k =
+kept-renumbered : (q : ℕ → ℕ) (r : Row) → r .holder < 65536 → q (r .holder) < 65536 → r .met < 65536 → q (r .met) < 65536 → keptRow (rRow q r) ≡ rRow q (keptRow r)
+kept-renumbered q r h k l n =
     let a : q (r .holder) % 65536 ≡ q (r .holder) = omega arith in
     let b : r .holder % 65536 ≡ r .holder = omega arith in
-    rw (a, b)
+    let c : q (r .met) % 4294967296 ≡ q (r .met) = omega arith in
+    let d : r .met % 4294967296 ≡ r .met = omega arith in
+    rw (a, b, c, d)
 
 -- ---- answers
 
@@ -173,16 +176,20 @@ module _ (top : ℕ) (p q : ℕ → ℕ) (yard yard′ occ occ′ : List ℕ) (a
             holder-few occ a t (partOf yard t) (part-bytes yard (fits yard ok) t l k b) (slots-within top yard occ (a .moved) (fits yard ok) (taken yard occ a (length report) clean .moved) held w t l k),
           )
 
+      met-low : (t : ℕ) → 1 ≤ t → t ≤ S → row t .met < 65536
+      met-low t l k = omega (arith, held t l k, slot-met top occ w a t yard)
+
       reports : ReportsMatch q S (reportAfter row report S) (reportAfter row′ report′ (slotCount yard′))
       reports =
           record {
             long = report-length row′ report′ (slotCount yard′) ∙ (long ∙ sym (report-length row report S));
             rows = λ t l k.
                 let low = holder-low t l k in
+                let few = met-low t l k in
                 let trains-65535 = renumbers-more top 65535 q (omega (arith, held t l k)) trains in
                 report-row row′ report′ (slotCount yard′) (omega (arith, m .slots, long, report-long)) (q t) (slot t l k .0) (slot t l k .1)
                 ∙ (ap keptRow (slots-match t l k .row)
-                ∙ (kept-renumbered q (row t) low (below 65536 q trains-65535 (row t .holder) low)
+                ∙ (kept-renumbered q (row t) low (below 65536 q trains-65535 (row t .holder) low) few (below 65536 q trains-65535 (row t .met) few)
                 ∙ ap (rRow q) (sym (report-row row report S (omega (arith, report-long)) t l k))));
           }
 

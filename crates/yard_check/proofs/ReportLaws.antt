@@ -23,6 +23,7 @@ keptRow r =
       holder = r .holder % 65536;
       strays = r .strays % 4294967296;
       faults = r .faults % 4294967296;
+      met = r .met % 4294967296;
     }
 
 two-kept : (x k : ℕ) (bs : List ℕ) → k + 2 ≤ length bs → leAt 2 (putLe 2 x k bs) k ≡ x % 65536
@@ -34,12 +35,13 @@ four-kept x k bs h = ap (λ (c : List ℕ). leAt 4 c k) (sym (put-mod 4 x k bs))
 row-writes : (r : Row) (k : ℕ) → Writes k (k + rowSize) (putRow r k)
 unfolding putRow
 row-writes r k =
-    then (then (then (then (then (put-to 2 (r .code) k (k + 2) refl)
+    then (then (then (then (then (then (put-to 2 (r .code) k (k + 2) refl)
     (put-to 2 (r .place) (k + 2) (k + 4) (omega arith)) (omega arith) (omega arith))
     (put-to 2 (r .rounds) (k + 4) (k + 6) (omega arith)) (omega arith) (omega arith))
     (put-to 2 (r .holder) (k + 6) (k + 8) (omega arith)) (omega arith) (omega arith))
     (put-to 4 (r .strays) (k + 8) (k + 12) (omega arith)) (omega arith) (omega arith))
-    (put-to 4 (r .faults) (k + 12) (k + 16) (omega arith)) (omega arith) (omega arith)
+    (put-to 4 (r .faults) (k + 12) (k + 16) (omega arith)) (omega arith) (omega arith))
+    (put-to 4 (r .met) (k + 16) (k + 20) (omega arith)) (omega arith) (omega arith)
 
 row-cong : (bs cs : List ℕ) (k : ℕ) → ((i : ℕ) → k ≤ i → i < k + rowSize → getD bs i 0 ≡ getD cs i 0) → rowFrom bs k ≡ rowFrom cs k
 unfolding rowFrom
@@ -51,6 +53,7 @@ row-cong bs cs k h =
       le-cong 2 bs cs (k + 6) (λ i l m. h i (omega arith) (omega arith)),
       le-cong 4 bs cs (k + 8) (λ i l m. h i (omega arith) (omega arith)),
       le-cong 4 bs cs (k + 12) (λ i l m. h i (omega arith) (omega arith)),
+      le-cong 4 bs cs (k + 16) (λ i l m. h i (omega arith) (omega arith)),
     )
 
 row-read : (r : Row) (k : ℕ) (bs : List ℕ) → k + rowSize ≤ length bs → rowFrom (putRow r k bs) k ≡ keptRow r
@@ -61,23 +64,27 @@ row-read r k bs h =
     let b3 = putLe 2 (r .rounds) (k + 4) b2 in
     let b4 = putLe 2 (r .holder) (k + 6) b3 in
     let b5 = putLe 4 (r .strays) (k + 8) b4 in
+    let b6 = putLe 4 (r .faults) (k + 12) b5 in
     let l1 : length b1 ≡ length bs = simp length-put in
     let l2 : length b2 ≡ length bs = simp length-put in
     let l3 : length b3 ≡ length bs = simp length-put in
     let l4 : length b4 ≡ length bs = simp length-put in
     let l5 : length b5 ≡ length bs = simp length-put in
+    let l6 : length b6 ≡ length bs = simp length-put in
     let o2 : (j v : ℕ) → j + v ≤ k + 2 → leAt v b2 j ≡ leAt v b1 j = λ j v l. le-put-other v 2 (r .place) (k + 2) b1 j (inl l) in
     let o3 : (j v : ℕ) → j + v ≤ k + 4 → leAt v b3 j ≡ leAt v b2 j = λ j v l. le-put-other v 2 (r .rounds) (k + 4) b2 j (inl l) in
     let o4 : (j v : ℕ) → j + v ≤ k + 6 → leAt v b4 j ≡ leAt v b3 j = λ j v l. le-put-other v 2 (r .holder) (k + 6) b3 j (inl l) in
     let o5 : (j v : ℕ) → j + v ≤ k + 8 → leAt v b5 j ≡ leAt v b4 j = λ j v l. le-put-other v 4 (r .strays) (k + 8) b4 j (inl l) in
-    let o6 : (j v : ℕ) → j + v ≤ k + 12 → leAt v (putLe 4 (r .faults) (k + 12) b5) j ≡ leAt v b5 j = λ j v l. le-put-other v 4 (r .faults) (k + 12) b5 j (inl l) in
+    let o6 : (j v : ℕ) → j + v ≤ k + 12 → leAt v b6 j ≡ leAt v b5 j = λ j v l. le-put-other v 4 (r .faults) (k + 12) b5 j (inl l) in
+    let o7 : (j v : ℕ) → j + v ≤ k + 16 → leAt v (putLe 4 (r .met) (k + 16) b6) j ≡ leAt v b6 j = λ j v l. le-put-other v 4 (r .met) (k + 16) b6 j (inl l) in
     rw (
-      o6 k 2 (omega arith) ∙ (o5 k 2 (omega arith) ∙ (o4 k 2 (omega arith) ∙ (o3 k 2 (omega arith) ∙ (o2 k 2 (omega arith) ∙ two-kept (r .code) k bs (omega arith))))),
-      o6 (k + 2) 2 (omega arith) ∙ (o5 (k + 2) 2 (omega arith) ∙ (o4 (k + 2) 2 (omega arith) ∙ (o3 (k + 2) 2 (omega arith) ∙ two-kept (r .place) (k + 2) b1 (omega arith)))),
-      o6 (k + 4) 2 (omega arith) ∙ (o5 (k + 4) 2 (omega arith) ∙ (o4 (k + 4) 2 (omega arith) ∙ two-kept (r .rounds) (k + 4) b2 (omega arith))),
-      o6 (k + 6) 2 (omega arith) ∙ (o5 (k + 6) 2 (omega arith) ∙ two-kept (r .holder) (k + 6) b3 (omega arith)),
-      o6 (k + 8) 4 (omega arith) ∙ four-kept (r .strays) (k + 8) b4 (omega arith),
-      four-kept (r .faults) (k + 12) b5 (omega arith),
+      o7 k 2 (omega arith) ∙ (o6 k 2 (omega arith) ∙ (o5 k 2 (omega arith) ∙ (o4 k 2 (omega arith) ∙ (o3 k 2 (omega arith) ∙ (o2 k 2 (omega arith) ∙ two-kept (r .code) k bs (omega arith)))))),
+      o7 (k + 2) 2 (omega arith) ∙ (o6 (k + 2) 2 (omega arith) ∙ (o5 (k + 2) 2 (omega arith) ∙ (o4 (k + 2) 2 (omega arith) ∙ (o3 (k + 2) 2 (omega arith) ∙ two-kept (r .place) (k + 2) b1 (omega arith))))),
+      o7 (k + 4) 2 (omega arith) ∙ (o6 (k + 4) 2 (omega arith) ∙ (o5 (k + 4) 2 (omega arith) ∙ (o4 (k + 4) 2 (omega arith) ∙ two-kept (r .rounds) (k + 4) b2 (omega arith)))),
+      o7 (k + 6) 2 (omega arith) ∙ (o6 (k + 6) 2 (omega arith) ∙ (o5 (k + 6) 2 (omega arith) ∙ two-kept (r .holder) (k + 6) b3 (omega arith))),
+      o7 (k + 8) 4 (omega arith) ∙ (o6 (k + 8) 4 (omega arith) ∙ four-kept (r .strays) (k + 8) b4 (omega arith)),
+      o7 (k + 12) 4 (omega arith) ∙ four-kept (r .faults) (k + 12) b5 (omega arith),
+      four-kept (r .met) (k + 16) b6 (omega arith),
     )
 
 -- ---- the report with the rows of slots 1 to n

@@ -1,19 +1,23 @@
 -- The row of a visit, as the code finds it: its columns have room, and the refusals 6 to 9 of a slot that is updated are those of its update. Assumes nothing.
 use mathlib.Core.Path.{_≡_, refl, sym, ap, _∙_}
-use mathlib.Core.Bool.{Bool, true, false}
+use mathlib.Core.Bool.{Bool, true, false, cond}
 use mathlib.Core.List.{List}
 use Prim.Native.Nat.{ℕ, zero, suc, _≤_, _<_}
 use native.Mathlib.Omega.{arith}
+use lib.Dec.{ltb, eqb}
 use lib.ListN.{length}
 use Rattle.link_rules.proofs.OctetLaws.{Bytes}
 use Rattle.link_rules.specs.declared.refusal.Refusal.{Refusal}
 use Rattle.image_fault.specs.ImageFault.{imageFault}
 use Rattle.update_definition.specs.Update.{Status, Success, Blocked, Faulty, Refused}
 use Rattle.update_definition.specs.UpdateImage.{UpdatedImage, callFault, updatedImage}
+use Rattle.update_definition.specs.Fits.{TrainsUpTo}
 use Rattle.update_laws.proofs.TallyBounds.{StatusFew}
+use Rattle.update_laws.proofs.TrainsMet.{image-met}
 use Rattle.update_laws.proofs.UpdateCounts.{image-counts}
 use Rattle.update_laws.proofs.RefusalNumbers.{update-low, refused-update}
-use Rattle.yard_check.specs.Check.{CheckArgs, refusedRow, updatedRow, isFinished, visit, visited}
+use Rattle.yard_check.specs.Check.{CheckArgs, unvisitedRow, refusedRow, statusRow, updatedRow, isFinished, visit, visitBy, visited, slotVisit, slotRow}
+use Rattle.yard_check.specs.Yard.{partOf}
 use Rattle.yard_check.specs.Checks.{staysRow, StatusFits, ColumnsFit}
 use Rattle.yard_check.proofs.CheckLaws.{visit-refused, visit-finished, visit-moved, visit-updated}
 
@@ -32,6 +36,35 @@ module _ (img occ blocking : List ℕ) (moved : ℕ) (local : Bool) (limit : ℕ
   columns-fit b l =
       let c = image-counts img occ blocking moved local limit b in
       (fits-by (u .answer .status) (c .errors) (update-low img occ blocking moved local limit call), omega (arith, c .strays))
+
+-- ---- the train met in a row is one of the occupancy, or 0
+
+met-row : (s : Status) (rounds strays met : ℕ) → statusRow s rounds strays met .met ≤ met
+met-row Success rounds strays met = omega arith
+met-row (Blocked holder) rounds strays met = omega arith
+met-row (Faulty n) rounds strays met = omega arith
+met-row (Refused r) rounds strays met = omega arith
+
+met-by : (n : ℕ) (f : Refusal) (isDone isMoved : Bool) (u : UpdatedImage) (img : List ℕ) → visitBy n f isDone isMoved u img .row .met ≤ u .answer .met .0
+met-by (suc n) f isDone isMoved u img = omega arith
+met-by zero f true isMoved u img = omega arith
+met-by zero f false true u img = omega arith
+met-by zero f false false u img = met-row (u .answer .status) (u .answer .tally .rounds) (u .answer .tally .strays) (u .answer .met .0)
+
+module _ (top : ℕ) (occ : List ℕ) (h : TrainsUpTo top occ) (a : CheckArgs) (t : ℕ) where
+  visit-met : (img : List ℕ) → visited occ a t img .row .met ≤ top
+  unfolding visited
+  visit-met img =
+      let u = updatedImage img occ (a .blocking) (a .moved) (a .local) (a .limit) in
+      omega (arith, met-by (imageFault img (length occ) .number) (imageFault img (length occ)) (isFinished img) (eqb t (a .moved)) u img, image-met top occ h img (a .blocking) (a .moved) (a .local) (a .limit))
+
+  pub slot-met : (yard : List ℕ) → slotRow yard occ a t .met ≤ top
+  unfolding slotVisit
+  slot-met yard = go (ltb t (a .begin))
+    where
+      go : (b : Bool) → cond b (visit unvisitedRow (partOf yard t)) (visited occ a t (partOf yard t)) .row .met ≤ top
+      go true = omega arith
+      go false = visit-met (partOf yard t)
 
 -- ---- the visit
 

@@ -33,12 +33,12 @@ unfolding everything slot rowFrom partsFit bundleFits reportSlots checkedBundle 
 sheets = 0
 
 -- document 01's example
-example : sheetText (bundle 0) ≡ ascii "yard 2 deadlock no next 1\n1 success 1 0 0 0 0\n2 moved 0 0 0 0 0\n"
+example : sheetText (bundle 0) ≡ ascii "yard 2 deadlock no next 1\n1 success 1 0 0 0 0 0\n2 moved 0 0 0 0 0 0\n"
 unfolding sheets
 example = refl
 
 -- link 1 is held: a stray before the round and after it, and one error
-errs : sheetText (bundle 9) ≡ ascii "yard 2 erred 1\n1 faulty 1 0 2 1 0\n2 moved 0 0 0 0 0\n"
+errs : sheetText (bundle 9) ≡ ascii "yard 2 erred 1\n1 faulty 1 0 2 1 0 0\n2 moved 0 0 0 0 0 0\n"
 unfolding sheets
 errs = refl
 

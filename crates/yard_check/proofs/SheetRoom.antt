@@ -1,14 +1,17 @@
--- Every sheet fits into 4,096 bytes: a first line and at most 63 lines of at most 55 bytes. Assumes nothing.
+-- Every sheet fits into 4,096 bytes: a first line and at most 63 lines of at most 61 bytes, where the bundle is of bytes. Assumes nothing.
 use mathlib.Core.Path.{_≡_, refl, sym, ap, subst⁻¹, _∙_}
 use mathlib.Core.Bool.{Bool, true, false, cond, not, _&&_, _||_}
 use mathlib.Core.List.{List}
 use Prim.Native.Nat.{ℕ, zero, suc, _+_, _*_, _-_, _^_, _≤_, _<_}
 use native.Mathlib.Omega.{arith}
-use lib.Dec.{leb, eqb}
-use lib.ListN.{length, length-append}
-use borrow.Author.Tests.{leb-true, eqb-true}
+use lib.Dec.{ltb, leb, eqb}
+use lib.ListN.{length, getD, length-append}
+use borrow.Author.Tests.{ltb-true, ltb-false, leb-true, eqb-true}
 use Rattle.link_rules.specs.Octets.{leAt}
+use Rattle.link_rules.proofs.OctetLaws.{Bytes, le-lt}
 use Rattle.disp_structs.specs.Listed.{listed}
+use Rattle.disp_structs.proofs.ListedLaws.{listed-length, listed-at}
+use Rattle.search.proofs.ListedLaws.{getD-out}
 use Rattle.image.specs.Image.{pathCount, pathHeader}
 use Rattle.image_reader.specs.Reader.{freeOf}
 use Rattle.image_fault.specs.ImageFault.{imageFault, distFits, indicesFit, headerFits}
@@ -16,12 +19,14 @@ use Rattle.link_rules.specs.Refusals.{noRefusal, refused, orElse}
 use Rattle.link_rules.specs.declared.refusal.Refusal.{Refusal}
 use Rattle.image_fault.proofs.ScanLaws.{both}
 use Rattle.image_fault.proofs.AcceptLaws.{accepted, fits-counts, clean-header}
+use Rattle.update_definition.specs.Fits.{TrainsUpTo}
 use Rattle.update_definition.specs.UpdateImage.{linksBelow, callFault}
 use Rattle.yard_check.specs.Yard.{slotCount, partOf, yardFits, yardFault}
 use Rattle.yard_check.specs.Check.{CheckArgs, rowSize, slotsFault, reportFault, checkFault, Row, isFinishedRow, isBlockedRow, isErredRow, rowAt, slotRow, howMany, firstNot, answerBy, answerOf, Checked, checkDone, checkedBy, checkedWith}
-use Rattle.yard_check.specs.Sheet.{bundleFits, checkedBundle, occupancyCount, codeWord, refusedWord, refusedLine, firstLine, freeColumn, slotLine, slotLines, checkText, checkLines, sheetText}
+use Rattle.yard_check.specs.Sheet.{bundleFits, checkedBundle, bundleOccupancy, occupancyCount, codeWord, refusedWord, refusedLine, firstLine, freeColumn, slotLine, slotLines, checkText, checkLines, sheetText}
 use Rattle.text.specs.Ascii.{ascii, column}
 use Rattle.yard_check.proofs.YardLaws.{fits}
+use Rattle.yard_check.proofs.RowLaws.{slot-met}
 use Rattle.yard_check.proofs.ReportLaws.{report-row}
 use Rattle.yard_check.proofs.CheckLaws.{taken, taken-done, slots-kept}
 use Rattle.text.proofs.DecimalLaws.{decimal-length}
@@ -48,15 +53,16 @@ word-long c h =
     (either-long (eqb c 4) (ascii "blocked") _ (omega arith)
     (either-long (eqb c 5) (ascii "faulty") (refusedWord (c - 16)) (omega arith) last)))))
 
--- what 2 and 4 bytes hold
+-- what 2 and 4 bytes hold; the train met is an entry of the occupancy
 record Small (r : Row) : Type 0 where
   code : r .code < 65536
   rounds : r .rounds < 65536
   holder : r .holder < 65536
   strays : r .strays < 4294967296
   faults : r .faults < 4294967296
+  met : r .met < 65536
 
-line-long : (t free : ℕ) (r : Row) → t ≤ 63 → free ≤ 512 → Small r → length (slotLine t r free) ≤ 55
+line-long : (t free : ℕ) (r : Row) → t ≤ 63 → free ≤ 512 → Small r → length (slotLine t r free) ≤ 61
 unfolding slotLine
 line-long t free r h l s =
     let a = decimal-length 1 t (omega arith) in
@@ -66,6 +72,7 @@ line-long t free r h l s =
     let e = column-long 9 (r .strays) (omega (arith, s .strays)) in
     let f = column-long 9 (r .faults) (omega (arith, s .faults)) in
     let g = column-long 2 free (omega arith) in
+    let i = column-long 4 (r .met) (omega (arith, s .met)) in
     simp length-append (omega arith)
 
 -- free of an image that passes 6 to 9 is at most N
@@ -88,7 +95,7 @@ free-few img links = go (eqb (imageFault img links .number) 0) refl
     go true e = free-within img links (eqb-true (imageFault img links .number) 0 e)
     go false e = omega arith
 
-lines-long : (yard report : List ℕ) (links n : ℕ) → n ≤ 63 → ((t : ℕ) → 1 ≤ t → t ≤ n → Small (rowAt report t)) → length (slotLines yard report links n) ≤ 55 * n
+lines-long : (yard report : List ℕ) (links n : ℕ) → n ≤ 63 → ((t : ℕ) → 1 ≤ t → t ≤ n → Small (rowAt report t)) → length (slotLines yard report links n) ≤ 61 * n
 unfolding slotLines
 lines-long yard report links zero h s = omega arith
 lines-long yard report links (suc n) h s =
@@ -116,7 +123,7 @@ first-near test (suc k) t = go (test t) (first-near test k (t + 1))
     go true h = omega arith
     go false h = omega arith
 
-first-long : (rows : ℕ → Row) (slots begin : ℕ) (lines : List ℕ) → slots ≤ 63 → begin ≤ 64 → length lines ≤ 3465
+first-long : (rows : ℕ → Row) (slots begin : ℕ) (lines : List ℕ) → slots ≤ 63 → begin ≤ 64 → length lines ≤ 3843
     → length (checkText (answerOf rows slots begin) (firstLine (answerOf rows slots begin) slots) lines) ≤ 4096
 unfolding answerOf ascii listed
 first-long rows slots begin lines h l k =
@@ -160,7 +167,7 @@ fault-few yard occ a long =
     (or-few (slotsFault S a) (reportFault S long) (one-of (leb (a .moved) S && (leb 1 (a .begin) && leb (a .begin) (S + 1))) noRefusal (refused 15 0) (omega arith) (omega arith))
     (one-of (eqb long (rowSize * S)) noRefusal (refused 16 0) (omega arith) (omega arith))))
 
-module _ (yard occ : List ℕ) (a : CheckArgs) (report : List ℕ) (links : ℕ) where
+module _ (yard occ : List ℕ) (u : TrainsUpTo 65535 occ) (a : CheckArgs) (report : List ℕ) (links : ℕ) where
   abbrev f : Refusal
   f = checkFault yard occ a (length report)
 
@@ -173,7 +180,7 @@ module _ (yard occ : List ℕ) (a : CheckArgs) (report : List ℕ) (links : ℕ)
   row-small : (t : ℕ) → rowSize * slotCount yard ≤ length report → 1 ≤ t → t ≤ slotCount yard → Small (rowAt (done .report) t)
   row-small t h l k =
       subst⁻¹ Small (report-row rows report (slotCount yard) h t l k)
-      (record { code = omega arith; rounds = omega arith; holder = omega arith; strays = omega arith; faults = omega arith })
+      (record { code = omega arith; rounds = omega arith; holder = omega arith; strays = omega arith; faults = omega arith; met = omega (arith, slot-met 65535 occ u a t yard) })
 
   done-long : f .number ≡ 0 → length (checkLines done links) ≤ 4096
   unfolding checkLines
@@ -192,11 +199,22 @@ module _ (yard occ : List ℕ) (a : CheckArgs) (report : List ℕ) (links : ℕ)
       go zero e = done-long e
       go (suc n) e = refused-long (f .number) (fault-few yard occ a (length report))
 
+-- an occupancy of u16 entries
+occupancy-low : (b : List ℕ) → Bytes b → TrainsUpTo 65535 (bundleOccupancy b)
+occupancy-low b h i = go (ltb i (occupancyCount b)) refl
+  where
+    entry : (j : ℕ) → leAt 2 b (32 + 2 * j) < 65536
+    entry j = le-lt 2 b (32 + 2 * j) h
+
+    go : (t : Bool) → ltb i (occupancyCount b) ≡ t → getD (bundleOccupancy b) i 0 ≤ 65535
+    go true e = omega (arith, listed-at (occupancyCount b) (λ j. leAt 2 b (32 + 2 * j)) i 0 (ltb-true i (occupancyCount b) e), entry i)
+    go false e = omega (arith, getD-out (bundleOccupancy b) i 0 (omega (arith, ltb-false i (occupancyCount b) e, listed-length (occupancyCount b) (λ j. leAt 2 b (32 + 2 * j)))))
+
 -- the room that the program lends
-pub sheet-room : (b : List ℕ) → length (sheetText b) ≤ 4096
+pub sheet-room : (b : List ℕ) → Bytes b → length (sheetText b) ≤ 4096
 unfolding sheetText checkedBundle
-sheet-room b = go (bundleFits b)
+sheet-room b h = go (bundleFits b)
   where
     go : (t : Bool) → length {A = ℕ} (elim t [ true ↦ checkLines (checkedBundle b) (occupancyCount b) | false ↦ refusedLine 17 ]) ≤ 4096
-    go true = check-long _ _ _ _ (occupancyCount b)
+    go true = check-long _ _ (occupancy-low b h) _ _ (occupancyCount b)
     go false = refused-long 17 (omega arith)

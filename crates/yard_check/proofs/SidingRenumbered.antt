@@ -63,7 +63,7 @@ second = record { table = table 2; occupancy = 0 ∷ 0 ∷ 0 ∷ 0 ∷ []; yard 
 abbrev calls : List Call
 calls =
     mark (record { 0 = 3 }) (record { 0 = 2 })
-    ∷ check (record { blocking = 1 ∷ 3 ∷ []; moved = 2; begin = 1; local = false; limit = 5 }) (replicate 32 255)
+    ∷ check (record { blocking = 1 ∷ 3 ∷ []; moved = 2; begin = 1; local = false; limit = 5 }) (replicate 40 255)
     ∷ mark (record { 0 = 3 }) (record { 0 = 0 })
     ∷ []
 
@@ -71,7 +71,7 @@ calls =
 abbrev calls′ : List Call
 calls′ =
     mark (record { 0 = 3 }) (record { 0 = 1 })
-    ∷ check (record { blocking = 3 ∷ 2 ∷ []; moved = 1; begin = 1; local = false; limit = 5 }) (replicate 32 0)
+    ∷ check (record { blocking = 3 ∷ 2 ∷ []; moved = 1; begin = 1; local = false; limit = 5 }) (replicate 40 0)
     ∷ mark (record { 0 = 3 }) (record { 0 = 0 })
     ∷ []
 
@@ -86,7 +86,7 @@ world = 0
 diverts :
     runAll first calls
     ≡ record { answer = marked Marked; world = record { table = table 1; occupancy = 0 ∷ 2 ∷ 0 ∷ 2 ∷ []; yard = twoSlots 400 (siding 1 2 1 2) (plain 2 1 3) } }
-    ∷ record { answer = checked (Done false 1) (words (3 ∷ 2 ∷ 0 ∷ 0 ∷ 2 ∷ 0 ∷ 0 ∷ 0 ∷ [])); world = record { table = table 1; occupancy = 0 ∷ 2 ∷ 0 ∷ 2 ∷ []; yard = twoSlots 400 (diverted 1 2 1 2) (plain 2 1 3) } }
+    ∷ record { answer = checked (Done false 1) (words (3 ∷ 2 ∷ 0 ∷ 0 ∷ 2 ∷ 2 ∷ 0 ∷ 0 ∷ 0 ∷ 0 ∷ [])); world = record { table = table 1; occupancy = 0 ∷ 2 ∷ 0 ∷ 2 ∷ []; yard = twoSlots 400 (diverted 1 2 1 2) (plain 2 1 3) } }
     ∷ record { answer = marked Marked; world = record { table = table 1; occupancy = 0 ∷ 0 ∷ 0 ∷ 0 ∷ []; yard = twoSlots 400 (diverted 1 2 1 2) (plain 2 1 3) } }
     ∷ []
 unfolding world
@@ -95,7 +95,7 @@ diverts = refl
 diverts′ :
     runAll second calls′
     ≡ record { answer = marked Marked; world = record { table = table 2; occupancy = 0 ∷ 0 ∷ 1 ∷ 1 ∷ []; yard = twoSlots 200 (plain 1 2 3) (siding 2 1 2 1) } }
-    ∷ record { answer = checked (Done false 1) (words (2 ∷ 0 ∷ 0 ∷ 0 ∷ 3 ∷ 2 ∷ 0 ∷ 0 ∷ [])); world = record { table = table 2; occupancy = 0 ∷ 0 ∷ 1 ∷ 1 ∷ []; yard = twoSlots 200 (plain 1 2 3) (diverted 2 1 2 1) } }
+    ∷ record { answer = checked (Done false 1) (words (2 ∷ 0 ∷ 0 ∷ 0 ∷ 0 ∷ 3 ∷ 2 ∷ 0 ∷ 0 ∷ 1 ∷ [])); world = record { table = table 2; occupancy = 0 ∷ 0 ∷ 1 ∷ 1 ∷ []; yard = twoSlots 200 (plain 1 2 3) (diverted 2 1 2 1) } }
     ∷ record { answer = marked Marked; world = record { table = table 2; occupancy = 0 ∷ 0 ∷ 0 ∷ 0 ∷ []; yard = twoSlots 200 (plain 1 2 3) (diverted 2 1 2 1) } }
     ∷ []
 unfolding world

@@ -69,11 +69,11 @@ module _ (P : Row → List ℕ → Type 0) (img : List ℕ) (u : UpdatedImage) (
   visit-by zero f false false = after
 
 -- an update whose row says refused is refused
-refused-row : (X : Type 0) (s : Status) (rounds strays : ℕ) → ((r : Refusal) → s ≡ Refused r → X) → 16 ≤ statusRow s rounds strays .code → X
-refused-row X Success rounds strays f h = absurd (omega arith)
-refused-row X (Blocked holder) rounds strays f h = absurd (omega arith)
-refused-row X (Faulty n) rounds strays f h = absurd (omega arith)
-refused-row X (Refused r) rounds strays f h = f r refl
+refused-row : (X : Type 0) (s : Status) (rounds strays met : ℕ) → ((r : Refusal) → s ≡ Refused r → X) → 16 ≤ statusRow s rounds strays met .code → X
+refused-row X Success rounds strays met f h = absurd (omega arith)
+refused-row X (Blocked holder) rounds strays met f h = absurd (omega arith)
+refused-row X (Faulty n) rounds strays met f h = absurd (omega arith)
+refused-row X (Refused r) rounds strays met f h = f r refl
 
 module _ (occ : List ℕ) (a : CheckArgs) (t : ℕ) (img : List ℕ) where
   abbrev u : UpdatedImage
@@ -101,7 +101,7 @@ module _ (occ : List ℕ) (a : CheckArgs) (t : ℕ) (img : List ℕ) where
   visit-refused : 16 ≤ visited occ a t img .row .code → visited occ a t img .image ≡ img
   visit-refused =
       by (λ r x. 16 ≤ r .code → x ≡ img) (λ r h. refl)
-      (refused-row (u .image ≡ img) (u .answer .status) (u .answer .tally .rounds) (u .answer .tally .strays) (refused-leaves img occ (a .blocking) (a .moved) (a .local) (a .limit)))
+      (refused-row (u .image ≡ img) (u .answer .status) (u .answer .tally .rounds) (u .answer .tally .strays) (u .answer .met .0) (refused-leaves img occ (a .blocking) (a .moved) (a .local) (a .limit)))
 
 -- ---- of a slot, visited or not
 

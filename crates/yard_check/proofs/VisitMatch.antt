@@ -32,33 +32,40 @@ pub record VisitsMatch (p q : ℕ → ℕ) (v v′ : Visit) : Type 0 where
   pub image : ImagesMatch p q (v .image) (v′ .image)
 
 -- where the holder is 0
-no-holder : (q : ℕ → ℕ) → q 0 ≡ 0 → (code place rounds strays faults : ℕ)
-    → _≡_ {A = Row} (record { code = code; place = place; rounds = rounds; holder = 0; strays = strays; faults = faults })
-    (record { code = code; place = place; rounds = rounds; holder = q 0; strays = strays; faults = faults })
-no-holder q e code place rounds strays faults =
-    ap (λ (h : ℕ). record { code = code; place = place; rounds = rounds; holder = h; strays = strays; faults = faults }) (sym e)
+no-holder : (q : ℕ → ℕ) → q 0 ≡ 0 → (code place rounds strays faults met : ℕ)
+    → _≡_ {A = Row} (record { code = code; place = place; rounds = rounds; holder = 0; strays = strays; faults = faults; met = met })
+    (record { code = code; place = place; rounds = rounds; holder = q 0; strays = strays; faults = faults; met = met })
+no-holder q e code place rounds strays faults met =
+    ap (λ (h : ℕ). record { code = code; place = place; rounds = rounds; holder = h; strays = strays; faults = faults; met = met }) (sym e)
 
-row-match : (q : ℕ → ℕ) → q 0 ≡ 0 → (s : Status) (rounds strays : ℕ) → statusRow (rStatus q s) rounds strays ≡ rRow q (statusRow s rounds strays)
-row-match q e Success rounds strays = no-holder q e 3 0 rounds strays 0
-row-match q e (Blocked holder) rounds strays = refl
-row-match q e (Faulty n) rounds strays = no-holder q e 5 0 rounds strays n
-row-match q e (Refused r) rounds strays = no-holder q e _ (r .place) rounds strays 0
+-- where no train was met either
+no-trains : (q : ℕ → ℕ) → q 0 ≡ 0 → (code place rounds strays faults : ℕ)
+    → _≡_ {A = Row} (record { code = code; place = place; rounds = rounds; holder = 0; strays = strays; faults = faults; met = 0 })
+    (record { code = code; place = place; rounds = rounds; holder = q 0; strays = strays; faults = faults; met = q 0 })
+no-trains q e code place rounds strays faults =
+    ap (λ (h : ℕ). record { code = code; place = place; rounds = rounds; holder = h; strays = strays; faults = faults; met = h }) (sym e)
 
-row-strays : (s : Status) (rounds strays : ℕ) → statusRow s rounds strays .strays ≡ strays
-row-strays Success rounds strays = refl
-row-strays (Blocked holder) rounds strays = refl
-row-strays (Faulty n) rounds strays = refl
-row-strays (Refused r) rounds strays = refl
+row-match : (q : ℕ → ℕ) → q 0 ≡ 0 → (s : Status) (rounds strays met : ℕ) → statusRow (rStatus q s) rounds strays (q met) ≡ rRow q (statusRow s rounds strays met)
+row-match q e Success rounds strays met = no-holder q e 3 0 rounds strays 0 (q met)
+row-match q e (Blocked holder) rounds strays met = refl
+row-match q e (Faulty n) rounds strays met = no-holder q e 5 0 rounds strays n (q met)
+row-match q e (Refused r) rounds strays met = no-trains q e _ (r .place) rounds strays 0
+
+row-strays : (s : Status) (rounds strays met : ℕ) → statusRow s rounds strays met .strays ≡ strays
+row-strays Success rounds strays met = refl
+row-strays (Blocked holder) rounds strays met = refl
+row-strays (Faulty n) rounds strays met = refl
+row-strays (Refused r) rounds strays met = refl
 
 module _ (p q : ℕ → ℕ) (zero-stays : q 0 ≡ 0) (img img′ : List ℕ) (m : ImagesMatch p q img img′) (u u′ : UpdatedImage) where
   visit-by : (n : ℕ) (f : Refusal) (isDone isMoved : Bool) → (u .answer .tally .strays ≡ 0 → UpdatesMatch p q u u′) → visitBy n f isDone isMoved u img .row .strays ≡ 0
       → VisitsMatch p q (visitBy n f isDone isMoved u img) (visitBy n f isDone isMoved u′ img′)
-  visit-by (suc n) f isDone isMoved h s = record { row = no-holder q zero-stays _ (f .place) 0 0 0; image = m }
-  visit-by zero f true isMoved h s = record { row = no-holder q zero-stays 1 0 0 0 0; image = m }
-  visit-by zero f false true h s = record { row = no-holder q zero-stays 2 0 0 0 0; image = m }
+  visit-by (suc n) f isDone isMoved h s = record { row = no-trains q zero-stays _ (f .place) 0 0 0; image = m }
+  visit-by zero f true isMoved h s = record { row = no-trains q zero-stays 1 0 0 0 0; image = m }
+  visit-by zero f false true h s = record { row = no-trains q zero-stays 2 0 0 0 0; image = m }
   visit-by zero f false false h s =
-      let k = h (sym (row-strays (u .answer .status) (u .answer .tally .rounds) (u .answer .tally .strays)) ∙ s) in
-      record { row = rw (k .answer) (row-match q zero-stays (u .answer .status) (u .answer .tally .rounds) (u .answer .tally .strays)); image = k .images }
+      let k = h (sym (row-strays (u .answer .status) (u .answer .tally .rounds) (u .answer .tally .strays) (u .answer .met .0)) ∙ s) in
+      record { row = rw (k .answer) (row-match q zero-stays (u .answer .status) (u .answer .tally .rounds) (u .answer .tally .strays) (u .answer .met .0)); image = k .images }
 
 finished-match : (p q : ℕ → ℕ) (img img′ : List ℕ) → ImagesMatch p q img img′ → isFinished img′ ≡ isFinished img
 unfolding isFinished

@@ -22,11 +22,11 @@ pub record CheckArgs : Type 0 where
   pub local : Bool
   pub limit : ℕ
 
--- ---- where a report's records and their columns stand (document 01): u16 code, u16 place, rounds, holder; u32 strays, faults
+-- ---- where a report's records and their columns stand (documents 01 and 02, Q-14): u16 code, u16 place, rounds, holder; u32 strays, faults, met
 
 -- bytes of a record
 abbrev pub rowSize : ℕ
-rowSize = 16
+rowSize = 20
 
 -- where the record of slot t stands
 abbrev pub rowPlace : ℕ → ℕ
@@ -50,6 +50,9 @@ straysAt k = k + 8
 
 abbrev pub faultsAt : ℕ → ℕ
 faultsAt k = k + 12
+
+abbrev pub metAt : ℕ → ℕ
+metAt k = k + 16
 
 -- ---- refusals 2, 4, 5, 14, 15 and 16, in this order, with place 0
 
@@ -78,10 +81,12 @@ pub record Row : Type 0 where
   pub holder : ℕ
   pub strays : ℕ
   pub faults : ℕ
+  -- met (document 02, Q-14): the train met in the first round of an update that is not refused
+  pub met : ℕ
 
 -- columns that don't apply are 0
 abbrev pub plainRow : ℕ → Row
-plainRow code = record { code = code; place = 0; rounds = 0; holder = 0; strays = 0; faults = 0 }
+plainRow code = record { code = code; place = 0; rounds = 0; holder = 0; strays = 0; faults = 0; met = 0 }
 
 abbrev pub unvisitedRow : Row
 unvisitedRow = plainRow 0
@@ -93,18 +98,18 @@ abbrev pub movedRow : Row
 movedRow = plainRow 2
 
 abbrev pub refusedRow : Refusal → ℕ → ℕ → Row
-refusedRow f rounds strays = record { code = 16 + f .number; place = f .place; rounds = rounds; holder = 0; strays = strays; faults = 0 }
+refusedRow f rounds strays = record { code = 16 + f .number; place = f .place; rounds = rounds; holder = 0; strays = strays; faults = 0; met = 0 }
 
 -- holder (document 02, Q-3): the train by which a slot is blocked, else 0
-abbrev pub statusRow : Status → ℕ → ℕ → Row
-statusRow Success rounds strays = record { code = 3; place = 0; rounds = rounds; holder = 0; strays = strays; faults = 0 }
-statusRow (Blocked holder) rounds strays = record { code = 4; place = 0; rounds = rounds; holder = holder .0; strays = strays; faults = 0 }
-statusRow (Faulty n) rounds strays = record { code = 5; place = 0; rounds = rounds; holder = 0; strays = strays; faults = n }
-statusRow (UpdateRefused f) rounds strays = refusedRow f rounds strays
+abbrev pub statusRow : Status → ℕ → ℕ → ℕ → Row
+statusRow Success rounds strays met = record { code = 3; place = 0; rounds = rounds; holder = 0; strays = strays; faults = 0; met = met }
+statusRow (Blocked holder) rounds strays met = record { code = 4; place = 0; rounds = rounds; holder = holder .0; strays = strays; faults = 0; met = met }
+statusRow (Faulty n) rounds strays met = record { code = 5; place = 0; rounds = rounds; holder = 0; strays = strays; faults = n; met = met }
+statusRow (UpdateRefused f) rounds strays met = refusedRow f rounds strays
 
 -- of a slot that was updated, from the update's answer
 abbrev pub updatedRow : UpdateAnswer → Row
-updatedRow u = statusRow (u .status) (u .tally .rounds) (u .tally .strays)
+updatedRow u = statusRow (u .status) (u .tally .rounds) (u .tally .strays) (u .met .0)
 
 abbrev pub isFinishedRow : Row → Bool
 isFinishedRow r = eqb (r .code) 1
@@ -119,12 +124,13 @@ isErredRow r = leb 5 (r .code)
 -- a row in the record from k on, written and read
 unfoldable pub putRow : Row → ℕ → List ℕ → List ℕ
 putRow r k bs =
-    putLe 4 (r .faults) (faultsAt k)
+    putLe 4 (r .met) (metAt k)
+    (putLe 4 (r .faults) (faultsAt k)
     (putLe 4 (r .strays) (straysAt k)
     (putLe 2 (r .holder) (holderAt k)
     (putLe 2 (r .rounds) (roundsAt k)
     (putLe 2 (r .place) (placeAt k)
-    (putLe 2 (r .code) (codeAt k) bs)))))
+    (putLe 2 (r .code) (codeAt k) bs))))))
 
 unfoldable pub rowFrom : List ℕ → ℕ → Row
 rowFrom bs k =
@@ -135,6 +141,7 @@ rowFrom bs k =
       holder = leAt 2 bs (holderAt k);
       strays = leAt 4 bs (straysAt k);
       faults = leAt 4 bs (faultsAt k);
+      met = leAt 4 bs (metAt k);
     }
 
 -- the report's record of slot t

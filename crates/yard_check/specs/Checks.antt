@@ -21,7 +21,7 @@ abbrev pub argsOf : List ℕ → Args → CheckArgs
 argsOf blocking a = record { blocking = blocking; moved = a .moved .0; begin = a .begin; local = a .local; limit = a .limit }
 
 abbrev pub rowOf : Columns.Row → Row
-rowOf r = record { code = r .code; place = r .place; rounds = r .rounds; holder = r .holder .0; strays = r .strays; faults = r .faults }
+rowOf r = record { code = r .code; place = r .place; rounds = r .rounds; holder = r .holder .0; strays = r .strays; faults = r .faults; met = r .met .0 }
 
 abbrev pub answeredOf : Code.Answer → Answer
 answeredOf (Answers.Refused r) = Refused r

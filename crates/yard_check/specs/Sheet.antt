@@ -81,9 +81,9 @@ yesOrNo false = ascii "no"
 unfoldable pub freeColumn : List ℕ → ℕ → ℕ
 freeColumn img links = cond (eqb (imageFault img links .number) 0) (freeOf img) 0
 
--- rounds, holder, strays, faults, free
+-- rounds, holder, strays, faults, free, met
 abbrev pub rowColumns : Row → ℕ → List ℕ
-rowColumns r free = column (r .rounds) ++ (column (r .holder) ++ (column (r .strays) ++ (column (r .faults) ++ (column free ++ lineEnd))))
+rowColumns r free = column (r .rounds) ++ (column (r .holder) ++ (column (r .strays) ++ (column (r .faults) ++ (column free ++ (column (r .met) ++ lineEnd)))))
 
 -- slot, code word and the columns
 unfoldable pub slotLine : ℕ → Row → ℕ → List ℕ

@@ -18,9 +18,9 @@ pub record YardsMatch (p q : ℕ → ℕ) (yard yard′ : List ℕ) : Type 0 whe
   pub slots : slotCount yard′ ≡ slotCount yard
   pub images : (t : ℕ) → 1 ≤ t → t ≤ slotCount yard → ImagesMatch p q (partOf yard t) (partOf yard′ (q t))
 
--- the same code, place, rounds, strays and faults, and the renumbered holder
+-- the same code, place, rounds, strays and faults, and the renumbered holder and train met
 abbrev pub rRow : (ℕ → ℕ) → Row → Row
-rRow q r = record { code = r .code; place = r .place; rounds = r .rounds; holder = q (r .holder); strays = r .strays; faults = r .faults }
+rRow q r = record { code = r .code; place = r .place; rounds = r .rounds; holder = q (r .holder); strays = r .strays; faults = r .faults; met = q (r .met) }
 
 -- the renumbered slot's record
 pub record ReportsMatch (q : ℕ → ℕ) (slots : ℕ) (report report′ : List ℕ) : Type 0 where

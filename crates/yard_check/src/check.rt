@@ -49,6 +49,7 @@ pub(crate) struct Row {
     pub holder: TrainIdx,
     pub strays: u32,
     pub faults: u32,
+    pub met: TrainIdx,
 }
 
 // The slots that erred, those that are blocked, and the first one that is not finished.
@@ -89,7 +90,7 @@ fn slots_fault(slots: u32, a: Args) -> Refusal
 fn report_fault(slots: u32, long: usize) -> Refusal
     ensures { λ r. ⌜ r ≡ Check.reportFault slots long ⌝ }
 {
-    if long != 16 * (slots as usize) {
+    if long != 20 * (slots as usize) {
         return fault(16);
     }
     fault(0)
@@ -130,6 +131,7 @@ fn plain_row(code: u16) -> Row
         holder: TrainIdx(0),
         strays: 0,
         faults: 0,
+        met: TrainIdx(0),
     }
 }
 
@@ -144,14 +146,16 @@ fn refused_row(f: Refusal, rounds: u16, strays: u32) -> Row
         holder: TrainIdx(0),
         strays: strays,
         faults: 0,
+        met: TrainIdx(0),
     }
 }
 
 // Success, blocked or faulty.
 fn worked_row(code: u16, u: Updated, holder: TrainIdx, faults: u32) -> Row
     requires { ⌜ u .tally .strays < 4294967296 ⌝ }
-    ensures { λ r. ⌜ rowOf r ≡ record { code = code; place = 0; rounds = u .tally .rounds; holder = holder .0; strays = u .tally .strays; faults = faults } ⌝ }
+    ensures { λ r. ⌜ rowOf r ≡ record { code = code; place = 0; rounds = u .tally .rounds; holder = holder .0; strays = u .tally .strays; faults = faults; met = u .met .0 } ⌝ }
 {
+    let met = u.met;
     Row {
         code: code,
         place: 0,
@@ -159,6 +163,7 @@ fn worked_row(code: u16, u: Updated, holder: TrainIdx, faults: u32) -> Row
         holder: holder,
         strays: u.tally.strays as u32,
         faults: faults,
+        met: met,
     }
 }
 
@@ -177,7 +182,7 @@ fn updated_row(u: Updated) -> Row
 
 // Of a holder above 65,535 the low 16 bits are written.
 fn put_row(report: &mut [u8], at: usize, r: Row)
-    requires { ⌜ at ≤ 1008 ⌝ }
+    requires { ⌜ at ≤ 1240 ⌝ }
     ensures { λ _. ⌜ now (report .exit) ≡ Check.putRow (rowOf r) at (now (report .entry)) ⌝ }
 {
     octets::put_u16(report, at, r.code);
@@ -186,6 +191,7 @@ fn put_row(report: &mut [u8], at: usize, r: Row)
     octets::put_u16(report, at + 6, (r.holder.0 % 65536) as u16);
     octets::put_u32(report, at + 8, r.strays);
     octets::put_u32(report, at + 12, r.faults);
+    octets::put_u32(report, at + 16, r.met.0);
 }
 
 // ---- the visit to a slot (dispatch.rs 61-81)
@@ -283,7 +289,7 @@ fn visits(yard: &mut [u8], occ: &[u32], blocking: &[u32], a: Args, report: &mut 
     let mut n: u16 = 0;
     while n < slots {
         let r = slot_visit(yard, occ, blocking, a, n + 1);
-        put_row(report, 16 * (n as usize), r);
+        put_row(report, 20 * (n as usize), r);
         y = tallied(y, r, n + 1);
         n += 1;
     }

@@ -73,9 +73,9 @@ fn free_column(image: &[u8], links: u32) -> u16
     0
 }
 
-// The columns behind the code word: rounds, holder, strays, faults of the report's row, and free.
+// The columns behind the code word: rounds, holder, strays, faults of the report's row, free, and met of that row.
 fn put_columns(text: &mut [u8], count: usize, report: &[u8], at: usize, free: u16) -> usize
-    requires { ⌜ at ≤ 1048560 ⌝ }
+    requires { ⌜ at ≤ 1310700 ⌝ }
     ensures { λ r. ⌜ Put (rowColumns (rowFrom (now (report .entry)) at) free) (textOf count (now (text .entry))) (textOf r (now (text .exit))) ⌝ }
 {
     let a = text::put_column(text, count, octets::u16_at(report, at + 4) as u32);
@@ -83,14 +83,15 @@ fn put_columns(text: &mut [u8], count: usize, report: &[u8], at: usize, free: u1
     let c = text::put_column(text, b, octets::u32_at(report, at + 8));
     let d = text::put_column(text, c, octets::u32_at(report, at + 12));
     let e = text::put_column(text, d, free as u32);
-    text::put_byte(text, e, 10)
+    let f = text::put_column(text, e, octets::u32_at(report, at + 16));
+    text::put_byte(text, f, 10)
 }
 
 // The line of slot i + 1.
 fn put_slot_line(text: &mut [u8], count: usize, i: u16, report: &[u8], free: u16) -> usize
     ensures { λ r. ⌜ Put (slotLine (i + 1) (rowFrom (now (report .entry)) (rowSize * i)) free) (textOf count (now (text .entry))) (textOf r (now (text .exit))) ⌝ }
 {
-    let at = 16 * (i as usize);
+    let at = 20 * (i as usize);
     let a = text::put_decimal(text, count, (i as u32) + 1);
     let b = text::put_byte(text, a, 32);
     let c = put_code_word(text, b, octets::u16_at(report, at));
@@ -216,10 +217,10 @@ fn yard_room() -> [u8; 65504]
     [0u8; 65504]
 }
 
-fn blank_report() -> [u8; 1008]
-    ensures { λ r. ⌜ r ≡ replicate 1008 0 ⌝ }
+fn blank_report() -> [u8; 1260]
+    ensures { λ r. ⌜ r ≡ replicate 1260 0 ⌝ }
 {
-    [0u8; 1008]
+    [0u8; 1260]
 }
 
 fn put_bundle(text: &mut [u8], bundle: &[u8]) -> usize
@@ -234,7 +235,7 @@ fn put_bundle(text: &mut [u8], bundle: &[u8]) -> usize
     let count = octets::u32_at(bundle, 16) as usize;
     let at = octets::u32_at(bundle, 20) as usize;
     let size = bundle.len() - at;
-    let rows = 16 * (bundle::report_slots(&bundle[at..]) as usize);
+    let rows = 20 * (bundle::report_slots(&bundle[at..]) as usize);
     put_checked(
         text,
         bundle,

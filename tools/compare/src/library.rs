@@ -91,15 +91,18 @@ fn update(case: &mut Case) {
     };
     let mut answer = vec![0; lavtoeu::layout::UPDATE_WORDS];
     let (number, place) = numbers(lavtoeu::update_into(&mut image, told, &mut answer));
-    let [code, errors, rounds, strays, steps, holder] = answer[..] else { panic!("{} words", answer.len()) };
+    let [code, errors, rounds, strays, steps, holder, met] = answer[..] else {
+        panic!("{} words", answer.len())
+    };
     let kind = match code {
         // only a faulty one has errors, only a blocked one a holder
         3..=5 if number == 0 && (code == 5 || errors == 0) && (code == 4 || holder == 0) => code as u32 - 3,
         _ if number != 0 && code == 16 + number as u64 && errors + holder == 0 => 3,
         _ => u32::MAX,
     };
-    case.answer =
-        [kind, number, place, small(errors + holder), small(rounds), small(strays), small(steps), 0];
+    let counts = [rounds, strays, steps, met].map(small);
+    case.answer[..4].copy_from_slice(&[kind, number, place, small(errors + holder)]);
+    case.answer[4..].copy_from_slice(&counts);
     case.outs = [image, vec![]];
 }
 

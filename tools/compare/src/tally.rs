@@ -4,18 +4,21 @@ use crate::library;
 use crate::updates::Source;
 use oracle::cases::{Case, CHECK, PAGE, UPDATE};
 use oracle::layout::read_image;
-use oracle::model::{LINKS, ROW};
+use oracle::model::{row_at, LINKS, ROW};
 use std::collections::BTreeMap;
 
 /// The number of cases whose answers differ, how many were refused by each number (0: by none), how updates and checks
-/// ended, how often a slot of a check has each code, how many updates came from each generator, and of pages how many lines
-/// there were and at how many the offset is an exact half of a metre.
+/// ended, how often a slot of a check has each code, in how many updates and slots a train was met and in how many of them
+/// another than the moved one, how many updates came from each generator, and of pages how many lines there were and at how
+/// many the offset is an exact half of a metre.
 #[derive(Default)]
 pub struct Tally {
     pub differ: u64,
     refused: BTreeMap<u32, u64>,
     ends: BTreeMap<&'static str, u64>,
-    codes: BTreeMap<u8, u64>,
+    codes: BTreeMap<u16, u64>,
+    met: u64,
+    met_others: u64,
     sources: BTreeMap<Source, u64>,
     lines: u64,
     halves: u64,
@@ -48,7 +51,11 @@ impl Tally {
         let number = judged.answer[library::number_at(judged.op)];
         count(&mut self.refused, number);
         if judged.op == CHECK && number == 0 {
-            judged.outs[1].chunks(ROW).for_each(|row| count(&mut self.codes, row[0]));
+            let rows = (0..judged.outs[1].len() / ROW).map(|i| row_at(&judged.outs[1], i));
+            rows.for_each(|row| self.add_row(row.code, row.met, judged.args[0]));
+        }
+        if judged.op == UPDATE {
+            self.add_met(judged.answer[7], judged.args[0]);
         }
         if judged.op == PAGE && number == 0 {
             self.add_lines(&judged.ins[0]);
@@ -58,6 +65,16 @@ impl Tally {
             judged.write(&mut bytes);
             self.differs(&bytes);
         }
+    }
+
+    fn add_row(&mut self, code: u16, met: u32, moved: u32) {
+        count(&mut self.codes, code);
+        self.add_met(met, moved);
+    }
+
+    fn add_met(&mut self, met: u32, moved: u32) {
+        self.met += (met != 0) as u64;
+        self.met_others += (met != 0 && met != moved) as u64;
     }
 
     fn add_lines(&mut self, image: &[u8]) {
@@ -96,6 +113,9 @@ impl Tally {
         }
         self.ends.iter().for_each(|(end, n)| println!("  {end}: {n}"));
         self.codes.iter().for_each(|(code, n)| println!("  slots with code {code}: {n}"));
+        if self.met > 0 {
+            println!("  met a train: {}, another than the moved one: {}", self.met, self.met_others);
+        }
         for (source, n) in &self.sources {
             println!("  from {}: {n}", format!("{source:?}").to_lowercase());
         }

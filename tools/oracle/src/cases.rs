@@ -4,7 +4,7 @@
 use crate::game::{closer_can_force, Game};
 use crate::layout::*;
 use crate::leaves;
-use crate::model::{self, CheckArgs, Checked, Outcome};
+use crate::model::{self, CheckArgs, Checked, Outcome, Updated};
 use crate::wide::{self, WideArgs};
 use crate::yards::Yard;
 
@@ -219,6 +219,10 @@ impl Case {
         let mut image = self.ins[0].clone();
         let (occ, blocking) = (u16s(&self.ins[1]), u32s(&self.ins[2]));
         let u = model::update(&mut image, &occ, &blocking, a[0] as u16, a[1] != 0, a[2] as u16);
+        self.put_updated(u, image);
+    }
+
+    fn put_updated(&mut self, u: Updated, image: Vec<u8>) {
         let (kind, number, place, faults_or_holder) = match u.outcome {
             Outcome::Success => (0, 0, 0, 0),
             Outcome::Blocked => (1, 0, 0, u.holder),
@@ -227,7 +231,7 @@ impl Case {
         };
         // at most 3E + 1 for each of 65,535 rounds
         let steps = u32::try_from(u.steps).expect("steps within their ceiling");
-        self.answer = [kind, number, place, faults_or_holder, u.rounds, u.strays, steps, 0];
+        self.answer = [kind, number, place, faults_or_holder, u.rounds, u.strays, steps, u.met];
         self.line = u.line;
         self.outs = [image, vec![]];
     }
@@ -244,16 +248,7 @@ impl Case {
         let mut image = self.ins[0].clone();
         let (occ, blocking) = (u32s(&self.ins[1]), u32s(&self.ins[2]));
         let u = wide::update(&mut image, &occ, &blocking, a[0], a[1] != 0, a[2] as u16);
-        let (kind, number, place, faults_or_holder) = match u.outcome {
-            Outcome::Success => (0, 0, 0, 0),
-            Outcome::Blocked => (1, 0, 0, u.holder),
-            Outcome::Faulty(n) => (2, 0, 0, n),
-            Outcome::Refused(r) => (3, r.number as u32, r.place, 0),
-        };
-        let steps = u32::try_from(u.steps).expect("steps within their ceiling");
-        self.answer = [kind, number, place, faults_or_holder, u.rounds, u.strays, steps, u.met];
-        self.line = u.line;
-        self.outs = [image, vec![]];
+        self.put_updated(u, image);
     }
 
     /// The arguments of a check over a wide occupancy.

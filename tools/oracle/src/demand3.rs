@@ -237,7 +237,7 @@ fn match_answers(r: &Renumbering, a: &Answer, b: &Answer) -> bool {
     }
     (0..rows.len() / model::ROW).all(|i| {
         let mut row = model::row_at(rows, i);
-        row.holder = r.train(row.holder);
+        (row.holder, row.met) = (r.train(row.holder), r.train(row.met));
         let j = r.train(i as u32 + 1) as usize - 1;
         row == model::row_at(other, j) && match_updates(r, &visits[i].updated, &others[j].updated)
     })

@@ -113,7 +113,7 @@ fn sentinels_answer(c: &Case) -> Result<[u32; 3], u32> {
     Ok([0, node as u32, divs as u32])
 }
 
-/// The text's link_idx_path has an ending sentinel, and is as before after the call.
+/// The text's link_idx_path has an ending sentinel, and is as before after the call. The train met stands beside the index.
 fn intersect_answer(c: &Case) -> Result<[u32; 3], u32> {
     let [split, sentinel, kind, x, y, ..] = c.args;
     let class = match kind {
@@ -128,7 +128,8 @@ fn intersect_answer(c: &Case) -> Result<[u32; 3], u32> {
     let occ = trains(&c.ins[1]);
     let index = tried(|| find_train_intersect(split as usize, sentinel as usize, &class, &mut path, &occ))?;
     assert!(path == before, "link_idx_path is left changed");
-    Ok([0, index as u32, 0])
+    let met = if index < sentinel as usize { occ[path[index].idx()] } else { None };
+    Ok([0, index as u32, met.map_or(0, u16::from) as u32])
 }
 
 /// 11 is the hooked text's; every other answer is the plain text's.
@@ -457,7 +458,7 @@ pub fn key(c: &Case) -> String {
         SENTINELS => format!("{first} {} {}", c.line, a[2].min(4)),
         INTERSECT => {
             let end = a[1].cmp(&c.args[1]);
-            format!("{first} {} {} {end:?} {}", c.line, c.args[2], c.args[4] > 16)
+            format!("{first} {} {} {end:?} {} {}", c.line, c.args[2], c.args[4] > 16, a[2] != 0)
         }
         UNION => {
             let grown = c.outs[0].len().cmp(&c.ins[0].len());

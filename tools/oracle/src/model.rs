@@ -465,8 +465,8 @@ pub enum Checked {
     Refused(Refusal),
 }
 
-/// Bytes of a record of the report.
-pub const ROW: usize = 16;
+/// Bytes of a record of the report: document 01's 16, then the train met.
+pub const ROW: usize = 20;
 
 /// A record of the report.
 #[derive(Debug, Clone, Copy, Default, PartialEq, Eq)]
@@ -477,6 +477,7 @@ pub struct Row {
     pub holder: u32,
     pub strays: u32,
     pub faults: u32,
+    pub met: u32,
 }
 
 pub const FINISHED: u16 = 1;
@@ -497,7 +498,7 @@ pub fn row_of(u: &Updated) -> Row {
         Outcome::Faulty(faults) => Row { code: FAULTY, faults, ..Row::default() },
         Outcome::Refused(r) => row_refused(r),
     };
-    Row { rounds: u.rounds as u16, strays: u.strays, ..row }
+    Row { rounds: u.rounds as u16, strays: u.strays, met: u.met, ..row }
 }
 
 pub fn row_at(report: &[u8], i: usize) -> Row {
@@ -509,6 +510,7 @@ pub fn row_at(report: &[u8], i: usize) -> Row {
         holder: u16_at(r, 6) as u32,
         strays: u32_at(r, 8),
         faults: u32_at(r, 12),
+        met: u32_at(r, 16),
     }
 }
 
@@ -520,6 +522,7 @@ pub fn put_row(report: &mut [u8], i: usize, x: &Row) {
     }
     put_u32(r, 8, x.strays);
     put_u32(r, 12, x.faults);
+    put_u32(r, 16, x.met);
 }
 
 /// The calls of a check: what does not change from slot to slot.
@@ -683,13 +686,14 @@ pub fn sheet(bytes: &[u8]) -> String {
         let r = row_at(&report, i);
         let free = read_image(&yard[part], bundle.occupancy.len()).map_or(0, |t| t.free);
         text += &format!(
-            "{} {} {} {} {} {} {free}\n",
+            "{} {} {} {} {} {} {free} {}\n",
             i + 1,
             code_word(r.code),
             r.rounds,
             r.holder,
             r.strays,
-            r.faults
+            r.faults,
+            r.met
         );
     }
     text

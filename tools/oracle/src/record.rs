@@ -70,8 +70,9 @@ fn keys(c: &Case) -> Vec<String> {
             let late = a[1] == 0 || a[1] > 10;
             let (rounds, strays) = if late { (few(a[4], 4), few(a[5], 1)) } else { (0, 0) };
             let kept = c.outs[0] == c.ins[0];
+            let met = if a[7] == c.args[0] { "moved" } else { ["none", "other"][few(a[7], 1) as usize] };
             vec![format!(
-                "{} {:2} {} {} {room} {rounds} {strays} {} {kept}",
+                "{} {:2} {} {} {room} {rounds} {strays} {} {kept} {met}",
                 a[0],
                 a[1],
                 few(a[2], 3),
@@ -93,7 +94,9 @@ fn check_keys(c: &Case) -> Vec<String> {
     let rows: Vec<model::Row> =
         (0..c.outs[1].len() / model::ROW).map(|i| model::row_at(&c.outs[1], i)).collect();
     rows.iter()
-        .map(|r| format!("{} {} {} {} {}", a[0], a[3].min(3), a[4], r.code, rows.len().min(2)))
+        .map(|r| {
+            format!("{} {} {} {} {} {}", a[0], a[3].min(3), a[4], r.code, rows.len().min(2), r.met.min(1))
+        })
         .collect()
 }
 
@@ -433,20 +436,20 @@ fn boundary_yards() -> Vec<Case> {
         cases.push(of_check(&call(tiny(slots), 1, 1), &vec![9; model::ROW * slots]));
     }
     for (moved, begin) in [(0, 1), (2, 1), (3, 1), (4, 1), (1, 0), (1, 3), (1, 4), (1, 5), (1, u32::MAX)] {
-        cases.push(of_check(&call(tiny(3), moved, begin), &[9; 48]));
+        cases.push(of_check(&call(tiny(3), moved, begin), &[9; 3 * model::ROW]));
     }
-    for len in [0, 47, 49, 64] {
+    for len in [0, 48, 59, 61, 80] {
         cases.push(of_check(&call(tiny(3), 1, 1), &vec![9; len]));
     }
     for at in 0..5 {
         for n in [0, 1, 2, 4, 63, 19, 21, 156, u32::MAX] {
             let mut y = tiny(3);
             put_u32(&mut y, 4 * at, n);
-            cases.push(of_check(&call(y, 1, 1), &[9; 48]));
+            cases.push(of_check(&call(y, 1, 1), &[9; 3 * model::ROW]));
         }
     }
     for len in [0, 4, 7, 8, 11, 19, 20, 83, 84] {
-        cases.push(of_check(&call(tiny(3)[..len].to_vec(), 1, 1), &[9; 48]));
+        cases.push(of_check(&call(tiny(3)[..len].to_vec(), 1, 1), &[9; 3 * model::ROW]));
     }
     for (l, k) in [(0, 0), (1, 0), (2, 4_000), (2, 4_001), (4_000, 0), (4_001, 0)] {
         let c = CheckCase { occ: vec![0; l], blocking: vec![1; k], ..call(tiny(1), 1, 1) };

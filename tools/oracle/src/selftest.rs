@@ -67,7 +67,7 @@ pub fn sheet_bundle() -> Vec<u8> {
     })
 }
 
-pub const SHEET: &str = "yard 2 deadlock no next 1\n1 success 1 0 0 0 0\n2 moved 0 0 0 0 0\n";
+pub const SHEET: &str = "yard 2 deadlock no next 1\n1 success 1 0 0 0 0 0\n2 moved 0 0 0 0 0 0\n";
 
 /// A train of one node at this offset.
 fn one_node(offset: f64) -> Vec<u8> {
@@ -124,6 +124,16 @@ fn siding(occ: [u16; 4]) -> model::Updated {
 /// Who holds the train of the siding.
 fn held(occ: [u16; 4]) -> String {
     siding(occ).holder.to_string()
+}
+
+/// A check of that train alone but for the moved train 2, at this round limit: the answer of its slot's record.
+fn siding_row(occ: [u16; 4], limit: u16) -> String {
+    let mut moved = siding_train();
+    put_u16(&mut moved, 32, 2);
+    let mut report = [0xA5; 2 * model::ROW];
+    let a = model::CheckArgs { occ: &occ, blocking: &[1, 2], moved: 2, begin: 1, local: false, limit };
+    model::check(&mut yard_of(&[siding_train(), moved]), &a, &mut report);
+    format!("code {} holder {} met {}", u16_at(&report, 0), u16_at(&report, 6), u32_at(&report, 16))
 }
 
 fn ceiling(r: Result<u64, Refusal>) -> String {
@@ -223,6 +233,11 @@ fn examples() -> Vec<(&'static str, String, &'static str)> {
         ("Q-12", game(&[1, 2, 3], 7), "refused 28"),
         ("Q-14", siding([0, 7, 0, 0]).met.to_string(), "7"),
         ("Q-14", siding([0, 0, 7, 0]).met.to_string(), "0"),
+        ("Q-14", siding_row([0, 2, 9, 0], 5), "code 4 holder 9 met 2"),
+        ("Q-14", siding_row([0, 7, 0, 0], 5), "code 3 holder 0 met 7"),
+        // refused by 12 in the second round, and by the Single that stops at its empty link in every round
+        ("Q-14", siding_row([0, 7, 0, 0], 1), "code 28 holder 0 met 0"),
+        ("Q-14", siding_row([0, 0, 0, 0], 5), "code 28 holder 0 met 0"),
         ("Q-9", siding([0, 2, 0, 0]).steps.to_string(), "3"),
         ("Q-9", siding([0, 2, 2, 0]).steps.to_string(), "3"),
         // a Single stops at its link though it is empty, in every round up to the limit

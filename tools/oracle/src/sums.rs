@@ -34,20 +34,8 @@ fn image_fault(c: &Case) -> String {
     format!(" by itself {words}")
 }
 
+/// All eight numbers and the image; a narrow one is also judged by itself.
 fn update(c: &Case) -> String {
-    let [kind, number, place, faults_or_holder, rounds, strays, steps, _] = c.answer;
-    let status = match kind {
-        0 => "success".into(),
-        1 => format!("blocked by {faults_or_holder}"),
-        2 => format!("faulty {faults_or_holder}"),
-        _ => refused(number, place),
-    };
-    let counts = format!("rounds {rounds} strays {strays} steps {steps}");
-    format!("{status} {counts} image {}{}", sum_of(&c.outs[0]), image_fault(c))
-}
-
-/// All eight numbers; the image is not judged by itself.
-fn wide_update(c: &Case) -> String {
     let [kind, number, place, faults_or_holder, rounds, strays, steps, met] = c.answer;
     let status = match kind {
         0 => "success".into(),
@@ -56,7 +44,8 @@ fn wide_update(c: &Case) -> String {
         _ => refused(number, place),
     };
     let counts = format!("rounds {rounds} strays {strays} steps {steps} met {met}");
-    format!("{status} {counts} image {}", sum_of(&c.outs[0]))
+    let by_itself = if c.op == UPDATE { image_fault(c) } else { String::new() };
+    format!("{status} {counts} image {}{by_itself}", sum_of(&c.outs[0]))
 }
 
 fn check(c: &Case) -> String {
@@ -83,9 +72,8 @@ pub fn words(c: &Case) -> String {
     match c.op {
         MARK | WIDE_MARK => format!("{} occupancy {}", fault(number, place), sum_of(&c.outs[0])),
         LAY_OUT => format!("{} image {}", fault(number, place), sum_of(&c.outs[0])),
-        UPDATE => update(c),
+        UPDATE | WIDE_UPDATE => update(c),
         CHECK | WIDE_CHECK => check(c),
-        WIDE_UPDATE => wide_update(c),
         WIDEN | NARROW => format!("{} image {}", fault(number, place), sum_of(&c.outs[0])),
         SHEET => format!("sheet {}", sum_of(&c.outs[0])),
         PAGE => format!("{} page {}", fault(number, place), sum_of(&c.outs[0])),

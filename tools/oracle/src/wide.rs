@@ -112,7 +112,7 @@ pub struct WideArgs<'a> {
     pub limit: u16,
 }
 
-/// Bytes of a record in the report of a yard with a wide image.
+/// Bytes of a record in the report of a yard with a wide image: the first 16 of a narrow one, the holder, the train met.
 pub const WIDE_ROW: usize = model::ROW + 4;
 
 pub fn row_size(wide: bool) -> usize {
@@ -128,7 +128,7 @@ pub fn row_at(report: &[u8], i: usize, wide: bool) -> Row {
         return model::row_at(report, i);
     }
     let r = &report[WIDE_ROW * i..][..WIDE_ROW];
-    Row { holder: u32_at(r, 16), ..model::row_at(r, 0) }
+    Row { holder: u32_at(r, 16), met: u32_at(r, 20), ..model::row_at(r, 0) }
 }
 
 fn put_row(report: &mut [u8], i: usize, x: &Row, wide: bool) {
@@ -138,6 +138,7 @@ fn put_row(report: &mut [u8], i: usize, x: &Row, wide: bool) {
     let r = &mut report[WIDE_ROW * i..][..WIDE_ROW];
     model::put_row(r, 0, &Row { holder: 0, ..*x });
     put_u32(r, 16, x.holder);
+    put_u32(r, 20, x.met);
 }
 
 /// The images of a yard, and whether any of them is wide, and all.

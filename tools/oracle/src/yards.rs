@@ -407,7 +407,7 @@ pub fn damaged_check(rng: &mut Rng) -> (CheckCase, usize) {
         3 => c.moved = rng.pick(&[0, slots as u16, slots as u16 + 1]),
         4 => c.limit = 0,
         5 => c.begin = rng.pick(&[0, slots as u32, slots as u32 + 1, slots as u32 + 2]),
-        6 => report = rng.pick(&[0, report - 1, report + 1, report + model::ROW]),
+        6 => report = rng.pick(&[0, 16 * slots, report - 1, report + 1]),
         7 => put_u32(&mut c.yard, 4 * rng.below(2 + slots), rng.pick(&[0, 1, 63, 64, u32::MAX])),
         8 => {
             let part = read_yard(&c.yard).unwrap()[rng.below(slots)].clone();

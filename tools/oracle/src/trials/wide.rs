@@ -193,7 +193,7 @@ pub fn match_answers(r: &Renumbering, a: &Answer, b: &Answer) -> bool {
     };
     same && visits.iter().enumerate().all(|(i, v)| {
         let other = &others[r.train(i as u32 + 1) as usize - 1];
-        let row = model::Row { holder: r.train(v.row.holder), ..v.row };
+        let row = model::Row { holder: r.train(v.row.holder), met: r.train(v.row.met), ..v.row };
         row == other.row && match_updates(r, &v.updated, &other.updated)
     })
 }

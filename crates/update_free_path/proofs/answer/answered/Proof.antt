@@ -23,16 +23,19 @@ faults-in-requires c κs = search needs
 counted-faults-requires : tie.Need-counted-faults-requires
 counted-faults-requires c κs = search needs
 
+met-in-requires : tie.Need-met-in-requires
+met-in-requires c κs = search needs
+
 same-length : tie.Need-same-length
 same-length c = search needs
 
 returns : tie.Need-returns
 returns c =
-    let z = c .before .before .before .before .before .before .before .before .before .before .before .before .before .before in
+    let z = c .before .before .before .before .before .before .before .before .before .before .before .before .before .before .before in
     let a = z .args in
     λ was.
-    answered-is (a .r .tally) was (trainOf (now (a .img)) (now (a .dt)) (now (a .dn)) (a .r .header)) (now (a .image)) (z .pre .1) (a .r .stop) (errorsOf (now (a .img)) (now (a .occ)) (a .r .header)) _ (c .before .faults-in .result) _ _
-    (c .before .before .before .before .before .before .before .status-by .ensures) (omega (arith, c .before .faults-in .ok)) (c .before .faults-in .ensures) (c .counted-faults .ensures) (c .before .before .before .before .leave .ensures)
+    answered-is (a .r .tally) (a .r .met) was (trainOf (now (a .img)) (now (a .dt)) (now (a .dn)) (a .r .header)) (now (a .image)) (z .pre .1) (a .r .stop) (errorsOf (now (a .img)) (now (a .occ)) (a .r .header)) _ (c .before .before .faults-in .result) _ _ _
+    (c .before .before .before .before .before .before .before .before .status-by .ensures) (omega (arith, c .before .before .faults-in .ok)) (c .before .before .faults-in .ensures) (c .before .counted-faults .ensures) (c .met-in .ensures) (c .before .before .before .before .before .leave .ensures)
 
 pub answered-spec : {M : Type 1} → statement M
 answered-spec =
@@ -42,5 +45,6 @@ answered-spec =
     leave-requires
     faults-in-requires
     counted-faults-requires
+    met-in-requires
     same-length
     returns)

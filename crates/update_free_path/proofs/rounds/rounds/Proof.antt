@@ -122,7 +122,7 @@ returns c =
     let d = due-turn (l .w) (a .limit) (sym (c .before .before .before .before .before .before .before .before .before .before .before .before .before .before .before .before .before .before .before .goes-on .ensures) ∙ c .before .before .before .before .before .before .before .before .before .before .before .before .before .before .before .before .before .before .if1 .taken) in
     let s = c .before .strays-of in
     subst (λ (r : Ran). RoundsEnded (now (a .occ)) (now (a .known)) (a .g) (a .limit) (now (a .img)) (now (a .dt)) (now (a .dn)) (a .start) (x .last .0) (x .last .1 .1 .1 .1 .1 .1 .1 .1 .0) (x .last .1 .1 .1 .1 .1 .1 .1 .1 .1 .0) r) (sym (c .stopped .ensures))
-    (ended-stopped (now (a .occ)) (l .img) (l .col) (l .on) (l .dt) (l .dn) (now (a .known)) (a .g) (l .w) (l .inv .1) (x .last .0) (x .last .1 .1 .1 .1 .1 .1 .1 .1 .0) (x .last .1 .1 .1 .1 .1 .1 .1 .1 .1 .0) (x .result) (x .ensures .0) (x .ensures .3) (a .limit) (now (a .img)) (now (a .dt)) (now (a .dn)) (a .start) (l .inv .2) (d .0) (d .1)
+    (ended-stopped (now (a .occ)) (l .img) (l .col) (l .on) (l .dt) (l .dn) (now (a .known)) (a .g) (l .w) (l .inv .1) (x .last .0) (x .last .1 .1 .1 .1 .1 .1 .1 .1 .0) (x .last .1 .1 .1 .1 .1 .1 .1 .1 .1 .0) (x .result) (x .ensures .0) (x .ensures .3) (a .limit) (now (a .img)) (now (a .dt)) (now (a .dn)) (a .start) (l .inv .2) (d .0) (d .1) (x .ensures .4)
     (sym (c .before .before .before .before .is-last .ensures) ∙ c .before .before .before .if2 .taken) (x .ensures .2) (x .ensures .1) (s .result) (s .ensures))
 
 -- src/rounds.rt:181:9
@@ -183,7 +183,7 @@ loop-again c =
       subst (λ (w : Between). Top (now (a .occ)) (x .last .0) (v .last .1 .1 .0) (v .last .1 .1 .1 .0) (x .last .1 .1 .1 .1 .1 .1 .1 .1 .0) (x .last .1 .1 .1 .1 .1 .1 .1 .1 .1 .0) w) (sym (c .next .ensures))
           (next-top (now (a .occ)) (l .img) (l .col) (l .on) (l .dt) (l .dn) (now (a .known)) (a .g) (l .w) (l .inv .1) (x .last .0) (x .last .1 .1 .1 .1 .1 .1 .1 .1 .0) (x .last .1 .1 .1 .1 .1 .1 .1 .1 .1 .0) (x .result) (x .ensures .0) (x .ensures .3) again k (v .last .1 .1 .0) (v .last .1 .1 .1 .0) (v .ensures .0) (v .ensures .1) (s .result) low),
       subst (λ (w : Between). Going (now (a .occ)) (now (a .known)) (a .g) (a .limit) (now (a .img)) (now (a .dt)) (now (a .dn)) (a .start) (x .last .0) (x .last .1 .1 .1 .1 .1 .1 .1 .1 .0) (x .last .1 .1 .1 .1 .1 .1 .1 .1 .1 .0) w) (sym (c .next .ensures))
-          (going-next (now (a .occ)) (l .img) (l .col) (l .on) (l .dt) (l .dn) (now (a .known)) (a .g) (l .w) (l .inv .1) (x .last .0) (x .last .1 .1 .1 .1 .1 .1 .1 .1 .0) (x .last .1 .1 .1 .1 .1 .1 .1 .1 .1 .0) (x .result) (x .ensures .0) (x .ensures .3) (a .limit) (now (a .img)) (now (a .dt)) (now (a .dn)) (a .start) (l .inv .2) (d .0) (d .1) again k (v .last .1 .1 .0) (v .ensures .0) (s .result) (s .ensures)),
+          (going-next (now (a .occ)) (l .img) (l .col) (l .on) (l .dt) (l .dn) (now (a .known)) (a .g) (l .w) (l .inv .1) (x .last .0) (x .last .1 .1 .1 .1 .1 .1 .1 .1 .0) (x .last .1 .1 .1 .1 .1 .1 .1 .1 .1 .0) (x .result) (x .ensures .0) (x .ensures .3) (a .limit) (now (a .img)) (now (a .dt)) (now (a .dn)) (a .start) (l .inv .2) (d .0) (d .1) (x .ensures .4) again k (v .last .1 .1 .0) (v .ensures .0) (s .result) (s .ensures)),
     )
 
 -- src/rounds.rt:184:5

@@ -1,6 +1,7 @@
 -- `start_of` meets its contract. Assumes nothing.
 use mathlib.Core.Path.{ap}
 use borrow.Author.Needs.{needs}
+use Rattle.link_rules.specs.LinkIdx.{noTrain}
 use Rattle.tally.specs.declared.Tally.{Tally}
 use Rattle.image.specs.declared.codec.PathHeader.{PathHeader}
 use Rattle.update_free_path.specs.declared.rounds.Between.{Between}
@@ -8,7 +9,7 @@ use Rattle.update_free_path.proofs.start.start_of.Statement.{statement}
 use Rattle.update_free_path.proofs.start.start_of.Tie as tie
 
 abbrev first : PathHeader → Tally → Between
-first h t = record { header = h; split = 1; «div_split» = 1; tally = t }
+first h t = record { header = h; split = 1; «div_split» = 1; tally = t; met = noTrain }
 
 started-requires : tie.Need-started-requires
 started-requires c κs = search needs

@@ -43,21 +43,28 @@ add-put-u32-2 c = search needs
 put-u32-requires-2 : tie.Need-put-u32-requires-2
 put-u32-requires-2 c κs = search needs
 
+add-put-u32-3 : tie.Need-add-put-u32-3
+add-put-u32-3 c = search needs
+
+put-u32-requires-3 : tie.Need-put-u32-requires-3
+put-u32-requires-3 c κs = search needs
+
 same-length : tie.Need-same-length
 same-length c = search needs
 
 returns : tie.Need-returns
 unfolding putRow
 returns c =
-    let a = c .before .before .before .before .before .before .before .before .before .before .before .before .before .before .before .before .before .before .before .before .before .before .before .before .before .before .args in
+    let a = c .before .before .before .before .before .before .before .before .before .before .before .before .before .before .before .before .before .before .before .before .before .before .before .before .before .before .before .before .before .before .args in
     let r = a .r in
-    c .before .before .put-u322 .ensures
-    ∙ ap (putLe 4 (r .faults) (a .at + 12)) (c .before .before .before .before .before .before .put-u32 .ensures
-    ∙ ap (putLe 4 (r .strays) (a .at + 8)) (c .before .before .before .before .before .before .before .before .before .before .put-u164 .ensures
+    c .before .before .put-u323 .ensures
+    ∙ ap (putLe 4 (r .met .0) (a .at + 16)) (c .before .before .before .before .before .before .put-u322 .ensures
+    ∙ ap (putLe 4 (r .faults) (a .at + 12)) (c .before .before .before .before .before .before .before .before .before .before .put-u32 .ensures
+    ∙ ap (putLe 4 (r .strays) (a .at + 8)) (c .before .before .before .before .before .before .before .before .before .before .before .before .before .before .put-u164 .ensures
     ∙ put-mod 2 (r .holder .0) (a .at + 6) _
-    ∙ ap (putLe 2 (r .holder .0) (a .at + 6)) (c .before .before .before .before .before .before .before .before .before .before .before .before .before .before .before .put-u163 .ensures
-    ∙ ap (putLe 2 (r .rounds) (a .at + 4)) (c .before .before .before .before .before .before .before .before .before .before .before .before .before .before .before .before .before .before .before .put-u162 .ensures
-    ∙ ap (putLe 2 (r .place) (a .at + 2)) (c .before .before .before .before .before .before .before .before .before .before .before .before .before .before .before .before .before .before .before .before .before .before .before .put-u16 .ensures)))))
+    ∙ ap (putLe 2 (r .holder .0) (a .at + 6)) (c .before .before .before .before .before .before .before .before .before .before .before .before .before .before .before .before .before .before .before .put-u163 .ensures
+    ∙ ap (putLe 2 (r .rounds) (a .at + 4)) (c .before .before .before .before .before .before .before .before .before .before .before .before .before .before .before .before .before .before .before .before .before .before .before .put-u162 .ensures
+    ∙ ap (putLe 2 (r .place) (a .at + 2)) (c .before .before .before .before .before .before .before .before .before .before .before .before .before .before .before .before .before .before .before .before .before .before .before .before .before .before .before .put-u16 .ensures))))))
 
 pub put-row-spec : {M : Type 1} → statement M
 put-row-spec =
@@ -75,5 +82,7 @@ put-row-spec =
     put-u32-requires
     add-put-u32-2
     put-u32-requires-2
+    add-put-u32-3
+    put-u32-requires-3
     same-length
     returns)

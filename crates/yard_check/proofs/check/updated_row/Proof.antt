@@ -46,22 +46,22 @@ refused-row-requires c κs =
 returns : tie.Need-returns
 returns c =
     let a = c .before .before .before .args in
-    c .worked-row .ensures ∙ ap (λ (s : Status). statusRow (statusOf s) (a .u .tally .rounds) (a .u .tally .strays)) (sym (c .before .enum-told .given .1))
+    c .worked-row .ensures ∙ ap (λ (s : Status). statusRow (statusOf s) (a .u .tally .rounds) (a .u .tally .strays) (a .u .met .0)) (sym (c .before .enum-told .given .1))
 
 returns-2 : tie.Need-returns-2
 returns-2 c =
     let a = c .before .before .before .before .args in
-    c .worked-row2 .ensures ∙ ap (λ (s : Status). statusRow (statusOf s) (a .u .tally .rounds) (a .u .tally .strays)) (sym (c .before .before .s .given .1))
+    c .worked-row2 .ensures ∙ ap (λ (s : Status). statusRow (statusOf s) (a .u .tally .rounds) (a .u .tally .strays) (a .u .met .0)) (sym (c .before .before .s .given .1))
 
 returns-3 : tie.Need-returns-3
 returns-3 c =
     let a = c .before .before .before .before .args in
-    c .worked-row3 .ensures ∙ ap (λ (s : Status). statusRow (statusOf s) (a .u .tally .rounds) (a .u .tally .strays)) (sym (c .before .before .s2 .given .1))
+    c .worked-row3 .ensures ∙ ap (λ (s : Status). statusRow (statusOf s) (a .u .tally .rounds) (a .u .tally .strays) (a .u .met .0)) (sym (c .before .before .s2 .given .1))
 
 returns-4 : tie.Need-returns-4
 returns-4 c =
     let a = c .before .before .before .before .before .args in
-    c .refused-row .ensures ∙ ap (λ (s : Status). statusRow (statusOf s) (a .u .tally .rounds) (a .u .tally .strays)) (sym (c .before .before .before .s3 .given .1))
+    c .refused-row .ensures ∙ ap (λ (s : Status). statusRow (statusOf s) (a .u .tally .rounds) (a .u .tally .strays) (a .u .met .0)) (sym (c .before .before .before .s3 .given .1))
 
 pub updated-row-spec : {M : Type 1} → statement M
 updated-row-spec =

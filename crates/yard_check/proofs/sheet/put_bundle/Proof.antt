@@ -84,7 +84,7 @@ array-borrow-prefix-report c = let b = now (c .before .before .before .before .b
 slice-aggregate-put-checked-4 : tie.Need-slice-aggregate-put-checked-4
 slice-aggregate-put-checked-4 c =
     let b = now (c .before .before .before .before .before .before .before .before .before .before .before .before .before .before .before .before .args .bundle) in let at = c .before .before .before .before .before .before .before .u32-at3 .result in
-    let k : length (c .before .before .before .before .before .before .before .before .before .before .blank-report .result) ≡ 1008 = ap length (c .before .before .before .before .before .before .before .before .before .before .blank-report .ensures) ∙ length-replicate {A = ℕ} 1008 0 in
+    let k : length (c .before .before .before .before .before .before .before .before .before .before .blank-report .result) ≡ 1260 = ap length (c .before .before .before .before .before .before .before .before .before .before .blank-report .ensures) ∙ length-replicate {A = ℕ} 1260 0 in
     sym (length-take-le _ (c .before .before .before .before .before .before .before .before .before .before .blank-report .result) (omega (arith, c .before .before .before .before .before .report-slots .ensures, report-few (take (length b - at) (drop at b)))))
 
 put-checked-requires : tie.Need-put-checked-requires
