@@ -2,15 +2,17 @@
 use mathlib.Core.Path.{_≡_, refl, sym, ap, _∙_}
 use mathlib.Core.Logic.{_⊎_, inl, inr}
 use mathlib.Core.Bool.{Bool, true, false, cond, true≢false, false≢true}
-use Prim.Native.Nat.{ℕ, zero, suc, _+_, _*_, _≤_, _<_}
+use Prim.Native.Nat.{ℕ, zero, suc, _+_, _*_, _/_, _%_, _≤_, _<_}
 use native.Mathlib.Omega.{arith}
 use native.Mathlib.Nat.{mul-pos, zero-mul}
-use lib.Dec.{ltb}
-use lib.Ieee.{Float, nan, inf, fin, up, down, below, lt, ne, isNan}
+use lib.Dec.{T, ltb, leb, eqb}
+use lib.Ieee.{Float, nan, inf, fin, up, down, below, lt, ne, isNan, binary64, prec, low, ones, hid, top, odd, ofFields, ofBits, toBits, fits}
+use lib.Ieee.Bits.{ofBits-toBits}
 use lib.Ieee.Fits.{down-pos}
 use lib.Ieee.Order.{transfer}
 use lib.Ieee.Compare.{differs-from-itself}
-use borrow.Author.Tests.{lt-ltb, le-ltb, ltb-true, ltb-false}
+use borrow.Author.Tests.{lt-ltb, le-ltb, ltb-true, ltb-false, le-leb, lt-leb}
+use Rattle.disp_structs.specs.Floats.{bitsOf}
 use Rattle.free_path.specs.SearchLimit.{isMinus, larger, maximum, maximumNumber, MaxOf}
 
 -- ---- products
@@ -170,21 +172,58 @@ number-is nan h = absurd (true≢false h)
 number-is (inf s) h = refl
 number-is (fin s m e) h = refl
 
-module _ (a b x : Float) where
-  pub first-nan : ne a a ≡ true → lt b x ≡ lt (maximumNumber a b) x
+minus-odd : (d : ℕ) (s : Bool) (q k l : ℕ) → isMinus (odd d s q k l) ≡ s
+unfolding odd
+minus-odd d s zero k l = refl
+minus-odd d s (suc q) k l = refl
+
+minus-fields : (s : Bool) (x t : ℕ) → isNan (ofFields binary64 s x t) ≡ false → isMinus (ofFields binary64 s x t) ≡ s
+unfolding ofFields isNan
+minus-fields s zero t n = minus-odd (prec binary64) s t 0 (low binary64)
+minus-fields s (suc x) t n = go (eqb (suc x) (ones binary64)) (eqb t 0) n
+  where
+    go : (u v : Bool) → isNan (cond u (cond v (inf s) nan) (odd (prec binary64) s (hid binary64 + t) x (low binary64))) ≡ false
+        → isMinus (cond u (cond v (inf s) nan) (odd (prec binary64) s (hid binary64 + t) x (low binary64))) ≡ s
+    go true true n = refl
+    go true false n = absurd (true≢false n)
+    go false v n = minus-odd (prec binary64) s (hid binary64 + t) x (low binary64)
+
+-- the sign of a number is the highest bit of its pattern
+pub minus-high : (x : Float) → T (fits binary64 x) → ne x x ≡ false → isMinus x ≡ leb 0x8000_0000_0000_0000 (bitsOf x)
+unfolding bitsOf ofBits
+minus-high x f h =
+    let b = toBits binary64 x in
+    let back = ofBits-toBits binary64 x f in
+    let n : isNan (ofBits binary64 b) ≡ false = ap isNan back ∙ number-is x h in
+    rw h (ap isMinus (sym back) ∙ minus-fields (leb (top binary64) b) (b % top binary64 / hid binary64) (b % hid binary64) n)
+
+module _ (a b : Float) where
+  pub first-nan : ne a a ≡ true → b ≡ maximumNumber a b
   unfolding maximumNumber
   first-nan h = rw (nan-is a h)
 
-  pub second-nan : ne a a ≡ false → ne b b ≡ true → lt a x ≡ lt (maximumNumber a b) x
-  unfolding maximumNumber
-  second-nan h k = rw (number-is a h, nan-is b k)
+  module _ (h : ne a a ≡ false) where
+    pub second-nan : ne b b ≡ true → a ≡ maximumNumber a b
+    unfolding maximumNumber
+    second-nan k = rw (number-is a h, nan-is b k)
 
-  module _ (h : ne a a ≡ false) (k : ne b b ≡ false) where
-    of-max : (m : Float) → MaxOf a b m → lt m x ≡ lt (maximumNumber a b) x
-    of-max m f = limit-read a b (number-is a h) (number-is b k) m (maximumNumber a b) x f (maximumNumber-max a b (number-is a h) (number-is b k))
+    module _ (k : ne b b ≡ false) where
+      pub second-larger : lt a b ≡ true → b ≡ maximumNumber a b
+      unfolding maximumNumber
+      second-larger l = rw (number-is a h, number-is b k, l)
 
-    pub second-read : lt a b ≡ true → lt b x ≡ lt (maximumNumber a b) x
-    second-read l = of-max b (record { second = λ _. refl; first = λ g. absurd (lt-once a b l g); either = inr refl })
+      pub first-larger : lt a b ≡ false → lt b a ≡ true → a ≡ maximumNumber a b
+      unfolding maximumNumber
+      first-larger l m = rw (number-is a h, number-is b k, l, m)
 
-    pub first-read : lt a b ≡ false → lt a x ≡ lt (maximumNumber a b) x
-    first-read l = of-max a (record { second = λ g. absurd (false≢true (sym l ∙ g)); first = λ _. refl; either = inl refl })
+      -- of two that are equal
+      module _ (f : T (fits binary64 a)) (l : lt a b ≡ false) (m : lt b a ≡ false) where
+        by-sign : cond (leb 0x8000_0000_0000_0000 (bitsOf a)) b a ≡ maximumNumber a b
+        unfolding maximumNumber
+        by-sign = rw (number-is a h, number-is b k, l, m, minus-high a f h)
+
+        pub plus-first : bitsOf a < 0x8000_0000_0000_0000 → a ≡ maximumNumber a b
+        plus-first s = rw (lt-leb 0x8000_0000_0000_0000 (bitsOf a) s) at by-sign
+
+        pub minus-second : 0x8000_0000_0000_0000 ≤ bitsOf a → b ≡ maximumNumber a b
+        minus-second s = rw (le-leb 0x8000_0000_0000_0000 (bitsOf a) s) at by-sign

@@ -6,7 +6,6 @@ use mathlib.Core.List.{List, [], _∷_}
 use native.Mathlib.Omega.{arith}
 use borrow.Author.Tests.{leb-true}
 use lib.Dec.{ltb, leb}
-use lib.Ieee.{Float, lt}
 use lib.ListN.{length, getD, take, replicate, length-replicate, getD-replicate}
 use lib.Seq.{ext-getD}
 use Rattle.link_rules.specs.LinkIdx.{noTrain}
@@ -16,6 +15,7 @@ use Rattle.disp_structs.specs.Listed.{listed}
 use Rattle.disp_structs.proofs.ListedLaws.{listed-length, listed-same, listed-at}
 use Rattle.disp_structs.specs.Train.{Train}
 use Rattle.disp_structs.specs.Values.{view}
+use Rattle.disp_structs.specs.declared.Metres.{Metres}
 use Rattle.disp_structs.specs.declared.DivergeNode.{DivergeNode}
 use Rattle.disp_structs.specs.declared.TrainIdxsView.{TrainIdxsView}
 use Rattle.image.specs.Image.{estAt, nodeAt, distDispPathSearch}
@@ -39,8 +39,7 @@ use Rattle.search.specs.declared.Round.{Round}
 use Rattle.search.specs.declared.Place.{Place}
 use Rattle.search.specs.Runs.{SearchBegins}
 use Rattle.splice.specs.Read.{trainOf}
-use Rattle.round_start.specs.Start.{partedAt, dividedAt, withLimit}
-use Rattle.round_start.proofs.LimitLaws.{same-limit, same-steps}
+use Rattle.round_start.specs.Start.{partedAt, dividedAt}
 use Rattle.round_start.proofs.DivideLaws.{begin-is, round-is}
 use Rattle.round.specs.Rounds.{Held, Numbers, Searching, givenOf, startAt, zeros, zeroed, zeroedIn, roundFrom, stepsBy}
 use Rattle.round.specs.declared.Given.{Given}
@@ -204,16 +203,18 @@ module _ (occ img on dt dn : List ℕ) (h : PathHeader) (g : Held occ img on dt 
 
     -- and so the search is the definition's
     module _ (gv : Given) (blocking start : List LinkIdx) (divSplit : ℕ) (z : Sentinels) (high : split < h .«path_count») (moved : r .«train_idx_moved» ≡ gv .«train_idx_moved») (same : r .«idx_split_save» ≡ split)
-        (limit : (x : Float) → lt (r .«offset_cancel» .0) x ≡ lt (offsetCancel (gv .«is_local») (gv .«offset_lowest») (nodeAt img split .offset) (distDispPathSearch img) .0) x)
+        (limit : r .«offset_cancel» ≡ offsetCancel (gv .«is_local») (gv .«offset_lowest») (nodeAt img split .offset) (distDispPathSearch img))
         (div-is : ok d ≡ dividedAt (divsOf (h .«diverge_count») dt dn) split divSplit z) (save-is : ok save ≡ savePoint (pathOf img (h .«path_count»)) (h .fixed) split) where
       abbrev given : Update.Given
       given = givenOf gv occ blocking start
 
-      round-same : round ≡ withLimit (roundAt given train (nodeAt img split) split) (r .«offset_cancel»)
+      round-same : round ≡ roundAt given train (nodeAt img split) split
+      unfolding trainOf
       round-same =
           ap (λ (t : Train). record { train = t; «links_blocked» = occ; «train_idx_moved» = r .«train_idx_moved»; «offset_cancel» = r .«offset_cancel»; «idx_split_save» = r .«idx_split_save» }) (train-is img dt dn h r m)
           ∙ ap (λ (n : TrainIdx). record { train = train; «links_blocked» = occ; «train_idx_moved» = n; «offset_cancel» = r .«offset_cancel»; «idx_split_save» = r .«idx_split_save» }) moved
           ∙ ap (λ (i : ℕ). record { train = train; «links_blocked» = occ; «train_idx_moved» = gv .«train_idx_moved»; «offset_cancel» = r .«offset_cancel»; «idx_split_save» = i }) same
+          ∙ ap (λ (x : Metres). record { train = train; «links_blocked» = occ; «train_idx_moved» = gv .«train_idx_moved»; «offset_cancel» = x; «idx_split_save» = split }) limit
 
       pub search-is : searchFrom (turnLimit (round .train)) round first ≡ roundFrom given train split divSplit z
       unfolding trainOf
@@ -221,7 +222,6 @@ module _ (occ img on dt dn : List ℕ) (h : PathHeader) (g : Held occ img on dt 
           ap (λ (s : State.Search). searchFrom (turnLimit (round .train)) round s) first-is
           ∙ ap (λ (t : Train). searchFrom (turnLimit t) round (searchAt t split d save)) (train-is img dt dn h r m)
           ∙ ap (λ (y : State.Round). searchFrom (turnLimit train) y (searchAt train split d save)) round-same
-          ∙ same-limit (turnLimit train) (roundAt given train (nodeAt img split) split) (r .«offset_cancel») (searchAt train split d save) limit
           ∙ divide-saved occ img dt dn h gv blocking start split divSplit z high d save div-is save-is
 
       pub steps-is : stepsFrom (turnLimit (round .train)) round first ≡ stepsBy given train split divSplit z
@@ -230,5 +230,4 @@ module _ (occ img on dt dn : List ℕ) (h : PathHeader) (g : Held occ img on dt 
           ap (λ (s : State.Search). stepsFrom (turnLimit (round .train)) round s) first-is
           ∙ ap (λ (t : Train). stepsFrom (turnLimit t) round (searchAt t split d save)) (train-is img dt dn h r m)
           ∙ ap (λ (y : State.Round). stepsFrom (turnLimit train) y (searchAt train split d save)) round-same
-          ∙ same-steps (turnLimit train) (roundAt given train (nodeAt img split) split) (r .«offset_cancel») (searchAt train split d save) limit
           ∙ saved-steps occ img dt dn h gv blocking start split divSplit z high d save div-is save-is

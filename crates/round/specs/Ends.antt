@@ -3,7 +3,6 @@ use Prim.Native.Nat.{ℕ, _≤_}
 use mathlib.Core.Path.{_≡_}
 use mathlib.Core.Bool.{false}
 use mathlib.Core.List.{List}
-use lib.Ieee.{Float, lt}
 use lib.ListN.{length, replicate}
 use Rattle.link_rules.specs.declared.link_idx.LinkIdx.{LinkIdx}
 use Rattle.link_rules.specs.declared.link_idx.TrainIdx.{TrainIdx}
@@ -81,13 +80,13 @@ SearchGiven occ img on dt dn h r start =
     × (divergeRoom img ≤ length dn)
     × Searching occ img dt dn h r start (zeros .pool) (zeros .begins) (zeros .ends) (replicate 1024 0) (replicate 1024 0)
 
--- r is what the search from split on does not change; its limit is only read by `<`
+-- r is what the search from split on does not change
 abbrev pub RoundAt : (img : List ℕ) (g : Given) (h : PathHeader) (split : ℕ) (r : Round) → Type 0
 RoundAt img g h split r =
     Numbers img h r
     × (r .«train_idx_moved» ≡ g .«train_idx_moved»)
     × (r .«idx_split_save» ≡ split)
-    × ((x : Float) → lt (r .«offset_cancel» .0) x ≡ lt (offsetCancel (g .«is_local») (g .«offset_lowest») (nodeAt img split .offset) (distDispPathSearch img) .0) x)
+    × (r .«offset_cancel» ≡ offsetCancel (g .«is_local») (g .«offset_lowest») (nodeAt img split .offset) (distDispPathSearch img))
 
 -- x is f of what the update does not change and the train, whatever the lists of links are that are for the strays alone
 abbrev pub EndsAs : (f : Update.Given → Train → Res State.Ended) (occ img dt dn : List ℕ) (g : Given) (h : PathHeader) (x : RoundEnd) (img₁ dt₁ dn₁ : List ℕ) → Type 0

@@ -34,10 +34,6 @@ partedAt divs split d = before divs d >>= λ a. need (leb (a .«disp_node_idx»)
 abbrev pub dividedAt : List DivergeNode → ℕ → ℕ → Sentinels → Res ℕ
 dividedAt divs split divSplit z = divPoint divs split divSplit z >>= λ d. partedAt divs split d
 
--- a round with another offset_cancel
-abbrev pub withLimit : Round → Metres → Round
-withLimit r m = record { train = r .train; «links_blocked» = r .«links_blocked»; «train_idx_moved» = r .«train_idx_moved»; «offset_cancel» = m; «idx_split_save» = r .«idx_split_save» }
-
 -- the link of an Arrive node is not 0 and below top
 abbrev pub Linked : ℕ → List DispNode → Type 0
 Linked top path = Each (λ (n : DispNode). isArrive (n .«link_event» .«est_type») ≡ true → (0 < n .«link_event» .«link_idx» .0) × (n .«link_event» .«link_idx» .0 < top)) path

@@ -1,5 +1,4 @@
 use denote.Ref.{now}
-use lib.Ieee.{lt}
 use Rattle.disp_structs.specs.declared.Metres.{Metres}
 use Rattle.disp_structs.specs.declared.DispNode.{DispNode}
 use Rattle.image.specs.Image.{nodeAt}
@@ -55,7 +54,15 @@ cast-t17 c = search needs
 
 -- src/splitting.rt:80:1
 returns : tie.Need-returns
-returns c = (record { est = c .before .before .before .before .est-count .ensures; path = refl; divs = refl; room = c .before .diverge-room .ensures; fixed = refl }, refl, refl, (λ x. c .before .before .before .before .before .before .offset-cancel .ensures x ∙ ap (λ (n : DispNode). lt (offsetCancel (c .before .before .before .before .before .before .before .before .before .before .before .before .args .g .«is_local») (c .before .before .before .before .before .before .before .before .before .before .before .before .args .g .«offset_lowest») (n .offset) (c .before .before .before .before .before .before .before .dist-disp-path-search .result) .0) x) (c .before .before .before .before .before .before .before .before .before .before .node-at .ensures) ∙ ap (λ (m : Metres). lt (offsetCancel (c .before .before .before .before .before .before .before .before .before .before .before .before .args .g .«is_local») (c .before .before .before .before .before .before .before .before .before .before .before .before .args .g .«offset_lowest») (nodeAt (now (c .before .before .before .before .before .before .before .before .before .before .before .before .args .img)) (c .before .before .before .before .before .before .before .before .before .before .before .before .args .split) .offset) m .0) x) (c .before .before .before .before .before .before .before .dist-disp-path-search .ensures)))
+returns c =
+    let k = c .before .before .before .before .before .before in
+    let a = k .before .before .before .before .before .before .args in
+    let far = k .before .dist-disp-path-search in
+    let limit =
+    k .offset-cancel .ensures
+    ∙ ap (λ (n : DispNode). offsetCancel (a .g .«is_local») (a .g .«offset_lowest») (n .offset) (far .result)) (k .before .before .before .before .node-at .ensures)
+    ∙ ap (λ (m : Metres). offsetCancel (a .g .«is_local») (a .g .«offset_lowest») (nodeAt (now (a .img)) (a .split) .offset) m) (far .ensures) in
+    (record { est = c .before .before .before .before .est-count .ensures; path = refl; divs = refl; room = c .before .diverge-room .ensures; fixed = refl }, refl, refl, limit)
 
 pub round-of-spec : {M : Type 1} → statement M
 round-of-spec =
