@@ -4,16 +4,15 @@ use free_path::link_opt_type::LinkOptType;
 use image::codec;
 use link_rules::link_idx::LinkIdx;
 use search::Index;
+use search::fakes;
 ghost use mathlib.Core.Path.{_≡_};
 ghost use mathlib.Core.Bool.{_&&_};
 ghost use Prim.Native.Nat.{_≤_};
 ghost use Rattle.link_rules.specs.LinkIdx.{sameLink};
 ghost use Rattle.disp_structs.specs.Values.{isArrive};
 ghost use Rattle.image.specs.Image.{nodeAt};
-ghost use Rattle.free_path.specs.Base.{walkFrom};
 ghost use Rattle.free_path.specs.Columns.{answer};
 ghost use Rattle.free_path.specs.LinkOptType.{linksOnPath, contains};
-ghost use Rattle.update_definition.specs.Moves.{notFake};
 ghost use Rattle.update_definition.specs.Update.{apart, savePoint};
 ghost use Rattle.search.specs.Read.{pathOf};
 
@@ -59,22 +58,6 @@ pub fn is_apart(class: LinkOptType, img: &[u8], n: u32) -> bool
 
 // ---- the save node
 
-// The first node at or after `from` that is no Fake.
-fn walk_fakes(img: &[u8], n: u32, from: usize) -> Index
-    ensures { λ x. ⌜ (answer (x .code) (x .index) ≡ walkFrom notFake (pathOf (now (img .entry)) n) from) × (x .index ≤ n) ⌝ }
-{
-    let mut k = from;
-    while k < n as usize {
-        let e = codec::node_link_event(img, k as u32);
-        let t = e.est_type;
-        if !events::is_fake(t) {
-            return Index { code: 0, index: k };
-        }
-        k += 1;
-    }
-    Index { code: 13, index: 0 }
-}
-
 // idx_save
 pub fn save_point(img: &[u8], n: u32, fixed: usize, split: usize) -> Index
     ensures { λ x. ⌜ (answer (x .code) (x .index) ≡ savePoint (pathOf (now (img .entry)) n) fixed split) × (n ≤ 512 → fixed ≤ 512 → x .index ≤ 512) ⌝ }
@@ -85,5 +68,5 @@ pub fn save_point(img: &[u8], n: u32, fixed: usize, split: usize) -> Index
             index: fixed,
         };
     }
-    walk_fakes(img, n, split)
+    fakes::walk_fakes(img, n, split)
 }

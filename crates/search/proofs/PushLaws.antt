@@ -1,27 +1,21 @@
 -- Pushes and the saved path, over any round, place and search, test by test as the code has them. Assumes nothing.
-use mathlib.Core.Path.{_≡_, refl, sym, ap, _∙_}
-use mathlib.Core.Bool.{Bool, true, false}
-use mathlib.Core.List.{List, [], _∷_, _++_}
-use Prim.Native.Nat.{ℕ, suc, _+_, _≤_, _<_}
-use native.Mathlib.Omega.{arith}
+use mathlib.Core.Path.{_≡_, refl}
+use mathlib.Core.Bool.{true, false}
+use mathlib.Core.List.{[], _∷_, _++_}
+use Prim.Native.Nat.{ℕ, _+_}
 use lib.Ieee.{Float, inf, ofBits}
-use lib.ListN.{length}
 use Rattle.disp_structs.specs.Floats.{realOf}
 use Rattle.disp_structs.specs.Values.{within, near, plus, never}
 use Rattle.disp_structs.specs.declared.Seconds.{Seconds}
 use Rattle.disp_structs.specs.declared.DispNode.{DispNode}
-use Rattle.free_path.specs.Base.{Res, ok, no, _>>=_, _>>_, at, walkFrom}
+use Rattle.free_path.specs.Base.{ok, no, at, walkFrom}
 use Rattle.free_path.specs.Columns.{answer}
 use Rattle.free_path.specs.LinkOptType.{least}
 use Rattle.free_path.proofs.CountLaws.{answer-no}
-use Rattle.free_path.proofs.WalkLaws.{walk-stop, walk-on, walk-off}
-use Rattle.disp_structs.proofs.ListedLaws.{listed-length, listed-at}
-use Rattle.image.specs.Image.{nodeAt}
 use Rattle.update_definition.specs.State as State
 use Rattle.update_definition.specs.Look as Look
 use Rattle.update_definition.specs.Moves as Moves
 use Rattle.update_definition.specs.Moves.{notFake, savedNode, savedFree}
-use Rattle.search.specs.Read.{pathOf}
 use Rattle.search.specs.Effects.{pushTurn}
 
 -- ---- a push
@@ -48,18 +42,6 @@ pub advance-is : (h : Look.Here) (s : State.Search) (t : Seconds) → t ≡ neve
     → pushTurn (State.setFree s f) (record { offset = plus (h .«disp_node_curr» .offset) (h .«est_curr» .«dist_to_next»); «time_pass» = t; «link_event» = h .«est_next» .«link_event»; «est_idx» = h .«est_curr» .«idx_next»; «disp_auth_idx_entry» = 0 }) ≡ Moves.advance h s
 unfolding Moves.advance
 advance-is h s t e f q = rw (e, q)
-
--- ---- the walk on to a node that is no Fake
-
-module _ (img : List ℕ) (n i : ℕ) where
-  pub on-stop : i < n → notFake (nodeAt img i) ≡ true → ok i ≡ walkFrom notFake (pathOf img n) i
-  on-stop h e = sym (walk-stop notFake (pathOf img n) i (nodeAt img i) (omega (arith, listed-length n (nodeAt img))) (ap notFake (listed-at n (nodeAt img) i (nodeAt img i) h) ∙ e))
-
-  pub on-turn : i < n → notFake (nodeAt img i) ≡ false → walkFrom notFake (pathOf img n) (i + 1) ≡ walkFrom notFake (pathOf img n) i
-  on-turn h e = sym (walk-on notFake (pathOf img n) i (nodeAt img i) (omega (arith, listed-length n (nodeAt img))) (ap notFake (listed-at n (nodeAt img) i (nodeAt img i) h) ∙ e))
-
-  pub on-end : n ≤ i → no 13 ≡ walkFrom notFake (pathOf img n) i
-  on-end h = sym (walk-off notFake (pathOf img n) i (nodeAt img i) (omega (arith, listed-length n (nodeAt img))))
 
 -- ---- PushSaved
 

@@ -2,6 +2,7 @@
 // the moves but ChangeDiverge and Join (moves, rewind), a turn up to these two (turn), and turn after turn up to the one that ends it (run).
 // est_times and disp_path are read from the image; diverge nodes, views, the pool of blocking trains and is_on_path are
 // columns of numbers that the caller lends. What stands past a column's end reads as 0. The crate assumes nothing of its own.
+pub mod fakes;
 pub mod look;
 pub mod moves;
 pub mod rewind;

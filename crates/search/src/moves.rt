@@ -1,9 +1,9 @@
 // The moves of the search, all but ChangeDiverge and Join (free_path.rs 419-573).
 use crate::Effect;
-use crate::Index;
 use crate::Moved;
 use crate::Place;
 use crate::Round;
+use crate::fakes;
 use crate::look::Here;
 use crate::views;
 use disp_structs::DispNode;
@@ -13,7 +13,6 @@ use disp_structs::LinkEvent;
 use disp_structs::Metres;
 use disp_structs::Seconds;
 use disp_structs::TrainIdxsView;
-use disp_structs::events;
 use disp_structs::floats;
 use free_path::train_idxs_view::Grown;
 use image::codec;
@@ -24,14 +23,13 @@ ghost use Prim.Native.Nat.{ℕ, _+_, _-_, _<_, _≤_};
 ghost use lib.ListN.{length, take};
 ghost use Rattle.disp_structs.specs.Train.{Train};
 ghost use Rattle.disp_structs.specs.Values.{never};
-ghost use Rattle.free_path.specs.Base.{walkFrom};
 ghost use Rattle.free_path.specs.LinkOptType.{least};
 ghost use Rattle.free_path.specs.Columns.{answer, trains};
 ghost use Rattle.update_definition.specs.State.{diverging};
 ghost use Rattle.update_definition.specs.State as State;
 ghost use Rattle.update_definition.specs.Moves as Moves;
-ghost use Rattle.update_definition.specs.Moves.{notFake, alternateFree, alternateNode, savedNode, pushSaved};
-ghost use Rattle.search.specs.Read.{divsOf, trainsFrom, pathOf, roundOf, arrays, Small};
+ghost use Rattle.update_definition.specs.Moves.{alternateFree, alternateNode, savedNode, pushSaved};
+ghost use Rattle.search.specs.Read.{divsOf, trainsFrom, roundOf, arrays, Small};
 ghost use Rattle.search.specs.Effects.{Sized, effectOf, pushTurn, deposit, MoveIs, Keeping, BlocksEmpty, Alternates};
 
 // A node goes to the new path, its offset in reach.
@@ -127,23 +125,6 @@ pub(crate) fn block_empty(
     }
 }
 
-// On from i to the first node that is no Fake.
-fn walk_on(img: &[u8], n: usize, from: usize) -> Index
-    requires { ⌜ n ≤ 512 ⌝ }
-    ensures { λ x. ⌜ (answer (x .code) (x .index) ≡ walkFrom notFake (pathOf (now (img .entry)) n) from) × (x .index ≤ n) ⌝ }
-{
-    let mut k = from;
-    while k < n {
-        let e = codec::node_link_event(img, k as u32);
-        let t = e.est_type;
-        if !events::is_fake(t) {
-            return Index { code: 0, index: k };
-        }
-        k += 1;
-    }
-    Index { code: 13, index: 0 }
-}
-
 // The saved node, its est the next one.
 fn saved_node(n: DispNode, e: EstIdx) -> DispNode
     ensures { λ x. ⌜ x ≡ savedNode n e ⌝ }
@@ -185,7 +166,7 @@ pub(crate) fn push_saved(img: &[u8], r: Round, h: Here, p: Place) -> Moved
             place: p,
         };
     }
-    let k = walk_on(img, r.path_count, p.idx_save + 1);
+    let k = fakes::walk_fakes(img, r.path_count as u32, p.idx_save + 1);
     if k.code != 0 {
         return Moved {
             effect: Effect::Refused(k.code),

@@ -1,9 +1,8 @@
 use denote.Ref.{now}
-use mathlib.Core.Path.{_≡_, refl, sym, ap, _∙_}
+use mathlib.Core.Path.{refl, sym, ap, _∙_}
 use native.Mathlib.Omega.{arith}
 use borrow.Author.Tests.{not-true, not-false}
-use Rattle.disp_structs.specs.Values.{within, near, plus}
-use Rattle.disp_structs.specs.declared.DispNode.{DispNode}
+use Rattle.disp_structs.specs.Values.{near}
 use Rattle.image.specs.Image.{nodeAt}
 use Rattle.free_path.specs.Base.{ok}
 use Rattle.free_path.proofs.ColumnLaws.{listed-read, listed-out}
@@ -12,35 +11,22 @@ use Rattle.search.proofs.PushLaws as L
 use borrow.Author.Needs.{needs}
 use Rattle.search.proofs.moves.push_saved.Statement.{statement}
 use Rattle.search.proofs.moves.push_saved.Tie as tie
-use Rattle.search.proofs.moves.push_saved.Reads as reads
-use Rattle.search.proofs.moves.push_saved.Lts as lts
-use Rattle.disp_structs.proofs.floats.in_reach.Reads as in-reach-reads
-use Rattle.disp_structs.proofs.floats.near.Reads as near-reads
-use Rattle.image.proofs.codec.node_at.Reads as node-at-reads
-use Rattle.search.proofs.moves.saved_free.Reads as saved-free-reads
-use Rattle.search.proofs.moves.saved_node.Reads as saved-node-reads
-use Rattle.search.proofs.moves.walk_on.Reads as walk-on-reads
 
--- src/moves.rt:170:9
 returns : tie.Need-returns
 returns c =
     let a = (c .before .before .before .before .args) in
     let s = (c .before .before .before .before .pre) in
     ((λ t occ dt dn new divs pool views. L.saved-out (roundOf t occ (now (a .img)) dt dn (a .r)) (hereOf (a .h)) (searchOf (a .p) new divs pool views) (listed-out (a .r .«path_count») (nodeAt (now (a .img))) (a .p .«idx_save») (c .if1 .taken))), record { split = omega arith; divSplit = s .0 .divSplit; save = s .0 .save; divs = s .0 .divs; pool = s .0 .pool; free = λ b u v. omega (arith, u) }, refl, refl)
 
--- src/moves.rt:175:33
 cast-node-at : tie.Need-cast-node-at
 cast-node-at c = search needs
 
--- src/moves.rt:175:9
 node-at-requires : tie.Need-node-at-requires
 node-at-requires c κs = search needs
 
--- src/moves.rt:178:9
 near-requires : tie.Need-near-requires
 near-requires c κs = search needs
 
--- src/moves.rt:179:9
 returns-2 : tie.Need-returns-2
 returns-2 c =
     let a = (c .before .before .before .before .before .before .before .before .before .before .before .before .args) in
@@ -48,11 +34,9 @@ returns-2 c =
     let n = (c .before .before .before .before .before .before .node-at) in
     ((λ t occ dt dn new divs pool views. L.saved-apart (roundOf t occ (now (a .img)) dt dn (a .r)) (hereOf (a .h)) (searchOf (a .p) new divs pool views) (n .result) (listed-read (a .r .«path_count») (nodeAt (now (a .img))) (a .p .«idx_save») (c .before .before .before .before .before .before .before .before .if1 .left) ∙ ap ok (sym (n .ensures))) (sym (c .before .near .ensures) ∙ not-true _ (c .if2 .taken))), record { split = omega arith; divSplit = s .0 .divSplit; save = s .0 .save; divs = s .0 .divs; pool = s .0 .pool; free = λ b u v. omega (arith, u) }, refl, refl)
 
--- src/moves.rt:184:9
 in-reach-requires : tie.Need-in-reach-requires
 in-reach-requires c κs = search needs
 
--- src/moves.rt:185:9
 returns-3 : tie.Need-returns-3
 returns-3 c =
     let a = (c .before .before .before .before .before .before .before .before .before .before .before .before .before .before .args) in
@@ -60,43 +44,40 @@ returns-3 c =
     let n = (c .before .before .before .before .before .before .before .before .node-at) in
     ((λ t occ dt dn new divs pool views. L.saved-far (roundOf t occ (now (a .img)) dt dn (a .r)) (hereOf (a .h)) (searchOf (a .p) new divs pool views) (n .result) (listed-read (a .r .«path_count») (nodeAt (now (a .img))) (a .p .«idx_save») (c .before .before .before .before .before .before .before .before .before .before .if1 .left) ∙ ap ok (sym (n .ensures))) (sym (c .before .before .before .near .ensures) ∙ not-false _ (c .before .before .if2 .left)) (sym (c .before .in-reach .ensures) ∙ not-true _ (c .if3 .taken))), record { split = omega arith; divSplit = s .0 .divSplit; save = s .0 .save; divs = s .0 .divs; pool = s .0 .pool; free = λ b u v. omega (arith, u) }, refl, refl)
 
--- src/moves.rt:190:40
-add-walk-on : tie.Need-add-walk-on
-add-walk-on c = omega (arith, c .before .before .before .before .before .before .before .before .before .before .before .before .before .before .before .pre .0 .save)
+cast-walk-fakes : tie.Need-cast-walk-fakes
+cast-walk-fakes c = omega (arith, c .before .before .before .before .before .before .before .before .before .before .before .before .before .before .before .pre .1 .path)
 
--- src/moves.rt:190:9
-walk-on-requires : tie.Need-walk-on-requires
-walk-on-requires c κs = c .before .before .before .before .before .before .before .before .before .before .before .before .before .before .before .pre .1 .path
+add-walk-fakes : tie.Need-add-walk-fakes
+add-walk-fakes c = omega (arith, c .before .before .before .before .before .before .before .before .before .before .before .before .before .before .before .before .pre .0 .save)
 
--- src/moves.rt:192:9
+walk-fakes-requires : tie.Need-walk-fakes-requires
+walk-fakes-requires c κs = search needs
+
 returns-4 : tie.Need-returns-4
 returns-4 c =
-    let a = (c .before .before .before .before .before .before .before .before .before .before .before .before .before .before .before .before .before .before .args) in
-    let s = (c .before .before .before .before .before .before .before .before .before .before .before .before .before .before .before .before .before .before .pre) in
-    let n = (c .before .before .before .before .before .before .before .before .before .before .before .before .node-at) in
-    let k = (c .before .before .walk-on) in
-    ((λ t occ dt dn new divs pool views. L.saved-end (roundOf t occ (now (a .img)) dt dn (a .r)) (hereOf (a .h)) (searchOf (a .p) new divs pool views) (n .result) (listed-read (a .r .«path_count») (nodeAt (now (a .img))) (a .p .«idx_save») (c .before .before .before .before .before .before .before .before .before .before .before .before .before .before .if1 .left) ∙ ap ok (sym (n .ensures))) (sym (c .before .before .before .before .before .before .before .near .ensures) ∙ not-false _ (c .before .before .before .before .before .before .if2 .left)) (sym (c .before .before .before .before .before .in-reach .ensures) ∙ not-false _ (c .before .before .before .before .if3 .left)) (k .result .code) (k .result .index) (k .ensures .0) (c .if4 .taken)), record { split = omega arith; divSplit = s .0 .divSplit; save = s .0 .save; divs = s .0 .divs; pool = s .0 .pool; free = λ b u v. omega (arith, u) }, refl, refl)
+    let a = (c .before .before .before .before .before .before .before .before .before .before .before .before .before .before .before .before .before .before .before .args) in
+    let s = (c .before .before .before .before .before .before .before .before .before .before .before .before .before .before .before .before .before .before .before .pre) in
+    let n = (c .before .before .before .before .before .before .before .before .before .before .before .before .before .node-at) in
+    let k = (c .before .before .walk-fakes) in
+    ((λ t occ dt dn new divs pool views. L.saved-end (roundOf t occ (now (a .img)) dt dn (a .r)) (hereOf (a .h)) (searchOf (a .p) new divs pool views) (n .result) (listed-read (a .r .«path_count») (nodeAt (now (a .img))) (a .p .«idx_save») (c .before .before .before .before .before .before .before .before .before .before .before .before .before .before .before .if1 .left) ∙ ap ok (sym (n .ensures))) (sym (c .before .before .before .before .before .before .before .before .near .ensures) ∙ not-false _ (c .before .before .before .before .before .before .before .if2 .left)) (sym (c .before .before .before .before .before .before .in-reach .ensures) ∙ not-false _ (c .before .before .before .before .before .if3 .left)) (k .result .code) (k .result .index) (k .ensures .0) (c .if4 .taken)), record { split = omega arith; divSplit = s .0 .divSplit; save = s .0 .save; divs = s .0 .divs; pool = s .0 .pool; free = λ b u v. omega (arith, u) }, refl, refl)
 
--- src/moves.rt:198:5
 saved-free-requires : tie.Need-saved-free-requires
 saved-free-requires c κs =
-    let s = (c .before .before .before .before .before .before .before .before .before .before .before .before .before .before .before .before .before .before .pre) in
+    let s = (c .before .before .before .before .before .before .before .before .before .before .before .before .before .before .before .before .before .before .before .pre) in
     (s .1 .fixed, omega (arith, s .2, s .0 .split, s .0 .new))
 
--- src/moves.rt:200:9
 saved-node-requires : tie.Need-saved-node-requires
 saved-node-requires c κs = search needs
 
--- src/moves.rt:165:1
 returns-5 : tie.Need-returns-5
 returns-5 c =
-    let a = (c .before .before .before .before .before .before .before .before .before .before .before .before .before .before .before .before .before .before .before .before .args) in
-    let s = (c .before .before .before .before .before .before .before .before .before .before .before .before .before .before .before .before .before .before .before .before .pre) in
-    let n = (c .before .before .before .before .before .before .before .before .before .before .before .before .before .before .node-at) in
-    let k = (c .before .before .before .before .walk-on) in
+    let a = (c .before .before .before .before .before .before .before .before .before .before .before .before .before .before .before .before .before .before .before .before .before .args) in
+    let s = (c .before .before .before .before .before .before .before .before .before .before .before .before .before .before .before .before .before .before .before .before .before .pre) in
+    let n = (c .before .before .before .before .before .before .before .before .before .before .before .before .before .before .before .node-at) in
+    let k = (c .before .before .before .before .walk-fakes) in
     let f = (c .before .saved-free) in
     let m = (c .saved-node) in
-    ((λ t occ dt dn new divs pool views. rw (m .ensures) (L.saved-go (roundOf t occ (now (a .img)) dt dn (a .r)) (hereOf (a .h)) (searchOf (a .p) new divs pool views) (n .result) (listed-read (a .r .«path_count») (nodeAt (now (a .img))) (a .p .«idx_save») (c .before .before .before .before .before .before .before .before .before .before .before .before .before .before .before .before .if1 .left) ∙ ap ok (sym (n .ensures))) (sym (c .before .before .before .before .before .before .before .before .before .near .ensures) ∙ not-false _ (c .before .before .before .before .before .before .before .before .if2 .left)) (sym (c .before .before .before .before .before .before .before .in-reach .ensures) ∙ not-false _ (c .before .before .before .before .before .before .if3 .left)) (k .result .code) (k .result .index) (k .ensures .0) (c .before .before .if4 .left) (f .result) (f .ensures))), record { split = omega arith; divSplit = s .0 .divSplit; save = omega (arith, k .ensures .1, s .1 .path); divs = s .0 .divs; pool = s .0 .pool; free = λ b u v. omega (arith, f .ensures, u, v, s .2) }, refl, refl)
+    ((λ t occ dt dn new divs pool views. rw (m .ensures) (L.saved-go (roundOf t occ (now (a .img)) dt dn (a .r)) (hereOf (a .h)) (searchOf (a .p) new divs pool views) (n .result) (listed-read (a .r .«path_count») (nodeAt (now (a .img))) (a .p .«idx_save») (c .before .before .before .before .before .before .before .before .before .before .before .before .before .before .before .before .before .if1 .left) ∙ ap ok (sym (n .ensures))) (sym (c .before .before .before .before .before .before .before .before .before .before .near .ensures) ∙ not-false _ (c .before .before .before .before .before .before .before .before .before .if2 .left)) (sym (c .before .before .before .before .before .before .before .before .in-reach .ensures) ∙ not-false _ (c .before .before .before .before .before .before .before .if3 .left)) (k .result .code) (k .result .index) (k .ensures .0) (c .before .before .if4 .left) (f .result) (f .ensures))), record { split = omega arith; divSplit = s .0 .divSplit; save = omega (arith, k .ensures .1, s .1 .path); divs = s .0 .divs; pool = s .0 .pool; free = λ b u v. omega (arith, f .ensures, u, v, s .2) }, refl, refl)
 
 pub push-saved-spec : {M : Type 1} → statement M
 push-saved-spec =
@@ -109,8 +90,9 @@ push-saved-spec =
     returns-2
     in-reach-requires
     returns-3
-    add-walk-on
-    walk-on-requires
+    cast-walk-fakes
+    add-walk-fakes
+    walk-fakes-requires
     returns-4
     saved-free-requires
     saved-node-requires

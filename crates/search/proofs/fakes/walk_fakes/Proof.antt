@@ -9,10 +9,10 @@ use Rattle.image.specs.Image.{nodeAt}
 use Rattle.free_path.specs.Base.{walkFrom}
 use Rattle.splice.proofs.ListLaws.{walk-hit, walk-miss, walk-none}
 use Rattle.update_definition.specs.Moves.{notFake}
 use Rattle.search.specs.Read.{pathOf}
 use borrow.Author.Needs.{needs}
-use Rattle.round_start.proofs.path.walk_fakes.Statement.{statement}
-use Rattle.round_start.proofs.path.walk_fakes.Tie as tie
+use Rattle.search.proofs.fakes.walk_fakes.Statement.{statement}
+use Rattle.search.proofs.fakes.walk_fakes.Tie as tie
 
 abbrev Inv-loop : tie.InvT-loop
 Inv-loop img n from k₀ k = walkFrom notFake (pathOf img n) k ≡ walkFrom notFake (pathOf img n) from
