@@ -10,7 +10,7 @@ use borrow.Author.Tests.{eq-eqb, ne-eqb}
 use Rattle.link_rules.specs.LinkIdx.{noTrain, sameTrain, hold, occupied}
 use Rattle.link_rules.specs.Network.{linkCount, tableFits, lockouts, lockoutAt, linkAt}
 use Rattle.link_rules.specs.Refusals.{orElse, refusedUnless}
-use Rattle.link_rules.specs.AdvanceRewind.{holdAll, refilled, resetLinkTrainIdx, resetAll, updateLinksBlocked, isLink, markRefusal, marked, markedBy, markOf}
+use Rattle.link_rules.specs.AdvanceRewind.{holdAll, refilled, resetLinkTrainIdx, resetAll, updateLinksBlocked, isLink, markRefusal, refusalJudged, marked, markedBy, markJudged, markOf}
 use Rattle.link_rules.specs.declared.link_idx.LinkIdx.{LinkIdx}
 use Rattle.link_rules.specs.declared.link_idx.TrainIdx.{TrainIdx}
 use Rattle.link_rules.specs.declared.refusal.Answer.the-variants.{Refused}
@@ -109,6 +109,13 @@ refused-leaves tbl occ l t r = go (markRefusal tbl (length occ) l)
 pub refused-by : (n : ℕ) (was left : List ℕ) → (n ≡ 0 → ⊥) → markedBy n was left ≡ marked (Refused (record { number = n; place = 0 })) was
 refused-by zero was left h = absurd (h refl)
 refused-by (suc n) was left h = refl
+
+-- ---- a table judged once
+
+-- a mark over a judged table is the mark
+pub judged-once : (tbl occ : List ℕ) (l : LinkIdx) (t : TrainIdx) → markJudged (tableFits tbl) tbl occ l t ≡ markOf tbl occ l t
+unfolding markJudged refusalJudged markOf markRefusal
+judged-once tbl occ l t = refl
 
 -- ---- the refusals, by their tests
 

@@ -62,6 +62,10 @@ linkFault tbl l = refusedUnless (isLink tbl l) 3
 unfoldable pub markRefusal : (tbl : List ℕ) (n : ℕ) (l : LinkIdx) → ℕ
 markRefusal tbl n l = orElse (tableFault tbl) (orElse (entriesFault tbl n) (linkFault tbl l)) .number
 
+-- the same of a table that is judged already: fits says whether it is accepted
+unfoldable pub refusalJudged : (fits : Bool) (tbl : List ℕ) (n : ℕ) (l : LinkIdx) → ℕ
+refusalJudged fits tbl n l = orElse (refusedUnless fits 1) (orElse (entriesFault tbl n) (linkFault tbl l)) .number
+
 -- the answer, and the occupancy that is left
 pub record Marked : Type 0 where
   pub answer : Answer
@@ -77,3 +81,7 @@ markedBy (suc n) was left = marked (Refused (record { number = suc n; place = 0 
 
 unfoldable pub markOf : (tbl occ : List ℕ) (l : LinkIdx) (t : TrainIdx) → Marked
 markOf tbl occ l t = markedBy (markRefusal tbl (length occ) l) occ (updateLinksBlocked tbl occ l t)
+
+-- over a table that is judged already
+unfoldable pub markJudged : (fits : Bool) (tbl occ : List ℕ) (l : LinkIdx) (t : TrainIdx) → Marked
+markJudged fits tbl occ l t = markedBy (refusalJudged fits tbl (length occ) l) occ (updateLinksBlocked tbl occ l t)

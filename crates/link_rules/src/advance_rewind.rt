@@ -3,7 +3,7 @@ ghost use mathlib.Core.Path.{_≡_};
 ghost use lib.ListN.{length, getD, set};
 ghost use Rattle.link_rules.specs.LinkIdx.{occupied, wideTrain};
 ghost use Rattle.link_rules.specs.Network.{linkAt};
-ghost use Rattle.link_rules.specs.AdvanceRewind.{holdAll, refilled, resetLinkTrainIdx, resetAll, updateLinksBlocked, isLink, markRefusal, marked, markOf};
+ghost use Rattle.link_rules.specs.AdvanceRewind.{holdAll, refilled, resetLinkTrainIdx, resetAll, updateLinksBlocked, isLink, refusalJudged, marked, markJudged, markOf};
 use crate::link_idx::LinkIdx;
 use crate::link_idx::NarrowTrainIdx;
 use crate::network;
@@ -15,7 +15,20 @@ use crate::refusal::Refusal;
 pub fn mark(table: &[u8], occupancy: &mut [u16], link: LinkIdx, train: NarrowTrainIdx) -> Answer
     ensures { λ r. ⌜ marked r (now (occupancy .exit)) ≡ markOf (now (table .entry)) (now (occupancy .entry)) link (wideTrain train) ⌝ }
 {
-    let number = mark_refusal(table, occupancy.len(), link);
+    mark_judged(table, network::table_fits(table), occupancy, link, train)
+}
+
+// As `mark`, over a table that is judged already: `fits` says whether it is accepted. So many marks over one table judge it once.
+pub fn mark_judged(
+    table: &[u8],
+    fits: bool,
+    occupancy: &mut [u16],
+    link: LinkIdx,
+    train: NarrowTrainIdx,
+) -> Answer
+    ensures { λ r. ⌜ marked r (now (occupancy .exit)) ≡ markJudged fits (now (table .entry)) (now (occupancy .entry)) link (wideTrain train) ⌝ }
+{
+    let number = mark_refusal(table, fits, occupancy.len(), link);
     if number != 0 {
         return Answer::Refused(Refusal {
             number: number,
@@ -26,10 +39,10 @@ pub fn mark(table: &[u8], occupancy: &mut [u16], link: LinkIdx, train: NarrowTra
     Answer::Done
 }
 
-fn mark_refusal(table: &[u8], n: usize, link: LinkIdx) -> u16
-    ensures { λ r. ⌜ r ≡ markRefusal (now (table .entry)) n link ⌝ }
+fn mark_refusal(table: &[u8], fits: bool, n: usize, link: LinkIdx) -> u16
+    ensures { λ r. ⌜ r ≡ refusalJudged fits (now (table .entry)) n link ⌝ }
 {
-    let bad_table = refusal::refused_unless(network::table_fits(table), 1);
+    let bad_table = refusal::refused_unless(fits, 1);
     let bad_length = refusal::refused_unless(n == network::link_count(table) as usize, 2);
     let bad_link = refusal::refused_unless(is_link(table, link), 3);
     let first = refusal::or_else(bad_table, refusal::or_else(bad_length, bad_link));

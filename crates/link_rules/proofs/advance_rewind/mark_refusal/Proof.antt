@@ -1,10 +1,7 @@
-use Rattle.link_rules.specs.AdvanceRewind.{markRefusal}
+use Rattle.link_rules.specs.AdvanceRewind.{refusalJudged}
 use borrow.Author.Needs.{needs}
 use Rattle.link_rules.proofs.advance_rewind.mark_refusal.Statement.{statement}
 use Rattle.link_rules.proofs.advance_rewind.mark_refusal.Tie as tie
-
-table-fits-requires : tie.Need-table-fits-requires
-table-fits-requires c κs = search needs
 
 refused-unless-requires : tie.Need-refused-unless-requires
 refused-unless-requires c κs = search needs
@@ -31,14 +28,13 @@ or-else-requires-2 : tie.Need-or-else-requires-2
 or-else-requires-2 c κs = search needs
 
 returns : tie.Need-returns
-unfolding markRefusal
+unfolding refusalJudged
 returns c = cc
 
 pub mark-refusal-spec : {M : Type 1} → statement M
 mark-refusal-spec =
     tie.close
     (tie.spec
-    table-fits-requires
     refused-unless-requires
     link-count-requires
     cast-refused-unless
