@@ -6,8 +6,8 @@
  * refused check leaves `answer` as it was.
  *
  * No call keeps anything, allocates, prints or locks: any thread may call at any time. Bytes may lie at any address, numbers at
- * one that fits their type. A sheet takes 320 KB of stack at most, any other call 128 KB; README.md beside this file has each.
- * Text has no byte 0 at its end.
+ * one that fits their type. A sheet takes 320 KB of stack at most, a replay 160 KB, any other call 128 KB; README.md beside this
+ * file has each. Text has no byte 0 at its end.
  *
  * A refusal is a number with its place in the upper 16 bits; 0 is none. The bytes of every buffer are in docs/LAYOUTS.md, the
  * numbers in docs/REFUSALS.md. */
@@ -34,6 +34,7 @@ enum {
     LAVTOEU_YARD_HEADER = 8, LAVTOEU_YARD_OFFSET = 4,
     LAVTOEU_REPORT_RECORD = 20,
     LAVTOEU_BUNDLE_HEADER = 32,
+    LAVTOEU_RECORDING_HEADER = 12, LAVTOEU_STEP_RECORD = 20,
     LAVTOEU_SHEET_ROOM = 4096,
     LAVTOEU_PAGE_LINE = 40
 };
@@ -49,6 +50,9 @@ enum {
 
 /* The types of est records and path nodes. */
 enum { LAVTOEU_ARRIVE = 0, LAVTOEU_CLEAR = 1, LAVTOEU_FAKE = 2 };
+
+/* The kinds of a recording's steps. */
+enum { LAVTOEU_STEP_MARK = 0, LAVTOEU_STEP_CHECK = 1 };
 
 /* The headers and records, field by field. The calls take bytes: hand an array of records over as (uint8_t *), and copy a record
  * out of an image, a yard or a bundle with memcpy. Spare bytes are 0. */
@@ -68,6 +72,8 @@ typedef struct {
     uint32_t size, occupancy_at, occupancy, blocking_at, blocking, yard_at;
     uint16_t moved, begin, limit, local;
 } lavtoeu_bundle_header;
+typedef struct { uint32_t size, steps, links; } lavtoeu_recording_header;
+typedef struct { uint32_t kind, first, count; uint16_t train, begin, limit, local; } lavtoeu_step;
 
 /* The number and the place of a refusal. */
 static inline uint16_t lavtoeu_number(uint32_t refusal) { return (uint16_t)(refusal & 0xffff); }
@@ -123,6 +129,13 @@ uint32_t lavtoeu_ceiling(const uint8_t *image, size_t image_len, uint64_t *answe
 /* The most search steps of a check of a yard, to answer[0]: the sum of the slots' ceilings, each times the round limit; an image that
  * is refused by 6 to 9 adds 0. Refused by 5, then 14; a refused call leaves `answer` as it was. */
 uint32_t lavtoeu_yard_ceiling(const uint8_t *yard, size_t yard_len, uint16_t limit, uint64_t *answer, size_t answer_len);
+
+/* Replays a recording over the starting yard and occupancy, and leaves them as making its marks, releases and checks one by one would;
+ * every mark and release takes the one table, and a check's report goes unread. In a step first is the link of a mark, and the index
+ * of a check's first blocking link among the recording's; train is a check's moved train. The list has an entry for each step and
+ * gets the number of its refusal, 0 where there is none; a refused step changes nothing, and the replay goes on. Refused by 19, a
+ * malformed recording or a list of another length, before any step. */
+uint32_t lavtoeu_replay(const uint8_t *recording, size_t recording_len, const uint8_t *table, size_t table_len, uint8_t *yard, size_t yard_len, uint16_t *occupancy, size_t occupancy_len, uint16_t *list, size_t list_len);
 
 #ifdef __cplusplus
 }

@@ -81,6 +81,10 @@ def shuffled(seed, kind, numbers):
     return sorted(numbers, key=lambda n: drawn_lot(seed, kind, n))
 
 
+def in_any_order(seed, links):
+    return [links[i] for i in shuffled(seed, "blocking", range(len(links)))]
+
+
 def image_trains(part):
     """The trains of an image: the header's and those of its diverge records."""
     e, q = struct.unpack_from("<I", part, 4)[0], struct.unpack_from("<I", part, 16)[0]
@@ -95,8 +99,8 @@ def fresh(seed, yard, parts):
     trains = range(1, slots + 1)
     numbering.new["train"] = dict(zip(trains, shuffled(seed, "train", trains)))
     met = {t for t, _ in yard.occupied.values()} | {t for part in parts for t in image_trains(part)} | {yard.numbers["moved"]}
-    if yard.call is not None and yard.call[0] == "mark":
-        met.add(yard.call[3])
+    met |= {call[3] for call in [*yard.steps, yard.call] if call and call[0] == "mark"}
+    met |= {call[2]["moved"] for call in yard.steps if call[0] == "check" and "moved" in call[2]}
     for t in sorted(t for t in met if t > slots):
         lots = (slots + 1 + drawn_lot(seed, "train", t, again) % (LARGEST - slots) for again in itertools.count())
         numbering.new["train"][t] = next(n for n in lots if n not in numbering.new["train"].values())
@@ -128,11 +132,14 @@ def renumbered_image(part, numbering):
 
 
 def renumbered_call(call, numbering):
-    """A mark's link and train; the slot of any other call that has one."""
+    """A mark's link and train; a check's moved train and blocking links; the slot of any other call that has one."""
     kind, line, *given = call
     if kind == "mark":
         return (kind, line, numbering.link(given[0]), numbering.train(given[1]))
-    if kind == "report" or not given or not 1 <= given[0] <= numbering.slots:
+    if kind == "check":
+        told = {name: numbering.train(n) if name == "moved" else n for name, n in given[0].items()}
+        return (kind, line, {name: [numbering.link(l) for l in n] if name == "blocking" else n for name, n in told.items()})
+    if kind in ("report", "replay") or not given or not 1 <= given[0] <= numbering.slots:
         return call
     return (kind, line, numbering.train(given[0]), *given[1:])
 
@@ -145,6 +152,9 @@ def kept_bytes(yard):
     for line, at, data in yard.patches:
         if at + len(data) > 32 or any(24 <= i < 26 for i in range(at, at + len(data))):
             raise Wrong(line, "a bundle-byte of the moved train or behind the bundle's header cannot be renumbered")
+    for line, at, data in yard.recording_patches:
+        if at + len(data) > 12:
+            raise Wrong(line, "a recording-byte behind the recording's header cannot be renumbered")
 
 
 def renumbered(yard, parts, numbering):
@@ -157,7 +167,8 @@ def renumbered(yard, parts, numbering):
     out.numbers = {**yard.numbers, "moved": numbering.train(yard.numbers["moved"])}
     out.flips = {numbering.link(l): (numbering.link(f), [numbering.link(k) for k in locks], line) for l, (f, locks, line) in yard.flips.items()}
     out.call = yard.call and renumbered_call(yard.call, numbering)
-    out.patches, out.yard_patches = yard.patches, yard.yard_patches
+    out.steps = [renumbered_call(step, numbering) for step in yard.steps]
+    out.patches, out.yard_patches, out.recording_patches = yard.patches, yard.yard_patches, yard.recording_patches
     images = {numbering.train(t): renumbered_image(part, numbering) for t, part in enumerate(parts, 1)}
     return out, [images[t] for t in sorted(images)]
 
@@ -166,7 +177,18 @@ def call_line(call):
     kind, _, *given = call
     if kind == "mark":
         return f"mark {given[0]} for {given[1]}" if given[1] else f"release {given[0]}"
+    if kind == "check":
+        told = [f"{name} {('no', 'yes')[n] if name == 'local' else n}" for name, n in given[0].items() if name != "blocking"]
+        return " ".join(["check", *told, *(map(str, ["blocking", *given[0]["blocking"]]) if "blocking" in given[0] else [])])
     return " ".join([kind, *map(str, given)])
+
+
+def step_line(step):
+    """A step with its blocking links by number: their order does not matter."""
+    kind, line, *given = step
+    if kind == "check" and "blocking" in given[0]:
+        given = [{**given[0], "blocking": sorted(given[0]["blocking"])}]
+    return call_line((kind, line, *given))
 
 
 def flip_line(link, flip, locks):
@@ -182,11 +204,12 @@ def text(yard, parts):
     out += [f"moved {n['moved']}", f"begin {n['begin']}", f"limit {n['limit']}", f"local {'yes' if n['local'] else 'no'}"]
     out += [flip_line(l, *yard.flips[l][:2]) for l in sorted(yard.flips)]
     if yard.call is not None:
-        out.append(call_line(yard.call))
+        out += [call_line(call) for call in (yard.call, *yard.steps)]
     for t, part in enumerate(parts, 1):
         out += ["", *train_lines(part, t)]
     out += [f"yard-byte {at} {data.hex()}" for _, at, data in yard.yard_patches]
     out += [f"bundle-byte {at} {data.hex()}" for _, at, data in yard.patches]
+    out += [f"recording-byte {at} {data.hex()}" for _, at, data in yard.recording_patches]
     return "\n".join(out) + "\n"
 
 
@@ -198,6 +221,12 @@ def premises(yard, sheet):
     bad = [(line, "the table is refused by 1") for l, (f, locks, line) in yard.flips.items() if max([l, f, *locks]) >= yard.links]
     if yard.call is not None and yard.call[0] == "mark":
         return bad
+    if yard.call is not None and yard.call[0] == "replay":
+        begins = [line for kind, line, *given in yard.steps if kind == "check" and yard.asked(given[0])["begin"] != 1]
+        bad += [(line, "the check does not begin at slot 1") for line in begins]
+        bad += [(line, "entry 0 of the occupancy is not empty") for line in [yard.said.get("occupied 0")] if line and yard.occupied[0][0]]
+        checks = any(step[0] == "check" for step in yard.steps)
+        return bad + [(0, "the strays of its checks are not known")] if checks else bad
     if yard.call is not None and yard.call[0] != "report":
         return bad + [(yard.call[1], "the promise is about marks, releases and checks, not about this call")]
     if sheet is not None and sheet[0][0] == "refused":
@@ -237,9 +266,9 @@ def put(files):
 
 
 def sheet_if_built(yard, folder):
-    """The program's sheet; None where the program cannot be run, and for a mark or release, which has none."""
+    """The program's sheet; None where the program cannot be run, and for a mark, a release or a replay, which have none."""
     try:
-        return None if yard.call and yard.call[0] == "mark" else programs.sheet(yard, folder)
+        return None if yard.call and yard.call[0] in ("mark", "replay") else programs.sheet(yard, folder)
     except Wrong as w:
         tell(f"{w.name}: {w.why}")
         return None
@@ -257,7 +286,10 @@ def renumber(args):
         parts = drawn_parts(yard)
         numbering = fresh(seed, yard, parts)
         new, images = renumbered(yard, parts, numbering)
-        new.blocking = [new.blocking[i] for i in shuffled(seed, "blocking", range(len(new.blocking)))]
+        new.blocking = in_any_order(seed, new.blocking)
+        for kind, _, *asked in new.steps:
+            if kind == "check" and "blocking" in asked[0]:
+                asked[0]["blocking"] = in_any_order(seed, asked[0]["blocking"])
         words = text(new, images)
         sheet = programs.sheet_in(given["--sheet"], yard) if "--sheet" in given else sheet_if_built(yard, given.get("--programs"))
         bad = premises(yard, sheet)
@@ -295,9 +327,13 @@ def yards_differ(mine, images, second):
     for l in sorted({*mine.flips, *second.flips}):
         yield from told("the table", flip_line(l, *second.flips.get(l, (0, []))[:2]), flip_line(l, *mine.flips.get(l, (0, []))[:2]))
     yield from told("the call", *(y.call and call_line(y.call) or "none" for y in (second, mine)))
+    yield from told("the number of steps", len(second.steps), len(mine.steps))
+    for i, (a, b) in enumerate(zip(mine.steps, second.steps), 1):
+        yield from told(f"step {i}", step_line(b), step_line(a))
     for t, (a, b) in enumerate(zip(images, second.trains), 1):
         yield from images_differ(t, a, b.bytes())
-    for what, a, b in (("bundle-byte", mine.patches, second.patches), ("yard-byte", mine.yard_patches, second.yard_patches)):
+    patches = [("bundle-byte", mine.patches, second.patches), ("yard-byte", mine.yard_patches, second.yard_patches)]
+    for what, a, b in (*patches, ("recording-byte", mine.recording_patches, second.recording_patches)):
         yield from told(f"the {what} lines", *([f"{at} {data.hex()}" for _, at, data in x] for x in (b, a)))
 
 

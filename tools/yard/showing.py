@@ -25,6 +25,7 @@ REFUSALS = {
     16: "the report has not 20 bytes for each slot",
     17: "the bundle is too long, its size or its parts do not fit, or local is neither 0 nor 1",
     18: "the page has fewer than 40 bytes for each node of the path",
+    19: "the recording is malformed, or the list has not one entry for each step",
     29: "a value outside the training track profile",
 }
 WORDS = {

@@ -26,6 +26,12 @@ pub const CHECK_WORDS: usize = 3;
 pub const BUNDLE_HEADER: usize = 32;
 pub const MAX_BUNDLE: usize = 65_536;
 
+/// A recording before its steps, and one of these; the kinds of a step.
+pub const RECORDING_HEADER: usize = 12;
+pub const STEP_RECORD: usize = 20;
+pub const STEP_MARK: u32 = 0;
+pub const STEP_CHECK: u32 = 1;
+
 /// Bytes that hold every sheet.
 pub const SHEET_ROOM: usize = 4_096;
 

@@ -2,8 +2,8 @@
 //!
 //! Every function takes slices and numbers and is total: any bytes get an answer. A refusal has a number and a place, and a
 //! refused call changes no buffer. The bytes of link table, image, yard, report and bundle are in the project's
-//! docs/LAYOUTS.md, the numbers of refusals in its docs/REFUSALS.md. [`Image`], [`table`], [`yard`], [`parts`], [`rows`] and
-//! [`bundle`] write and read them.
+//! docs/LAYOUTS.md, the numbers of refusals in its docs/REFUSALS.md. [`Image`], [`table`], [`yard`], [`parts`], [`rows`],
+//! [`bundle`] and [`Recording`] write and read them.
 //!
 //! ```
 //! use lavtoeu::{mark, table, Link, Refusal};
@@ -21,11 +21,13 @@ mod image;
 pub mod layout;
 mod parts;
 pub mod raw;
+mod recording;
 mod table;
 mod version;
 
 pub use image::{Diverge, Image, Node};
 pub use parts::{bundle, parts};
+pub use recording::{replay, Check, Recording};
 pub use table::{links, table, Link};
 pub use version::{version, VERSION, VERSION_TEXT};
 
@@ -67,6 +69,7 @@ impl Refusal {
             16 => "report of a wrong length",
             17 => "bad bundle",
             18 => "page too short",
+            19 => "malformed recording, or a list of another length",
             29 => "outside the training track profile",
             _ => "no number of a refusal",
         }

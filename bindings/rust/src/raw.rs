@@ -48,5 +48,17 @@ extern "C" {
     ) -> u32;
     pub fn lavtoeu_ceiling(image: *const u8, image_len: usize, answer: *mut u64, answer_len: usize) -> u32;
     pub fn lavtoeu_yard_ceiling(yard: *const u8, yard_len: usize, limit: u16, answer: *mut u64, answer_len: usize) -> u32;
+    pub fn lavtoeu_replay(
+        recording: *const u8,
+        recording_len: usize,
+        table: *const u8,
+        table_len: usize,
+        yard: *mut u8,
+        yard_len: usize,
+        occupancy: *mut u16,
+        occupancy_len: usize,
+        list: *mut u16,
+        list_len: usize,
+    ) -> u32;
     pub fn lavtoeu_page(image: *const u8, image_len: usize, page: *mut u8, page_len: usize) -> u32;
 }

@@ -35,6 +35,16 @@ fn bytes_may_begin_at_any_address() {
 }
 
 #[test]
+fn a_recording_and_its_yard_may_begin_at_any_address() {
+    let table = table(&[0, 2, 1, 0].map(|flip| Link { flip, lockouts: vec![3] }));
+    let asked = Check { blocking: MOVE.blocking, moved: 2, begin: 1, local: false, limit: 5 };
+    let sitting = Recording::new().mark(2, 2).check(asked).to_bytes().unwrap();
+    same(at_each_address(&sitting, |sitting| replay(sitting, &table, &mut two_trains(), &mut [0; 4], &mut [9; 2])));
+    same(at_each_address(&two_trains(), |yard| replay(&sitting, &table, yard, &mut [0; 4], &mut [9; 2])));
+    same(at_each_address(&table, |table| replay(&sitting, table, &mut two_trains(), &mut [0; 4], &mut [9; 2])));
+}
+
+#[test]
 fn threads_may_call_at_once() {
     let once = || {
         let (mut yard, mut report) = (two_trains(), [0; 40]);

@@ -265,3 +265,40 @@ fn a_sheet_is_text_for_any_bytes() {
     let bundle = include_bytes!("../../../examples/two-slots.bundle");
     assert_eq!(sheet(bundle), include_str!("../../../examples/two-slots.sheet"));
 }
+
+/// A recording: kind, link or first blocking link's index, count, then train or moved, begin, limit, local of each step; the links.
+fn recording(steps: &[(u32, u32, u32, [u16; 4])], links: &[u32]) -> Vec<u8> {
+    let size = 12 + 20 * steps.len() + 4 * links.len();
+    let mut b: Vec<u8> = [size, steps.len(), links.len()].iter().flat_map(|n| (*n as u32).to_le_bytes()).collect();
+    for (kind, first, count, rest) in steps {
+        b.extend([kind, first, count].iter().flat_map(|n| n.to_le_bytes()));
+        b.extend(rest.iter().flat_map(|n| n.to_le_bytes()));
+    }
+    b.extend(links.iter().flat_map(|n| n.to_le_bytes()));
+    b
+}
+
+#[test]
+fn a_replay_leaves_what_its_calls_leave_one_by_one() {
+    let table = table(&[0, 2, 1, 0].map(|flip| Link { flip, lockouts: vec![] }));
+    let steps = [(0, 2, 0, [2, 0, 0, 0]), (0, 4, 0, [2, 0, 0, 0]), (1, 0, 1, [2, 0, 5, 0]), (1, 0, 1, [2, 1, 5, 0]), (0, 2, 0, [0; 4])];
+    let recorded = recording(&steps, &[1]);
+    let (mut yard, mut occupancy, mut list) = (two_trains(), [0; 4], [9; 5]);
+    assert_eq!(replay(&recorded, &table, &mut yard, &mut occupancy, &mut list), Ok(()));
+    assert_eq!((list, occupancy), ([0, 3, 15, 0, 0], [0; 4]));
+    let (mut one, mut report) = (two_trains(), vec![0; 2 * layout::REPORT_RECORD]);
+    check(&mut one, MOVE, 1, &mut report).unwrap();
+    assert!(yard == one && one != two_trains());
+}
+
+#[test]
+fn a_malformed_recording_is_refused_before_any_step() {
+    let (table, refused) = (table(&[0, 2, 1, 0].map(|flip| Link { flip, lockouts: vec![] })), Err(Refusal { number: 19, place: 0 }));
+    let step = (0, 2, 0, [2, 0, 0, 0]);
+    let bad = [(2, 2, 0, [2, 0, 0, 0]), (0, 2, 1, [2, 0, 0, 0]), (0, 2, 0, [2, 0, 0, 1]), (1, 0, 0, [2, 1, 5, 2]), (1, 1, u32::MAX, [2, 1, 5, 0])];
+    for b in bad.map(|b| recording(&[step, b], &[1])).into_iter().chain([vec![], recording(&[step], &[]), [recording(&[step, step], &[]), vec![0]].concat()]) {
+        let (mut yard, mut occupancy, mut list) = (two_trains(), [0; 4], [9; 2]);
+        assert_eq!(replay(&b, &table, &mut yard, &mut occupancy, &mut list), refused);
+        assert_eq!((yard, occupancy, list), (two_trains(), [0; 4], [9; 2]));
+    }
+}

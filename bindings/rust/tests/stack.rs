@@ -96,7 +96,7 @@ fn occupancy() -> Vec<u16> {
 }
 
 /// The calls with the stack that each may take, as bindings/README.md has it.
-const BOUNDS: [(&str, usize); 11] = [
+const BOUNDS: [(&str, usize); 12] = [
     ("version", 1 << 10),
     ("mark", 1 << 10),
     ("judge", 20 << 10),
@@ -108,10 +108,11 @@ const BOUNDS: [(&str, usize); 11] = [
     ("profile", 20 << 10),
     ("ceiling", 20 << 10),
     ("yard_ceiling", 20 << 10),
+    ("replay", 160 << 10),
 ];
 
 /// The stack of each call of `BOUNDS` over images that `image` makes of a train's number.
-fn stacks(image: fn(u16) -> Vec<u8>, m: Move) -> [usize; 11] {
+fn stacks(image: fn(u16) -> Vec<u8>, m: Move) -> [usize; 12] {
     let (one, mut spare) = (image(1), image(1));
     let header = Image::from_bytes(&one).unwrap();
     let est = est_bytes(&header.ests);
@@ -134,6 +135,11 @@ fn stacks(image: fn(u16) -> Vec<u8>, m: Move) -> [usize; 11] {
     let (profiled, profiles) = stack_of(|| profile(&one));
     let (most, ceilings) = stack_of(|| ceiling(&one));
     let (all, yard_ceilings) = stack_of(|| yard_ceiling(&yard, m.limit));
+    let asked = Check { blocking: m.blocking, moved: m.moved, begin: 1, local: m.local, limit: m.limit };
+    let sitting = Recording::new().mark(1, 9).check(asked).to_bytes().unwrap();
+    let mut list = [9; 2];
+    let (mut start, mut held) = (lavtoeu::yard(&[&one, &laid_out(2, 4)]), m.occupancy.to_vec());
+    let (played, replays) = stack_of(|| replay(&sitting, &table, &mut start, &mut held, &mut list));
 
     assert_eq!((number, marked, judged, laid), (VERSION, Ok(()), Ok(()), Ok(())));
     assert_eq!(updated, Updated { status: Ok(Status::Success), rounds: 2, strays: 0, steps: 3, holder: 0, met: 2 });
@@ -141,7 +147,8 @@ fn stacks(image: fn(u16) -> Vec<u8>, m: Move) -> [usize; 11] {
     assert!(text[..printed].starts_with(b"yard 2 deadlock no next 1\n1 success 2"));
     assert_eq!((paged, profiled), (Ok(()), Ok(())));
     assert_eq!((most.is_ok(), all.is_ok()), (true, true));
-    [versions, marks, judges, lays, updates, checks, sheets, pages, profiles, ceilings, yard_ceilings]
+    assert_eq!((played, list), (Ok(()), [0, 0]));
+    [versions, marks, judges, lays, updates, checks, sheets, pages, profiles, ceilings, yard_ceilings, replays]
 }
 
 #[test]

@@ -14,6 +14,7 @@ use Rattle.update_definition.specs.Update.{Status, Success, Blocked, Faulty, Re
 use Rattle.update_definition.specs.UpdateImage.{UpdatedImage}
 use Rattle.yard_check.specs.Check as Check
 use Rattle.ceiling.specs.declared.StepCeiling.{StepCeiling}
+use Rattle.sitting.specs.Replay.{Replayed}
 
 -- 0 where there is no fault, else document 01's number, with the place in the upper 16 bits
 abbrev pub faultWord : Refusal → ℕ
@@ -112,3 +113,12 @@ pub record ToldCheck (k : Check.Checked) (r : ℕ) (yard report ws₀ ws : List 
   pub yardBytes : yard ≡ k .yard
   pub reportBytes : report ≡ k .report
   pub words : ws ≡ checkWords (k .answer) ws₀
+
+-- ---- a replay
+
+-- the replay k as C sees it: the number that is returned, the yard, the occupancy and the list that are left
+pub record ToldReplay (k : Replayed) (r : ℕ) (yard occupancy list : List ℕ) : Type 0 where
+  pub word : r ≡ answerWord (k .answer)
+  pub yardBytes : yard ≡ k .yard
+  pub entries : occupancy ≡ k .occupancy
+  pub numbers : list ≡ k .list

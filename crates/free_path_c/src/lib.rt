@@ -17,7 +17,8 @@ ghost use Rattle.yard_check.specs.Checks.{answeredOf};
 ghost use Rattle.yard_check.specs.Sheet.{sheetText};
 ghost use Rattle.text.specs.Text.{textOf, written};
 ghost use Rattle.path_page.specs.Page.{drawingRule, pageFault, pageAfter};
-ghost use Rattle.free_path_c.specs.Words.{answerWord, faultWord, settingsOf, flagOf, statusWord, codeOf, errorsOf, Told, ceilingWords, ToldCeiling, checkWord, bitOf, threeWords, checkWords, ToldCheck};
+ghost use Rattle.sitting.specs.Replay.{replayOf};
+ghost use Rattle.free_path_c.specs.Words.{answerWord, faultWord, settingsOf, flagOf, statusWord, codeOf, errorsOf, Told, ceilingWords, ToldCeiling, checkWord, bitOf, threeWords, checkWords, ToldCheck, ToldReplay};
 use ceiling;
 use ceiling::StepCeiling;
 use disp_structs::Metres;
@@ -28,6 +29,7 @@ use link_rules::link_idx::NarrowTrainIdx;
 use link_rules::refusal::Answer;
 use link_rules::refusal::Refusal;
 use path_page;
+use sitting;
 use train_disp::Settings;
 use update_free_path;
 use update_free_path::answer::Status;
@@ -294,6 +296,22 @@ fn put_check(answer: &mut [u64], x: check::Answer)
             next as u64,
         ),
     }
+}
+
+// Plays a recording over a yard and an occupancy: entry i of the list gets the refusal of step i, 0 if there is none, and the replay goes on. Answers 0, or 19 for a
+// malformed recording or a list that has not an entry for each step, which leaves all as it was.
+#[no_mangle]
+pub extern "C" fn lavtoeu_replay(
+    recording: &[u8],
+    table: &[u8],
+    yard: &mut [u8],
+    occupancy: &mut [u16],
+    list: &mut [u16],
+) -> u32
+    ensures { λ r. ⌜ ToldReplay (replayOf (now (recording .entry)) (now (table .entry)) (now (yard .entry)) (now (occupancy .entry)) (now (list .entry)))
+        r (now (yard .exit)) (now (occupancy .exit)) (now (list .exit)) ⌝ }
+{
+    answer_word(sitting::replay(recording, table, yard, occupancy, list))
 }
 
 // Writes the sheet of a bundle to the text, as many bytes as it has room for, and answers how many. 4,096 bytes hold every sheet.

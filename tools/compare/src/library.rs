@@ -1,7 +1,10 @@
 //! The calls of the proved library, each over a case. Every buffer that is lent is an allocation of just its length.
 
+use crate::replays;
 use lavtoeu::{Move, Order, Refusal};
-use oracle::cases::{Case, CEILING, CHECK, LAY_OUT, MARK, PAGE, PROFILE, SHEET, UPDATE, YARD_CEILING};
+use oracle::cases::{
+    Case, CEILING, CHECK, LAY_OUT, MARK, PAGE, PROFILE, REPLAY, SHEET, UPDATE, YARD_CEILING,
+};
 use oracle::gen::UpdateCase;
 use oracle::layout::{u16_bytes, u16s, u32s};
 use oracle::model::CheckArgs;
@@ -9,7 +12,7 @@ use oracle::model::CheckArgs;
 /// Where the answer of an operation has the refusal's number.
 pub fn number_at(op: u32) -> usize {
     match op {
-        MARK | LAY_OUT | PAGE | PROFILE | CEILING | YARD_CEILING => 0,
+        MARK | LAY_OUT | PAGE | PROFILE | CEILING | YARD_CEILING | REPLAY => 0,
         _ => 1,
     }
 }
@@ -25,6 +28,7 @@ pub fn answered(asked: &Case) -> Case {
         CHECK => check(&mut case),
         SHEET => sheet(&mut case),
         PAGE => page(&mut case),
+        REPLAY => replays::answer(&mut case),
         PROFILE => (case.answer[0], case.answer[1]) = numbers(lavtoeu::profile(&case.ins[0])),
         CEILING => number(&mut case, lavtoeu::ceiling(&asked.ins[0])),
         YARD_CEILING => number(&mut case, lavtoeu::yard_ceiling(&asked.ins[0], asked.args[0] as u16)),

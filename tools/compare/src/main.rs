@@ -6,6 +6,7 @@ mod checks;
 mod clock;
 mod library;
 mod page_time;
+mod replays;
 mod tally;
 mod time;
 mod update_time;
@@ -26,7 +27,7 @@ struct Run {
 }
 
 /// The kinds of cases, each with one step of a run.
-const KINDS: [(&str, fn(&mut Run)); 14] = [
+const KINDS: [(&str, fn(&mut Run)); 15] = [
     ("mark", |r| r.call(calls::mark)),
     ("layout", |r| r.call(calls::lay_out)),
     ("image", Run::image),
@@ -41,13 +42,15 @@ const KINDS: [(&str, fn(&mut Run)); 14] = [
     ("profile", |r| r.call(calls::profile)),
     ("ceiling", |r| r.call(calls::ceiling)),
     ("yard-ceiling", |r| r.call(calls::yard_ceiling)),
+    ("replay", |r| r.call(calls::replay)),
 ];
 
-const TIMES: [(&str, fn(u64)); 4] = [
+const TIMES: [(&str, fn(u64)); 5] = [
     ("time", time::run),
     ("update-time", update_time::run),
     ("check-time", check_time::run),
     ("page-time", page_time::run),
+    ("replay-time", replays::time),
 ];
 
 impl Run {

@@ -2,15 +2,15 @@
 
 use crate::library;
 use crate::updates::Source;
-use oracle::cases::{Case, CHECK, PAGE, UPDATE};
-use oracle::layout::read_image;
+use oracle::cases::{Case, CHECK, PAGE, REPLAY, UPDATE};
+use oracle::layout::{read_image, u16s};
 use oracle::model::{row_at, LINKS, ROW};
 use std::collections::BTreeMap;
 
 /// The number of cases whose answers differ, how many were refused by each number (0: by none), how updates and checks
 /// ended, how often a slot of a check has each code, in how many updates and slots a train was met and in how many of them
-/// another than the moved one, how many updates came from each generator, and of pages how many lines there were and at how
-/// many the offset is an exact half of a metre.
+/// another than the moved one, how many updates came from each generator, of pages how many lines there were and at how many
+/// the offset is an exact half of a metre, and of replays how many steps were refused by each number (0: by none).
 #[derive(Default)]
 pub struct Tally {
     pub differ: u64,
@@ -22,6 +22,7 @@ pub struct Tally {
     sources: BTreeMap<Source, u64>,
     lines: u64,
     halves: u64,
+    steps: BTreeMap<u16, u64>,
 }
 
 /// How an update or a check ends that is not refused.
@@ -59,6 +60,10 @@ impl Tally {
         }
         if judged.op == PAGE && number == 0 {
             self.add_lines(&judged.ins[0]);
+        }
+        if judged.op == REPLAY && number == 0 {
+            let list = u16s(&judged.outs[1][judged.ins[2].len()..]);
+            list.into_iter().for_each(|n| count(&mut self.steps, n));
         }
         if library::answered(asked) != judged {
             let mut bytes = vec![];
@@ -118,6 +123,9 @@ impl Tally {
         }
         for (source, n) in &self.sources {
             println!("  from {}: {n}", format!("{source:?}").to_lowercase());
+        }
+        for (number, n) in &self.steps {
+            println!("  steps {} {number}: {n}", if *number == 0 { "done, not refused" } else { "refused" });
         }
         if self.lines > 0 {
             println!("  lines: {}, exact halves among their offsets: {}", self.lines, self.halves);

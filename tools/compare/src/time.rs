@@ -4,6 +4,7 @@ use crate::check_time;
 use crate::clock::best;
 use crate::library;
 use crate::page_time;
+use crate::replays;
 use crate::update_time;
 use oracle::cases::{Case, LAY_OUT, MARK};
 use oracle::layout::{read_image, read_table, u16s};
@@ -95,4 +96,5 @@ pub fn run(seed: u64) {
     update_time::run(seed);
     check_time::run(seed);
     page_time::run(seed);
+    replays::time(seed);
 }

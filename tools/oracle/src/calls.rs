@@ -7,6 +7,7 @@ use crate::layout::*;
 use crate::leaves;
 use crate::model::{LINKS, ROW};
 use crate::rng::Rng;
+use crate::trials::replay::some_recording;
 use crate::wide_calls;
 use crate::yards::*;
 
@@ -255,6 +256,12 @@ fn full_yard(rng: &mut Rng) -> Vec<u8> {
     yard_of(&images)
 }
 
+/// A sitting of at most eight steps, a third of the recordings damaged or beside a list of another length.
+pub fn replay(rng: &mut Rng) -> Case {
+    let (y, recording, list) = some_recording(rng);
+    Case::replay(&recording, &y, list)
+}
+
 /// A case of any operation of document 01.
 pub fn any(rng: &mut Rng) -> Case {
     match rng.below(100) {
@@ -288,6 +295,7 @@ pub fn by_name(name: &str, rng: &mut Rng) -> Option<Case> {
         "game" => wide_calls::game(rng),
         "widen" => wide_calls::widen(rng),
         "narrow" => wide_calls::narrow(rng),
+        "replay" => replay(rng),
         "any" => any(rng),
         _ => return None,
     })

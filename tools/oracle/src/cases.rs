@@ -5,6 +5,7 @@ use crate::game::{closer_can_force, Game};
 use crate::layout::*;
 use crate::leaves;
 use crate::model::{self, CheckArgs, Checked, Outcome, Updated};
+use crate::replay;
 use crate::wide::{self, WideArgs};
 use crate::yards::Yard;
 
@@ -31,6 +32,7 @@ pub const WIDE_CHECK: u32 = 19;
 pub const WIDEN: u32 = 20;
 pub const NARROW: u32 = 21;
 pub const GAME: u32 = 22;
+pub const REPLAY: u32 = 23;
 
 const HEAD: usize = 104;
 /// The length of an output buffer that is as its input was.
@@ -57,6 +59,7 @@ fn before(op: u32) -> [Option<usize>; 2] {
         WIDEN | NARROW => [Some(1), None],
         UNION => [Some(0), None],
         PAGE => [Some(1), None],
+        REPLAY => [Some(3), None],
         _ => [None, None],
     }
 }
@@ -151,6 +154,12 @@ impl Case {
         Case { op: GAME, args, ins, ..Case::default() }
     }
 
+    /// A recording over a yard, with a list of this length.
+    pub fn replay(recording: &[u8], y: &Yard, list: usize) -> Case {
+        let ins = [recording.to_vec(), y.table.clone(), u16_bytes(&y.occ), y.yard.clone()];
+        Case { op: REPLAY, args: [list as u32, 0, 0, 0, 0, 0, 0, 0], ins, ..Case::default() }
+    }
+
     pub fn tagged(mut self, tag: u32) -> Case {
         self.tag = tag;
         self
@@ -174,6 +183,7 @@ impl Case {
             WIDE_UPDATE => self.answer_wide_update(),
             WIDE_CHECK => self.answer_wide_check(),
             GAME => self.answer_game(),
+            REPLAY => self.answer_replay(),
             WIDEN => self.answer_conversion(wide::widen),
             NARROW => self.answer_conversion(wide::narrow),
             YARD_CEILING => self.put_number(model::yard_ceiling(&self.ins[0], self.args[0] as u16)),
@@ -272,6 +282,15 @@ impl Case {
         let r =
             closer_can_force(&self.ins[0], &Game { occ: &occ, moved, local, limit, links: &links, turns });
         self.put_number(r.map(u64::from));
+    }
+
+    /// The list is lent with zeros, and stands behind the occupancy.
+    fn answer_replay(&mut self) {
+        let [recording, table, occ, mut yard] = self.ins.clone();
+        let (mut occ, mut list) = (u16s(&occ), vec![0; self.args[0] as usize]);
+        let r = replay::replay(&recording, &table, &mut yard, &mut occ, &mut list);
+        self.put_plain(r);
+        self.outs = [yard, u16_bytes(&[occ, list].concat())];
     }
 
     fn answer_conversion(&mut self, convert: fn(&[u8], &mut [u8]) -> Result<(), Refusal>) {

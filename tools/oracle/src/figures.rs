@@ -79,6 +79,7 @@ fn names(c: &Case) -> Vec<String> {
         MARK => vec![done("mark", a[0])],
         LAY_OUT => vec![done("layout", a[0])],
         PAGE => vec![done("page", a[0])],
+        REPLAY => vec![done("replay", a[0])],
         PROFILE => vec![done("profile", a[0])],
         CEILING => vec![done("ceiling", a[0])],
         YARD_CEILING => vec![done("yard ceiling", a[0])],

@@ -3,7 +3,7 @@
 use oracle::cases::{read_all, Case, PAGE, SHEET};
 use oracle::demand3::{self, Premises, ALL};
 use oracle::rng::Rng;
-use oracle::{calls, figures, model, record, selftest, sums, trials};
+use oracle::{calls, figures, model, record, replay, selftest, sums, trials};
 use std::io::{Read, Write};
 use std::process::exit;
 
@@ -16,16 +16,21 @@ const USAGE: &str = "usage:
   oracle summary < CASES                  counts of answers, sites and branches
   oracle generate KIND SEED COUNT > CASES KIND: mark, layout, update, large, check, tidy, sheet, list, leaf, page, profile,
                                           ceiling, yard-ceiling, mark-wide, update-wide, check-wide,
-                                          widen, narrow, game, any
+                                          widen, narrow, game, replay, any
+  oracle replay  < SITTING                what the program replay prints of a sitting
   oracle record SEED > CASES              the recorded list
   oracle fuzz SEED UPDATES                plain text against hooked text, and counts
   oracle demand3 SEED LISTS [PREMISE]     PREMISE left out: begin, entry0, strays
   oracle trial REQUEST SEED COUNT         what a change request claims, over COUNT calls";
 
-fn input() -> Vec<Case> {
+fn bytes() -> Vec<u8> {
     let mut b = vec![];
     std::io::stdin().read_to_end(&mut b).expect("standard input");
-    read_all(&b)
+    b
+}
+
+fn input() -> Vec<Case> {
+    read_all(&bytes())
 }
 
 fn output(cases: impl Iterator<Item = Case>) {
@@ -98,6 +103,10 @@ fn main() {
         }
         ["sums"] => {
             sums::print(&input());
+            true
+        }
+        ["replay"] => {
+            print!("{}", replay::printed(&bytes()));
             true
         }
         ["summary"] => figures::summary(input()).print(),

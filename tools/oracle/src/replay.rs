@@ -1,7 +1,7 @@
-//! a recording of marks, releases and checks, played over a yard.
+//! a recording of marks, releases and checks, played over a yard, and what the program `replay` prints of a sitting.
 
 use crate::layout::*;
-use crate::model::{self, CheckArgs, Checked, ROW};
+use crate::model::{self, CheckArgs, Checked, LINKS, ROW};
 
 const HEADER: usize = 12;
 const STEP: usize = 20;
@@ -81,6 +81,59 @@ pub fn call(s: &Step, table: &[u8], yard: &mut [u8], occ: &mut [u16]) -> u16 {
         }
     }
 }
+
+// ---- the program
+
+const SITTING_HEADER: usize = 32;
+const MOST_SITTING: usize = 262_144;
+/// As many steps as so many bytes can have.
+const MOST_STEPS: usize = 13_107;
+
+/// The parts of a sitting: u32 size, occupancy offset, count, table offset, yard offset, recording offset, 8 spare bytes;
+/// occupancy, table, yard, recording.
+fn read_sitting(b: &[u8]) -> Option<(Vec<u16>, &[u8], &[u8], &[u8])> {
+    if b.len() < SITTING_HEADER || b.len() > MOST_SITTING || b[24..32] != [0; 8] {
+        return None;
+    }
+    let [size, occ, count, table, yard, recording] = [0, 1, 2, 3, 4, 5].map(|i| u32_at(b, 4 * i) as usize);
+    let in_order = size == b.len() && occ == SITTING_HEADER && table == occ + 2 * count;
+    if !in_order || count > LINKS || yard < table || recording < yard || b.len() < recording {
+        return None;
+    }
+    Some((u16s(&b[occ..table]), &b[table..yard], &b[yard..recording], &b[recording..]))
+}
+
+/// Each step with its refusal, each slot with its free node and the number of its path nodes, each held link with its train.
+pub fn printed(sitting: &[u8]) -> String {
+    let refused = || "refused 19\n".to_string();
+    let Some((mut occ, table, yard, recording)) = read_sitting(sitting) else { return refused() };
+    let steps = if recording.len() < HEADER { 0 } else { u32_at(recording, 4) as usize };
+    let (mut yard, mut list) = (yard.to_vec(), vec![0; steps.min(MOST_STEPS + 1)]);
+    if steps > MOST_STEPS || replay(recording, table, &mut yard, &mut occ, &mut list).is_err() {
+        return refused();
+    }
+    let mut text: String = list.iter().enumerate().map(|(i, n)| format!("step {} {n}\n", i + 1)).collect();
+    for (i, part) in read_yard(&yard).unwrap_or_default().into_iter().enumerate() {
+        text += &format!("slot {} {}\n", i + 1, slot_words(&yard[part], occ.len()));
+    }
+    for (link, train) in occ.iter().enumerate().filter(|(_, &train)| train != 0) {
+        text += &format!("link {link} by {train}\n");
+    }
+    text
+}
+
+fn slot_words(image: &[u8], links: usize) -> String {
+    let read = if link_count_ok(links) { read_image(image, links) } else { Err(refusal(2)) };
+    match read {
+        Ok(t) => {
+            let (free, nodes) = (t.free as usize, t.path.len());
+            format!("{} {free} {nodes}", if free == nodes { "finished" } else { "unfinished" })
+        }
+        Err(r) => format!("refused-{} 0 0", r.number),
+    }
+}
+
+// ---- the call
 
 pub fn replay(
     recording: &[u8],

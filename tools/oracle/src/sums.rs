@@ -58,6 +58,13 @@ fn check(c: &Case) -> String {
     format!("{answer} yard {} report {}", sum_of(&c.outs[0]), sum_of(&c.outs[1]))
 }
 
+/// The list of refusals stands behind the occupancy.
+fn replay(c: &Case) -> String {
+    let (occ, list) = c.outs[1].split_at(c.ins[2].len());
+    let left = format!("yard {} occupancy {} list {}", sum_of(&c.outs[0]), sum_of(occ), sum_of(list));
+    format!("{} {left}", fault(c.answer[0], c.answer[1]))
+}
+
 fn leaf(c: &Case) -> String {
     let [x, y, z, ..] = c.answer;
     if c.op == UNION && x == 0 {
@@ -78,6 +85,7 @@ pub fn words(c: &Case) -> String {
         SHEET => format!("sheet {}", sum_of(&c.outs[0])),
         PAGE => format!("{} page {}", fault(number, place), sum_of(&c.outs[0])),
         PROFILE => fault(number, place),
+        REPLAY => replay(c),
         GAME if number != 0 => refused(number, place),
         GAME => ["closer can force it no", "closer can force it yes"][c.answer[2] as usize].into(),
         CEILING | YARD_CEILING if number != 0 => refused(number, place),
