@@ -11,7 +11,8 @@ use Rattle.link_rules.specs.declared.refusal.Refusal.{Refusal}
 use Rattle.disp_structs.specs.declared.LinkEvent.{LinkEvent}
 use Rattle.image.specs.Fields.{estDistField, nodeOffsetField, nodeTimeField, readIn, readFirst}
 use Rattle.image.specs.Image.{estCount, pathCount, estPlace, nodePlace, estAt, nodeAt}
-use Rattle.image_fault.specs.ImageFault.{lengthFault, layoutFault, firstUnfit, floatFits, timeFits, eventFits, estLinksFit, estFits, nodeFits, valueFault, cycleFault, routeFault, imageFault}
+use Rattle.image_fault.specs.ImageFault.{lengthFault, layoutFault, firstUnfit, floatFits, timeFits, eventFits, estLinksFit, estFits, nodeFits, headerFits, valueFault, cycleFault, routeFault, faultWith, imageFault}
+use Rattle.image_fault.specs.declared.Widths.the-variants.{Narrow}
 use Rattle.image_fault.proofs.ScanLaws.{both, step-fit}
 use Rattle.image_fault.proofs.AcceptLaws as Clean
 
@@ -63,15 +64,15 @@ module _ (l m : ℕ) (le : l ≤ m) where
   value-more bs h =
       or-clean (firstUnfit 7 (estFits bs m) (estCount bs) 0) _ (scan-clean 7 (estFits bs m) (estCount bs) 0 (λ j a b. est-more bs j (Clean.clean-est bs l h j (omega (arith, b)))))
       (or-clean (firstUnfit 7 (nodeFits bs m) (pathCount bs) 0) _ (scan-clean 7 (nodeFits bs m) (pathCount bs) 0 (λ j a b. node-more bs j (Clean.clean-node bs l h j (omega (arith, b)))))
-      (ap (λ (t : Bool). refusedUnless t 7 .number) (Clean.clean-header bs l h)))
+      (or-clean (refusedUnless (headerFits bs) 7) _ (ap (λ (t : Bool). refusedUnless t 7 .number) (Clean.clean-header bs l h)) (Clean.clean-trains bs l h)))
 
 -- ---- the image
 
 pub more-links : (bs : List ℕ) (l : ℕ) → imageFault bs l .number ≡ 0 → imageFault bs 4000 .number ≡ 0
-unfolding imageFault
+unfolding faultWith
 more-links bs l h =
     let a = Clean.accepted bs l h in
-    or-clean (lengthFault 4000) (orElse (layoutFault bs) (orElse (valueFault bs 4000) (orElse (cycleFault bs) (routeFault bs)))) refl
-    (or-clean (layoutFault bs) (orElse (valueFault bs 4000) (orElse (cycleFault bs) (routeFault bs))) (ap (λ (t : Bool). refusedUnless t 6 .number) (a .fits))
+    or-clean (lengthFault 4000) (orElse (layoutFault Narrow bs) (orElse (valueFault bs 4000) (orElse (cycleFault bs) (routeFault bs)))) refl
+    (or-clean (layoutFault Narrow bs) (orElse (valueFault bs 4000) (orElse (cycleFault bs) (routeFault bs))) (Clean.or-else-clean (layoutFault Narrow bs) _ (Clean.or-else-clean (lengthFault l) _ h .1) .0)
     (or-clean (valueFault bs 4000) (orElse (cycleFault bs) (routeFault bs)) (value-more l 4000 (a .links .1) bs (a .values))
     (or-clean (cycleFault bs) (routeFault bs) (a .cycle) (a .route))))

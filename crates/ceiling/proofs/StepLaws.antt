@@ -13,7 +13,8 @@ use Rattle.image.specs.Codec.{decoded}
 use Rattle.image_fault.specs.ImageFault.{lengthFault, imageFault}
 use Rattle.image_fault.proofs.AcceptLaws.{or-else-clean}
 use Rattle.update_definition.specs.Update.{Updated, updateFreePath}
-use Rattle.update_definition.specs.UpdateImage.{UpdatedImage, blockingFault, orderFault, callFault, answerBy, linkIdxs, updateFault, updatedImage}
+use Rattle.update_definition.specs.UpdateImage.{UpdatedImage, blockingFault, orderFault, callFault, answerBy, linkIdxs, updateFaultIn, updateFault, updatedImageIn, updatedImage}
+use Rattle.image_fault.specs.declared.Widths.the-variants.{Narrow}
 use Rattle.update_laws.proofs.UpdateCounts.{image-counts}
 use Rattle.update_laws.proofs.UpdateSteps.{image-paced}
 use Rattle.yard_check.specs.Yard as Yard
@@ -36,7 +37,7 @@ module _ (img occ blocking : List ℕ) (moved : ℕ) (local : Bool) (limit : ℕ
 
   -- of a refused update too
   pub update-within : after .answer .tally .steps ≤ after .answer .tally .rounds * ceilingOf img .steps
-  unfolding updatedImage updateFault
+  unfolding updatedImageIn updateFaultIn
   update-within = go (updateFault img occ blocking moved limit .number) refl
     where
       u : Updated
@@ -45,7 +46,7 @@ module _ (img occ blocking : List ℕ) (moved : ℕ) (local : Bool) (limit : ℕ
       go : (k : ℕ) → updateFault img occ blocking moved limit .number ≡ k → after .answer .tally .steps ≤ after .answer .tally .rounds * ceilingOf img .steps
       go zero e =
           subst (λ (c : ℕ). after .answer .tally .steps ≤ after .answer .tally .rounds * c) (ceiling-is img (length occ) (or-else-clean (callFault occ blocking moved limit) (imageFault img (length occ)) e .1))
-          (image-paced img occ blocking moved local limit b)
+          (image-paced Narrow img occ blocking moved local limit b)
       go (suc k) e =
           let z : after .answer .tally .steps ≡ 0 = ap (λ (n : ℕ). answerBy n (updateFault img occ blocking moved limit) u img .answer .tally .steps) e in
           omega (arith, z)
@@ -53,7 +54,7 @@ module _ (img occ blocking : List ℕ) (moved : ℕ) (local : Bool) (limit : ℕ
   -- hence at most the ceiling times the limit
   pub update-limit : after .answer .tally .steps ≤ ceilingOf img .steps * limit
   update-limit =
-      omega (arith, update-within, mul-le-mul-right (ceilingOf img .steps) (image-counts img occ blocking moved local limit b .rounds), mul-comm limit (ceilingOf img .steps))
+      omega (arith, update-within, mul-le-mul-right (ceilingOf img .steps) (image-counts Narrow img occ blocking moved local limit b .rounds), mul-comm limit (ceilingOf img .steps))
 
 -- ---- a check
 

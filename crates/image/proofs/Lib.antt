@@ -1,3 +1,4 @@
+pub mod WidthLaws
 pub mod Writers
 pub mod RecordLaws
 pub mod EachLaws

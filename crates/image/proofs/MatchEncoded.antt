@@ -1,6 +1,7 @@
 -- The encoding of a renumbered state matches the encoding of the state. Assumes nothing.
 use mathlib.Core.Path.{_≡_, refl, sym, ap, _∙_}
 use mathlib.Core.Logic.{_⊎_, inl, inr, ⊎-elim}
+use mathlib.Core.Bool.{Bool}
 use mathlib.Core.List.{List, [], _∷_, map}
 use Prim.Native.Nat.{ℕ, zero, suc, _+_, _*_, _-_, _^_, _≤_, _<_}
 use native.Mathlib.Omega.{arith}
@@ -16,15 +17,16 @@ use Rattle.disp_structs.specs.Renumbered.{rEst, rNode, rDiv, rTrainDisp}
 use Rattle.disp_structs.specs.declared.EstTime.{EstTime}
 use Rattle.disp_structs.specs.declared.DispNode.{DispNode}
 use Rattle.disp_structs.specs.declared.DivergeNode.{DivergeNode}
-use Rattle.image.specs.Fields.{trainField, divergeTrainField, fieldBound}
-use Rattle.image.specs.Image.{estPlace, nodePlace, divergePlace, zeroWords, typeNumber, estFrom, nodeFrom, divergeFrom, putEst, putNode, putDiverge}
+use Rattle.image.specs.Fields.{trainField, divergeWords, divergeSize, divergeTrainField, fieldBound}
+use Rattle.image.specs.Image.{isWide, estPlace, nodePlace, divergeOffset, divergePlace, zeroDiverge, zeroWords, typeNumber, estFrom, nodeFrom, divergeFrom, putEst, putNode, putDiverge}
 use Rattle.image.specs.Codec.{pathHeaderOf, putEach, putSize, putOffsets, putDists, putRecords, encoded}
 use Rattle.image.specs.declared.codec.PathHeader.{PathHeader}
 use Rattle.image.specs.ImageMatch.{SameBytes, Renumbered, ImagesMatch}
+use Rattle.image.proofs.WidthLaws.{words-some, words-rise, words-next, words-left}
 use Rattle.image.proofs.Writers.{Writes, put-to, put-writes, zero-writes, then, side, each-writes, le-outside}
 use Rattle.image.proofs.RecordLaws.{EstHeld, NodeHeld, DivergeHeld, est-writes, est-read, node-writes, node-read, diverge-writes, diverge-read}
 use Rattle.image.proofs.Parts.{putCounts, putIndices, putPath, clearPath, putDiverges, clearDiverges, size, afterSize, afterOffsets, afterDists, afterEsts, afterRecords, afterCounts, afterIndices, parts, keep, dists-writes, ests-writes, counts-writes, indices-writes, path-writes, no-path-writes, diverges-writes, no-diverges-writes, records-writes, long-offsets, long-dists, long-ests, long-records, long-indices}
-use Rattle.image.proofs.CodecLaws.{Held, e-is, room-read, train-read}
+use Rattle.image.proofs.CodecLaws.{Held, width-read, wide-is, e-is, room-read, train-read}
 
 -- the renumbered state, shut: a field of it stays a field in what follows
 rState : (ℕ → ℕ) → (ℕ → ℕ) → Train → Train
@@ -104,19 +106,21 @@ module _ (p : ℕ → ℕ) (at : ℕ) (bs bs′ : List ℕ) (q : length bs ≡ l
         after = rw e (last-part wf wg wg′ wh bs bs′ q l (omega arith) (omega arith) (omega arith));
       }
 
-  diverge-one : (x : DivergeNode) → DivergeHeld x → DivergeHeld (rDiv p x) → at + 4 ≤ length bs → Renumbered p (putDiverge x at bs) (putDiverge (rDiv p x) at bs′) at 4 0 2
+  diverge-one : (wide : Bool) (x : DivergeNode) → DivergeHeld wide x → DivergeHeld wide (rDiv p x) → at + divergeSize wide ≤ length bs
+      → Renumbered p (putDiverge wide x at bs) (putDiverge wide (rDiv p x) at bs′) at (divergeSize wide) 0 (2 * divergeWords wide)
   unfolding putDiverge divergeFrom
-  diverge-one x h h′ l =
-      let wg = put-to 2 (x .«train_idx» .0) at (at + 2) (omega arith) in
-      let wg′ = put-to 2 (p (x .«train_idx» .0)) at (at + 2) (omega arith) in
-      let wh = put-to 2 (x .«disp_node_idx») (at + 2) (at + 4) (omega arith) in
+  diverge-one wide x h h′ l =
+      let k = divergeWords wide in
+      let s = words-some wide in
+      let wg = put-to (2 * k) (x .«train_idx» .0) at (at + 2 * k) (omega arith) in
+      let wg′ = put-to (2 * k) (p (x .«train_idx» .0)) at (at + 2 * k) (omega arith) in
+      let wh = then (put-to 2 (x .«disp_node_idx») (at + 2 * k) (at + (2 * k + 2)) (omega arith)) (put-to (2 * k - 2) 0 (at + (2 * k + 2)) (at + divergeSize wide) (omega arith)) (omega arith) (omega arith) in
       let z : at + 0 ≡ at = omega arith in
-      let e : at + 0 + 2 ≡ at + 2 = omega arith in
       record {
         before = λ i s t. absurd (omega arith);
-        number = rw z (ap (λ (y : DivergeNode). y .«train_idx» .0) (diverge-read (rDiv p x) at bs′ h′ (omega arith))
-            ∙ ap p (sym (ap (λ (y : DivergeNode). y .«train_idx» .0) (diverge-read x at bs h l))));
-        after = rw e (λ i s t. sym (wh .inside (putLe 2 (x .«train_idx» .0) at bs) (putLe 2 (p (x .«train_idx» .0)) at bs′)
+        number = rw z (ap (λ (y : DivergeNode). y .«train_idx» .0) (diverge-read wide (rDiv p x) at bs′ h′ (omega arith))
+            ∙ ap p (sym (ap (λ (y : DivergeNode). y .«train_idx» .0) (diverge-read wide x at bs h l))));
+        after = rw z (λ i s t. sym (wh .inside (putLe (2 * k) (x .«train_idx» .0) at bs) (putLe (2 * k) (p (x .«train_idx» .0)) at bs′)
             (wg .long bs ∙ (q ∙ sym (wg′ .long bs′))) i s t (omega (arith, wg .long bs))));
       }
 
@@ -181,7 +185,7 @@ getD-map-in r [] i d h = absurd (omega arith)
 getD-map-in r (x ∷ xs) zero d h = refl
 getD-map-in r (x ∷ xs) (suc i) d h = getD-map-in r xs i d (omega arith)
 
-module _ (p q : ℕ → ℕ) (p0 : p 0 ≡ 0) (q0 : q 0 ≡ 0) (t : Train) (k : Held t) (k′ : Held (rState p q t)) (bs : List ℕ) (lb : length bs ≡ size t) where
+module _ (p q : ℕ → ℕ) (p0 : p 0 ≡ 0) (q0 : q 0 ≡ 0) (wide : Bool) (t : Train) (k : Held wide t) (k′ : Held wide (rState p q t)) (bs : List ℕ) (lb : length bs ≡ size wide t) where
   few-est : length (rState p q t .«est_times») ≡ length (t .«est_times»)
   unfolding rState
   few-est = length-map (t .«est_times») (rEst p)
@@ -198,7 +202,7 @@ module _ (p q : ℕ → ℕ) (p0 : p 0 ≡ 0) (q0 : q 0 ≡ 0) (t : Train) (k : 
   unfolding rState
   same-room = refl
 
-  size-same : size (rState p q t) ≡ size t
+  size-same : size wide (rState p q t) ≡ size wide t
   size-same = rw (few-est, same-room)
 
   header-is : pathHeaderOf (rState p q t) ≡ pathHeaderOf t
@@ -207,84 +211,84 @@ module _ (p q : ℕ → ℕ) (p0 : p 0 ≡ 0) (q0 : q 0 ≡ 0) (t : Train) (k : 
 
   -- the header, its train aside
 
-  afterSize-is : afterSize (rState p q t) bs ≡ afterSize t bs
+  afterSize-is : afterSize wide (rState p q t) bs ≡ afterSize wide t bs
   unfolding putSize rState
   afterSize-is = rw (length-map (t .«est_times») (rEst p))
 
   inner : List ℕ
-  inner = putLe 4 (divergePlace (length (t .«est_times»)) 0) 28 (putLe 4 (nodePlace (length (t .«est_times»)) 0) 24 (putLe 4 (estPlace 0) 20 (putLe 4 (t .divergeRoom) 16 (afterSize t bs))))
+  inner = putLe 4 (divergeOffset (length (t .«est_times»))) 28 (putLe 4 (nodePlace (length (t .«est_times»)) 0) 24 (putLe 4 (estPlace 0) 20 (putLe 4 (t .divergeRoom) 16 (afterSize wide t bs))))
 
-  afterOffsets-is : afterOffsets (rState p q t) bs ≡ putLe 2 (q (t .«train_idx» .0)) 32 inner
+  afterOffsets-is : afterOffsets wide (rState p q t) bs ≡ putLe 2 (q (t .«train_idx» .0)) 32 inner
   unfolding putOffsets inner rState
   afterOffsets-is = rw (afterSize-is, length-map (t .«est_times») (rEst p))
 
-  afterOffsets-was : afterOffsets t bs ≡ putLe 2 (t .«train_idx» .0) 32 inner
+  afterOffsets-was : afterOffsets wide t bs ≡ putLe 2 (t .«train_idx» .0) 32 inner
   unfolding putOffsets inner
   afterOffsets-was = refl
 
-  afterCounts-is : afterCounts (rState p q t) bs ≡ putCounts (pathHeaderOf t) (afterRecords (rState p q t) bs)
-  afterCounts-is = ap (λ (h : PathHeader). putCounts h (afterRecords (rState p q t) bs)) header-is
+  afterCounts-is : afterCounts wide (rState p q t) bs ≡ putCounts (pathHeaderOf t) (afterRecords wide (rState p q t) bs)
+  afterCounts-is = ap (λ (h : PathHeader). putCounts h (afterRecords wide (rState p q t) bs)) header-is
 
-  afterIndices-is : afterIndices (rState p q t) bs ≡ putIndices (pathHeaderOf t) (putCounts (pathHeaderOf t) (afterRecords (rState p q t) bs))
-  afterIndices-is = ap (λ (h : PathHeader). putIndices h (putCounts h (afterRecords (rState p q t) bs))) header-is
+  afterIndices-is : afterIndices wide (rState p q t) bs ≡ putIndices (pathHeaderOf t) (putCounts (pathHeaderOf t) (afterRecords wide (rState p q t) bs))
+  afterIndices-is = ap (λ (h : PathHeader). putIndices h (putCounts h (afterRecords wide (rState p q t) bs))) header-is
 
   train-is : rState p q t .«train_idx» .0 ≡ q (t .«train_idx» .0)
   unfolding rState
   train-is = refl
 
   -- lengths of the two buffers
-  offsets-long : length (afterOffsets (rState p q t) bs) ≡ length (afterOffsets t bs)
-  offsets-long = long-offsets (rState p q t) (k′ .room) bs ∙ sym (long-offsets t (k .room) bs)
+  offsets-long : length (afterOffsets wide (rState p q t) bs) ≡ length (afterOffsets wide t bs)
+  offsets-long = long-offsets wide (rState p q t) (k′ .room) bs ∙ sym (long-offsets wide t (k .room) bs)
 
-  dists-long : length (afterDists (rState p q t) bs) ≡ length (afterDists t bs)
-  dists-long = long-dists (rState p q t) (k′ .room) bs ∙ sym (long-dists t (k .room) bs)
+  dists-long : length (afterDists wide (rState p q t) bs) ≡ length (afterDists wide t bs)
+  dists-long = long-dists wide (rState p q t) (k′ .room) bs ∙ sym (long-dists wide t (k .room) bs)
 
-  ests-long : length (afterEsts (rState p q t) bs) ≡ length (afterEsts t bs)
-  ests-long = long-ests (rState p q t) (k′ .room) bs ∙ sym (long-ests t (k .room) bs)
+  ests-long : length (afterEsts wide (rState p q t) bs) ≡ length (afterEsts wide t bs)
+  ests-long = long-ests wide (rState p q t) (k′ .room) bs ∙ sym (long-ests wide t (k .room) bs)
 
-  records-long : length (afterRecords (rState p q t) bs) ≡ length (afterRecords t bs)
-  records-long = long-records (rState p q t) (k′ .room) bs ∙ sym (long-records t (k .room) bs)
+  records-long : length (afterRecords wide (rState p q t) bs) ≡ length (afterRecords wide t bs)
+  records-long = long-records wide (rState p q t) (k′ .room) bs ∙ sym (long-records wide t (k .room) bs)
 
   module _ (i : ℕ) (o : (i < 32) ⊎ (34 ≤ i)) (l : i < 64) where
-    offsets-byte : getD (afterOffsets (rState p q t) bs) i 0 ≡ getD (afterOffsets t bs) i 0
+    offsets-byte : getD (afterOffsets wide (rState p q t) bs) i 0 ≡ getD (afterOffsets wide t bs) i 0
     offsets-byte =
         ap (λ (x : List ℕ). getD x i 0) afterOffsets-is
         ∙ (put-to 2 (q (t .«train_idx» .0)) 32 34 (omega arith) .outside inner i o
         ∙ (sym (put-to 2 (t .«train_idx» .0) 32 34 (omega arith) .outside inner i o) ∙ sym (ap (λ (x : List ℕ). getD x i 0) afterOffsets-was)))
 
-    dists-byte : getD (afterDists (rState p q t) bs) i 0 ≡ getD (afterDists t bs) i 0
+    dists-byte : getD (afterDists wide (rState p q t) bs) i 0 ≡ getD (afterDists wide t bs) i 0
     unfolding putDists rState
-    dists-byte = keep (dists-writes t) (afterOffsets (rState p q t) bs) (afterOffsets t bs) offsets-long i (omega (arith, long-offsets (rState p q t) (k′ .room) bs)) offsets-byte
+    dists-byte = keep (dists-writes wide t) (afterOffsets wide (rState p q t) bs) (afterOffsets wide t bs) offsets-long i (omega (arith, long-offsets wide (rState p q t) (k′ .room) bs)) offsets-byte
 
-    ests-byte : getD (afterEsts (rState p q t) bs) i 0 ≡ getD (afterEsts t bs) i 0
-    ests-byte = ests-writes (rState p q t) .outside (afterDists (rState p q t) bs) i (inl l) ∙ (dists-byte ∙ sym (ests-writes t .outside (afterDists t bs) i (inl l)))
+    ests-byte : getD (afterEsts wide (rState p q t) bs) i 0 ≡ getD (afterEsts wide t bs) i 0
+    ests-byte = ests-writes (rState p q t) .outside (afterDists wide (rState p q t) bs) i (inl l) ∙ (dists-byte ∙ sym (ests-writes t .outside (afterDists wide t bs) i (inl l)))
 
-    records-byte : getD (afterRecords (rState p q t) bs) i 0 ≡ getD (afterRecords t bs) i 0
+    records-byte : getD (afterRecords wide (rState p q t) bs) i 0 ≡ getD (afterRecords wide t bs) i 0
     records-byte =
-        records-writes (rState p q t) (k′ .room) .outside (afterEsts (rState p q t) bs) i (inl (omega arith))
-        ∙ (ests-byte ∙ sym (records-writes t (k .room) .outside (afterEsts t bs) i (inl (omega arith))))
+        records-writes wide (rState p q t) (k′ .room) .outside (afterEsts wide (rState p q t) bs) i (inl (omega arith))
+        ∙ (ests-byte ∙ sym (records-writes wide t (k .room) .outside (afterEsts wide t bs) i (inl (omega arith))))
 
-    indices-byte : getD (afterIndices (rState p q t) bs) i 0 ≡ getD (afterIndices t bs) i 0
+    indices-byte : getD (afterIndices wide (rState p q t) bs) i 0 ≡ getD (afterIndices wide t bs) i 0
     indices-byte =
-        let n = counts-writes (pathHeaderOf t) .long (afterRecords (rState p q t) bs) in
-        let counts-byte = keep (counts-writes (pathHeaderOf t)) (afterRecords (rState p q t) bs) (afterRecords t bs) records-long i (omega (arith, long-records (rState p q t) (k′ .room) bs)) records-byte in
+        let n = counts-writes (pathHeaderOf t) .long (afterRecords wide (rState p q t) bs) in
+        let counts-byte = keep (counts-writes (pathHeaderOf t)) (afterRecords wide (rState p q t) bs) (afterRecords wide t bs) records-long i (omega (arith, long-records wide (rState p q t) (k′ .room) bs)) records-byte in
         ap (λ (x : List ℕ). getD x i 0) afterIndices-is
-        ∙ keep (indices-writes (pathHeaderOf t)) (putCounts (pathHeaderOf t) (afterRecords (rState p q t) bs)) (afterCounts t bs) (n ∙ (records-long ∙ sym (counts-writes (pathHeaderOf t) .long (afterRecords t bs)))) i
-        (omega (arith, long-records (rState p q t) (k′ .room) bs)) counts-byte
+        ∙ keep (indices-writes (pathHeaderOf t)) (putCounts (pathHeaderOf t) (afterRecords wide (rState p q t) bs)) (afterCounts wide t bs) (n ∙ (records-long ∙ sym (counts-writes (pathHeaderOf t) .long (afterRecords wide t bs)))) i
+        (omega (arith, long-records wide (rState p q t) (k′ .room) bs)) counts-byte
 
-  header-match : Renumbered q (afterIndices t bs) (afterIndices (rState p q t) bs) 0 64 32 2
+  header-match : Renumbered q (afterIndices wide t bs) (afterIndices wide (rState p q t) bs) 0 64 32 2
   header-match =
       record {
         before = λ i x y. indices-byte i (inl y) (omega arith);
-        number = train-read (rState p q t) k′ bs (lb ∙ sym size-same) ∙ (train-is ∙ ap q (sym (train-read t k bs lb)));
+        number = train-read wide (rState p q t) k′ bs (lb ∙ sym size-same) ∙ (train-is ∙ ap q (sym (train-read wide t k bs lb)));
         after = λ i x y. indices-byte i (inr x) y;
       }
 
   -- a record behind the header stays as the header's numbers are written
-  behind : (r : ℕ → ℕ) (at w j v : ℕ) → j + v ≤ w → 64 ≤ at → Renumbered r (afterRecords t bs) (afterRecords (rState p q t) bs) at w j v → Renumbered r (afterIndices t bs) (afterIndices (rState p q t) bs) at w j v
+  behind : (r : ℕ → ℕ) (at w j v : ℕ) → j + v ≤ w → 64 ≤ at → Renumbered r (afterRecords wide t bs) (afterRecords wide (rState p q t) bs) at w j v → Renumbered r (afterIndices wide t bs) (afterIndices wide (rState p q t) bs) at w j v
   behind r at w j v fit l m =
-      match-outside (indices-writes (pathHeaderOf t)) (indices-writes (pathHeaderOf (rState p q t))) r (afterCounts t bs) (afterCounts (rState p q t) bs) at w j v fit (inr (omega arith)) (inr (omega arith))
-      (match-outside (counts-writes (pathHeaderOf t)) (counts-writes (pathHeaderOf (rState p q t))) r (afterRecords t bs) (afterRecords (rState p q t) bs) at w j v fit (inr (omega arith)) (inr (omega arith)) m)
+      match-outside (indices-writes (pathHeaderOf t)) (indices-writes (pathHeaderOf (rState p q t))) r (afterCounts wide t bs) (afterCounts wide (rState p q t) bs) at w j v fit (inr (omega arith)) (inr (omega arith))
+      (match-outside (counts-writes (pathHeaderOf t)) (counts-writes (pathHeaderOf (rState p q t))) r (afterRecords wide t bs) (afterRecords wide (rState p q t) bs) at w j v fit (inr (omega arith)) (inr (omega arith)) m)
 
   -- the est records
 
@@ -292,152 +296,160 @@ module _ (p q : ℕ → ℕ) (p0 : p 0 ≡ 0) (q0 : q 0 ≡ 0) (t : Train) (k : 
   unfolding rState
   est-held i l = rw (getD-map-in (rEst p) (t .«est_times») i (estFrom [] 0) l) at (k′ .est i (omega (arith, few-est)))
 
-  est-row : (i : ℕ) → i < length (t .«est_times») → Renumbered p (afterEsts t bs) (afterEsts (rState p q t) bs) (64 + 32 * i) 32 24 4
+  est-row : (i : ℕ) → i < length (t .«est_times») → Renumbered p (afterEsts wide t bs) (afterEsts wide (rState p q t) bs) (64 + 32 * i) 32 24 4
   unfolding rState
   est-row =
-      each-match putEst (rEst p) 32 24 4 p EstHeld (estFrom [] 0) (omega arith) est-writes (est-one p) (t .«est_times») 64 (afterDists t bs) (afterDists (rState p q t) bs) (sym dists-long)
-      (omega (arith, long-dists t (k .room) bs)) (k .est) est-held
+      each-match putEst (rEst p) 32 24 4 p EstHeld (estFrom [] 0) (omega arith) est-writes (est-one p) (t .«est_times») 64 (afterDists wide t bs) (afterDists wide (rState p q t) bs) (sym dists-long)
+      (omega (arith, long-dists wide t (k .room) bs)) (k .est) est-held
 
-  est-matched : (i : ℕ) → i < length (t .«est_times») → Renumbered p (afterIndices t bs) (afterIndices (rState p q t) bs) (estPlace i) 32 24 4
+  est-matched : (i : ℕ) → i < length (t .«est_times») → Renumbered p (afterIndices wide t bs) (afterIndices wide (rState p q t) bs) (estPlace i) 32 24 4
   est-matched i l =
       behind p (estPlace i) 32 24 4 (omega arith) (omega arith)
-      (match-outside (records-writes t (k .room)) (records-writes (rState p q t) (k′ .room)) p (afterEsts t bs) (afterEsts (rState p q t) bs) (estPlace i) 32 24 4 (omega arith)
+      (match-outside (records-writes wide t (k .room)) (records-writes wide (rState p q t) (k′ .room)) p (afterEsts wide t bs) (afterEsts wide (rState p q t) bs) (estPlace i) 32 24 4 (omega arith)
       (inl (omega arith)) (inl (omega (arith, few-est))) (est-row i l))
 
   -- the path, the diverge nodes, and their unused records, with the lengths of the first
 
   path′ : List ℕ
-  path′ = putEach putNode 32 (map (rNode p) (t .«disp_path»)) (nodePlace (length (t .«est_times»)) 0) (afterEsts (rState p q t) bs)
+  path′ = putEach putNode 32 (map (rNode p) (t .«disp_path»)) (nodePlace (length (t .«est_times»)) 0) (afterEsts wide (rState p q t) bs)
 
   divs′ : List ℕ
-  divs′ = putEach putDiverge 4 (map (rDiv q) (t .«div_nodes»)) (divergePlace (length (t .«est_times»)) 0) (clearPath t path′)
+  divs′ = putEach (putDiverge wide) (divergeSize wide) (map (rDiv q) (t .«div_nodes»)) (divergePlace wide (length (t .«est_times»)) 0) (clearPath t path′)
 
   path′-writes : Writes (nodePlace (length (t .«est_times»)) 0) (nodePlace (length (t .«est_times»)) 0 + 32 * length (map (rNode p) (t .«disp_path»)))
       (putEach putNode 32 (map (rNode p) (t .«disp_path»)) (nodePlace (length (t .«est_times»)) 0))
   path′-writes = each-writes putNode 32 node-writes (map (rNode p) (t .«disp_path»)) (nodePlace (length (t .«est_times»)) 0)
 
-  divs′-writes : Writes (divergePlace (length (t .«est_times»)) 0) (divergePlace (length (t .«est_times»)) 0 + 4 * length (map (rDiv q) (t .«div_nodes»)))
-      (putEach putDiverge 4 (map (rDiv q) (t .«div_nodes»)) (divergePlace (length (t .«est_times»)) 0))
-  divs′-writes = each-writes putDiverge 4 diverge-writes (map (rDiv q) (t .«div_nodes»)) (divergePlace (length (t .«est_times»)) 0)
+  divs′-writes : Writes (divergePlace wide (length (t .«est_times»)) 0) (divergePlace wide (length (t .«est_times»)) 0 + divergeSize wide * length (map (rDiv q) (t .«div_nodes»)))
+      (putEach (putDiverge wide) (divergeSize wide) (map (rDiv q) (t .«div_nodes»)) (divergePlace wide (length (t .«est_times»)) 0))
+  divs′-writes = each-writes (putDiverge wide) (divergeSize wide) (diverge-writes wide) (map (rDiv q) (t .«div_nodes»)) (divergePlace wide (length (t .«est_times»)) 0)
 
-  afterRecords-is : afterRecords (rState p q t) bs ≡ clearDiverges t divs′
+  afterRecords-is : afterRecords wide (rState p q t) bs ≡ clearDiverges wide t divs′
   unfolding putRecords rState divs′ path′
   afterRecords-is = rw (length-map (t .«est_times») (rEst p), length-map (t .«disp_path») (rNode p), length-map (t .«div_nodes») (rDiv q))
 
-  afterRecords-was : afterRecords t bs ≡ clearDiverges t (putDiverges t (clearPath t (putPath t (afterEsts t bs))))
+  afterRecords-was : afterRecords wide t bs ≡ clearDiverges wide t (putDiverges wide t (clearPath t (putPath t (afterEsts wide t bs))))
   unfolding putRecords
   afterRecords-was = refl
 
-  l-path : length (putPath t (afterEsts t bs)) ≡ size t
-  l-path = path-writes t (k .room) .long (afterEsts t bs) ∙ (long-ests t (k .room) bs ∙ lb)
+  l-path : length (putPath t (afterEsts wide t bs)) ≡ size wide t
+  l-path = path-writes t (k .room) .long (afterEsts wide t bs) ∙ (long-ests wide t (k .room) bs ∙ lb)
 
-  l-path′ : length path′ ≡ size t
+  l-path′ : length path′ ≡ size wide t
   unfolding path′
-  l-path′ = path′-writes .long (afterEsts (rState p q t) bs) ∙ (long-ests (rState p q t) (k′ .room) bs ∙ lb)
+  l-path′ = path′-writes .long (afterEsts wide (rState p q t) bs) ∙ (long-ests wide (rState p q t) (k′ .room) bs ∙ lb)
 
-  l-clear : length (clearPath t (putPath t (afterEsts t bs))) ≡ size t
-  l-clear = no-path-writes t (k .room) .long (putPath t (afterEsts t bs)) ∙ l-path
+  l-clear : length (clearPath t (putPath t (afterEsts wide t bs))) ≡ size wide t
+  l-clear = no-path-writes t (k .room) .long (putPath t (afterEsts wide t bs)) ∙ l-path
 
-  l-clear′ : length (clearPath t path′) ≡ size t
+  l-clear′ : length (clearPath t path′) ≡ size wide t
   l-clear′ = no-path-writes t (k .room) .long path′ ∙ l-path′
 
-  l-divs : length (putDiverges t (clearPath t (putPath t (afterEsts t bs)))) ≡ size t
-  l-divs = diverges-writes t (k .room) .long (clearPath t (putPath t (afterEsts t bs))) ∙ l-clear
+  l-divs : length (putDiverges wide t (clearPath t (putPath t (afterEsts wide t bs)))) ≡ size wide t
+  l-divs = diverges-writes wide t (k .room) .long (clearPath t (putPath t (afterEsts wide t bs))) ∙ l-clear
 
-  l-divs′ : length divs′ ≡ size t
+  l-divs′ : length divs′ ≡ size wide t
   unfolding divs′
   l-divs′ = divs′-writes .long (clearPath t path′) ∙ l-clear′
 
   -- a record of the buffers before the unused diverge records, and before the diverge nodes
-  before-unused : (r : ℕ → ℕ) (at w j v : ℕ) → j + v ≤ w → 64 ≤ at → at + w ≤ divergePlace (length (t .«est_times»)) (length (t .«div_nodes»))
-      → Renumbered r (putDiverges t (clearPath t (putPath t (afterEsts t bs)))) divs′ at w j v → Renumbered r (afterIndices t bs) (afterIndices (rState p q t) bs) at w j v
+  before-unused : (r : ℕ → ℕ) (at w j v : ℕ) → j + v ≤ w → 64 ≤ at → at + w ≤ divergePlace wide (length (t .«est_times»)) (length (t .«div_nodes»))
+      → Renumbered r (putDiverges wide t (clearPath t (putPath t (afterEsts wide t bs)))) divs′ at w j v → Renumbered r (afterIndices wide t bs) (afterIndices wide (rState p q t) bs) at w j v
   before-unused r at w j v fit l h m =
       behind r at w j v fit l
       (rw (afterRecords-was, afterRecords-is)
-      (match-outside (no-diverges-writes t (k .room)) (no-diverges-writes t (k .room)) r (putDiverges t (clearPath t (putPath t (afterEsts t bs)))) divs′ at w j v fit (inl h) (inl h) m))
+      (match-outside (no-diverges-writes wide t (k .room)) (no-diverges-writes wide t (k .room)) r (putDiverges wide t (clearPath t (putPath t (afterEsts wide t bs)))) divs′ at w j v fit (inl h) (inl h) m))
 
-  before-divs : (at : ℕ) → 64 ≤ at → at + 32 ≤ divergePlace (length (t .«est_times»)) 0 → Renumbered p (clearPath t (putPath t (afterEsts t bs))) (clearPath t path′) at 32 16 4
-      → Renumbered p (afterIndices t bs) (afterIndices (rState p q t) bs) at 32 16 4
+  before-divs : (at : ℕ) → 64 ≤ at → at + 32 ≤ divergePlace wide (length (t .«est_times»)) 0 → Renumbered p (clearPath t (putPath t (afterEsts wide t bs))) (clearPath t path′) at 32 16 4
+      → Renumbered p (afterIndices wide t bs) (afterIndices wide (rState p q t) bs) at 32 16 4
   unfolding divs′
   before-divs at l h m =
       before-unused p at 32 16 4 (omega arith) l (omega arith)
-      (match-outside (diverges-writes t (k .room)) divs′-writes p (clearPath t (putPath t (afterEsts t bs))) (clearPath t path′) at 32 16 4 (omega arith) (inl (omega arith)) (inl (omega arith)) m)
+      (match-outside (diverges-writes wide t (k .room)) divs′-writes p (clearPath t (putPath t (afterEsts wide t bs))) (clearPath t path′) at 32 16 4 (omega arith) (inl (omega arith)) (inl (omega arith)) m)
 
   node-held : (i : ℕ) → i < length (t .«disp_path») → NodeHeld (rNode p (getD (t .«disp_path») i (nodeFrom [] 0)))
   unfolding rState
   node-held i l = rw (getD-map-in (rNode p) (t .«disp_path») i (nodeFrom [] 0) l) at (k′ .node i (omega (arith, few-path)))
 
-  node-row : (i : ℕ) → i < length (t .«disp_path») → Renumbered p (putPath t (afterEsts t bs)) path′ (nodePlace (length (t .«est_times»)) 0 + 32 * i) 32 16 4
+  node-row : (i : ℕ) → i < length (t .«disp_path») → Renumbered p (putPath t (afterEsts wide t bs)) path′ (nodePlace (length (t .«est_times»)) 0 + 32 * i) 32 16 4
   unfolding path′
   node-row =
       let a = k .room .path in
       each-match putNode (rNode p) 32 16 4 p NodeHeld (nodeFrom [] 0) (omega arith) node-writes (node-one p) (t .«disp_path») (nodePlace (length (t .«est_times»)) 0)
-      (afterEsts t bs) (afterEsts (rState p q t) bs) (sym ests-long) (omega (arith, long-ests t (k .room) bs)) (k .node) node-held
+      (afterEsts wide t bs) (afterEsts wide (rState p q t) bs) (sym ests-long) (omega (arith, long-ests wide t (k .room) bs)) (k .node) node-held
 
-  node-matched : (i : ℕ) → i < length (t .«est_times») → Renumbered p (afterIndices t bs) (afterIndices (rState p q t) bs) (nodePlace (length (t .«est_times»)) i) 32 16 4
+  node-matched : (i : ℕ) → i < length (t .«est_times») → Renumbered p (afterIndices wide t bs) (afterIndices wide (rState p q t) bs) (nodePlace (length (t .«est_times»)) i) 32 16 4
   node-matched i l =
       let a = k .room .path in
       before-divs (nodePlace (length (t .«est_times»)) i) (omega arith) (omega arith)
       (⊎-elim
       (λ (h : i < length (t .«disp_path»)).
       let e : nodePlace (length (t .«est_times»)) i ≡ nodePlace (length (t .«est_times»)) 0 + 32 * i = omega arith in
-      match-outside (no-path-writes t (k .room)) (no-path-writes t (k .room)) p (putPath t (afterEsts t bs)) path′ (nodePlace (length (t .«est_times»)) i) 32 16 4 (omega arith)
+      match-outside (no-path-writes t (k .room)) (no-path-writes t (k .room)) p (putPath t (afterEsts wide t bs)) path′ (nodePlace (length (t .«est_times»)) i) 32 16 4 (omega arith)
       (inl (omega arith)) (inl (omega arith)) (rw e (node-row i h)))
       (λ (h : length (t .«disp_path») ≤ i).
-      zero-match p p0 (8 * (length (t .«est_times») - length (t .«disp_path»))) (nodePlace (length (t .«est_times»)) (length (t .«disp_path»))) (putPath t (afterEsts t bs)) path′
+      zero-match p p0 (8 * (length (t .«est_times») - length (t .«disp_path»))) (nodePlace (length (t .«est_times»)) (length (t .«disp_path»))) (putPath t (afterEsts wide t bs)) path′
       (l-path ∙ sym l-path′) (nodePlace (length (t .«est_times»)) i) 32 16 4 (omega arith) (omega arith) (omega arith) (omega (arith, l-path)))
       (side i (length (t .«disp_path»))))
 
-  diverge-held : (i : ℕ) → i < length (t .«div_nodes») → DivergeHeld (rDiv q (getD (t .«div_nodes») i (divergeFrom [] 0)))
+  diverge-held : (i : ℕ) → i < length (t .«div_nodes») → DivergeHeld wide (rDiv q (getD (t .«div_nodes») i zeroDiverge))
   unfolding rState
-  diverge-held i l = rw (getD-map-in (rDiv q) (t .«div_nodes») i (divergeFrom [] 0) l) at (k′ .diverge i (omega (arith, few-divs)))
+  diverge-held i l = rw (getD-map-in (rDiv q) (t .«div_nodes») i zeroDiverge l) at (k′ .diverge i (omega (arith, few-divs)))
 
   diverge-row : (i : ℕ) → i < length (t .«div_nodes»)
-      → Renumbered q (putDiverges t (clearPath t (putPath t (afterEsts t bs)))) divs′ (divergePlace (length (t .«est_times»)) 0 + 4 * i) 4 0 2
+      → Renumbered q (putDiverges wide t (clearPath t (putPath t (afterEsts wide t bs)))) divs′ (divergePlace wide (length (t .«est_times»)) 0 + divergeSize wide * i) (divergeSize wide) 0 (2 * divergeWords wide)
   unfolding divs′
   diverge-row =
-      let a = k .room .diverge in
-      each-match putDiverge (rDiv q) 4 0 2 q DivergeHeld (divergeFrom [] 0) (omega arith) diverge-writes (diverge-one q) (t .«div_nodes») (divergePlace (length (t .«est_times»)) 0)
-      (clearPath t (putPath t (afterEsts t bs))) (clearPath t path′) (l-clear ∙ sym l-clear′) (omega (arith, l-clear)) (k .diverge) diverge-held
+      let o = words-some wide in
+      let a = words-rise wide (length (t .«div_nodes»)) (t .divergeRoom) (k .room .diverge) in
+      each-match (putDiverge wide) (rDiv q) (divergeSize wide) 0 (2 * divergeWords wide) q (DivergeHeld wide) zeroDiverge (omega arith) (diverge-writes wide) (λ at bs bs′ l. diverge-one q at bs bs′ l wide) (t .«div_nodes») (divergePlace wide (length (t .«est_times»)) 0)
+      (clearPath t (putPath t (afterEsts wide t bs))) (clearPath t path′) (l-clear ∙ sym l-clear′) (omega (arith, l-clear)) (k .diverge) diverge-held
 
-  diverge-matched : (i : ℕ) → i < t .divergeRoom → Renumbered q (afterIndices t bs) (afterIndices (rState p q t) bs) (divergePlace (length (t .«est_times»)) i) 4 0 2
+  diverge-matched : (i : ℕ) → i < t .divergeRoom → Renumbered q (afterIndices wide t bs) (afterIndices wide (rState p q t) bs) (divergePlace wide (length (t .«est_times»)) i) (divergeSize wide) 0 (2 * divergeWords wide)
   diverge-matched i l =
       ⊎-elim
       (λ (h : i < length (t .«div_nodes»)).
-      let e : divergePlace (length (t .«est_times»)) i ≡ divergePlace (length (t .«est_times»)) 0 + 4 * i = omega arith in
-      before-unused q (divergePlace (length (t .«est_times»)) i) 4 0 2 (omega arith) (omega arith) (omega arith) (rw e (diverge-row i h)))
+      let e : divergePlace wide (length (t .«est_times»)) i ≡ divergePlace wide (length (t .«est_times»)) 0 + divergeSize wide * i = omega arith in
+      let n = words-next wide i (length (t .«div_nodes»)) h in
+      let o = words-some wide in
+      before-unused q (divergePlace wide (length (t .«est_times»)) i) (divergeSize wide) 0 (2 * divergeWords wide) (omega arith) (omega arith) (omega arith) (rw e (diverge-row i h)))
       (λ (h : length (t .«div_nodes») ≤ i).
-      behind q (divergePlace (length (t .«est_times»)) i) 4 0 2 (omega arith) (omega arith)
+      let o = words-some wide in
+      let r = words-rise wide (length (t .«div_nodes»)) i h in
+      let n = words-next wide i (t .divergeRoom) l in
+      let f = words-left wide (length (t .«div_nodes»)) (t .divergeRoom) (k .room .diverge) in
+      behind q (divergePlace wide (length (t .«est_times»)) i) (divergeSize wide) 0 (2 * divergeWords wide) (omega arith) (omega arith)
       (rw (afterRecords-was, afterRecords-is)
-      (zero-match q q0 (t .divergeRoom - length (t .«div_nodes»)) (divergePlace (length (t .«est_times»)) (length (t .«div_nodes»)))
-      (putDiverges t (clearPath t (putPath t (afterEsts t bs)))) divs′ (l-divs ∙ sym l-divs′) (divergePlace (length (t .«est_times»)) i) 4 0 2
+      (zero-match q q0 (divergeWords wide * (t .divergeRoom - length (t .«div_nodes»))) (divergePlace wide (length (t .«est_times»)) (length (t .«div_nodes»)))
+      (putDiverges wide t (clearPath t (putPath t (afterEsts wide t bs)))) divs′ (l-divs ∙ sym l-divs′) (divergePlace wide (length (t .«est_times»)) i) (divergeSize wide) 0 (2 * divergeWords wide)
       (omega arith) (omega arith) (omega arith) (omega (arith, l-divs)))))
       (side i (length (t .«div_nodes»)))
 
-  whole-match : ImagesMatch p q (afterIndices t bs) (afterIndices (rState p q t) bs)
+  whole-match : ImagesMatch p q (afterIndices wide t bs) (afterIndices wide (rState p q t) bs)
   whole-match =
-      let e = e-is t k bs lb in
+      let e = e-is wide t k bs lb in
+      let w = width-read wide (afterIndices wide t bs) (wide-is wide t k bs lb) in
       record {
-        long = long-indices (rState p q t) (k′ .room) bs ∙ sym (long-indices t (k .room) bs);
+        long = long-indices wide (rState p q t) (k′ .room) bs ∙ sym (long-indices wide t (k .room) bs);
         header = header-match;
         est = λ i l. est-matched i (omega (arith, e));
         node = λ i l. rw e (node-matched i (omega (arith, e)));
-        diverge = λ i l. rw e (diverge-matched i (omega (arith, room-read t k bs lb)));
-        rest = λ i l n. absurd (omega (arith, e, room-read t k bs lb, long-indices t (k .room) bs, lb));
+        diverge = λ i l. rw (w, e) (diverge-matched i (omega (arith, room-read wide t k bs lb)));
+        rest = rw (w, e, room-read wide t k bs lb) (λ i l n. absurd (omega (arith, long-indices wide t (k .room) bs, lb)));
       }
 
-module _ (p q : ℕ → ℕ) (p0 : p 0 ≡ 0) (q0 : q 0 ≡ 0) (t : Train) (k : Held t) (k′ : Held (rState p q t)) where
-  shut-match : ImagesMatch p q (encoded t) (encoded (rState p q t))
+module _ (p q : ℕ → ℕ) (p0 : p 0 ≡ 0) (q0 : q 0 ≡ 0) (wide : Bool) (t : Train) (k : Held wide t) (k′ : Held wide (rState p q t)) where
+  shut-match : ImagesMatch p q (encoded wide t) (encoded wide (rState p q t))
   unfolding encoded
   shut-match =
-      let z : List ℕ = replicate (size t) 0 in
-      let n : length z ≡ size t = length-replicate (size t) 0 in
-      rw (size-same p q p0 q0 t k k′ z n, parts t z, parts (rState p q t) z) (whole-match p q p0 q0 t k k′ z n)
+      let z : List ℕ = replicate (size wide t) 0 in
+      let n : length z ≡ size wide t = length-replicate (size wide t) 0 in
+      rw (size-same p q p0 q0 wide t k k′ z n, parts wide t z, parts wide (rState p q t) z) (whole-match p q p0 q0 wide t k k′ z n)
 
 -- the encoding of the renumbered state matches
-pub encoded-match : (p q : ℕ → ℕ) → p 0 ≡ 0 → q 0 ≡ 0 → (t : Train) → Held t → Held (rTrainDisp p q t) → ImagesMatch p q (encoded t) (encoded (rTrainDisp p q t))
+pub encoded-match : (p q : ℕ → ℕ) → p 0 ≡ 0 → q 0 ≡ 0 → (wide : Bool) (t : Train) → Held wide t → Held wide (rTrainDisp p q t) → ImagesMatch p q (encoded wide t) (encoded wide (rTrainDisp p q t))
 unfolding rState
-encoded-match p q p0 q0 t k k′ = shut-match p q p0 q0 t k k′
+encoded-match p q p0 q0 wide t k k′ = shut-match p q p0 q0 wide t k k′
 
 -- ---- a renumbered state can be held where the state can
 
@@ -450,9 +462,9 @@ width top b p r h a l =
     (side a (top + 1))
 
 -- where the largest train fits a diverge record, and the renumbered train of the header its field
-pub renumbered-held : (top top′ : ℕ) (p q : ℕ → ℕ) → Renumbering top p → Renumbering top′ q → top < 2 ^ 32 → top′ < fieldBound divergeTrainField
-    → (t : Train) → q (t .«train_idx» .0) < fieldBound trainField → Held t → Held (rTrainDisp p q t)
-renumbered-held top top′ p q rp rq hp hq t own k =
+pub renumbered-held : (top top′ : ℕ) (p q : ℕ → ℕ) → Renumbering top p → Renumbering top′ q → top < 2 ^ 32 → (wide : Bool) → top′ < fieldBound (divergeTrainField wide)
+    → (t : Train) → q (t .«train_idx» .0) < fieldBound trainField → Held wide t → Held wide (rTrainDisp p q t)
+renumbered-held top top′ p q rp rq hp wide hq t own k =
     let ne = length-map (t .«est_times») (rEst p) in
     let nn = length-map (t .«disp_path») (rNode p) in
     let nm = length-map (t .«div_nodes») (rDiv q) in
@@ -464,8 +476,8 @@ renumbered-held top top′ p q rp rq hp hq t own k =
           (record { dist = h .dist; next = h .next; alt = h .alt; prev = h .prev; prev-alt = h .prev-alt; link = width top (2 ^ 32) p rp hp _ (h .link) });
       node = λ i l. let h = k .node i (omega (arith, nn)) in rw (getD-map-in (rNode p) (t .«disp_path») i (nodeFrom [] 0) (omega (arith, nn)))
           (record { offset = h .offset; time = h .time; link = width top (2 ^ 32) p rp hp _ (h .link); est = h .est; auth = h .auth });
-      diverge = λ i l. let h = k .diverge i (omega (arith, nm)) in rw (getD-map-in (rDiv q) (t .«div_nodes») i (divergeFrom [] 0) (omega (arith, nm)))
-          (record { train = width top′ (fieldBound divergeTrainField) q rq hq _ (h .train); node = h .node });
+      diverge = λ i l. let h = k .diverge i (omega (arith, nm)) in rw (getD-map-in (rDiv q) (t .«div_nodes») i zeroDiverge (omega (arith, nm)))
+          (record { train = width top′ (fieldBound (divergeTrainField wide)) q rq hq _ (h .train); node = h .node });
       fixed = k .fixed;
       free = k .free;
       front = k .front;

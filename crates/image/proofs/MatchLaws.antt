@@ -1,16 +1,20 @@
 -- Records and states of images that match. Assumes nothing.
-use mathlib.Core.Path.{_≡_, sym, ap, _∙_}
+use mathlib.Core.Path.{_≡_, sym, ap, ap₂, _∙_}
+use mathlib.Core.Bool.{Bool}
 use mathlib.Core.List.{List, map}
-use Prim.Native.Nat.{ℕ, _+_, _≤_, _<_}
+use Prim.Native.Nat.{ℕ, _+_, _*_, _≤_, _<_}
 use native.Mathlib.Omega.{arith}
+use lib.Dec.{eqb}
 use Rattle.link_rules.specs.Octets.{leAt}
 use Rattle.link_rules.proofs.OctetLaws.{le-cong}
 use Rattle.disp_structs.specs.Listed.{listed}
 use Rattle.disp_structs.specs.Renumbered.{rEst, rNode, rDiv, rTrainDisp}
 use Rattle.disp_structs.proofs.ListedLaws.{listed-same, listed-map}
-use Rattle.image.specs.Image.{estCount, pathCount, divergeCount, divergeRoom, pathHeader, estPlace, nodePlace, divergePlace, estFrom, nodeFrom, divergeFrom, estAt, nodeAt, divergeAt}
+use Rattle.image.specs.Fields.{divergeWords, divergeSize}
+use Rattle.image.specs.Image.{estCount, pathCount, divergeCount, divergeRoom, isWide, pathHeader, estPlace, nodePlace, divergePlace, estFrom, nodeFrom, divergeFrom, estAt, nodeAt, divergeAt}
 use Rattle.image.specs.Codec.{decoded}
 use Rattle.image.specs.ImageMatch.{Renumbered, ImagesMatch}
+use Rattle.image.proofs.WidthLaws.{words-some}
 
 -- ---- numbers of a record
 
@@ -49,11 +53,13 @@ node-renumbered p bs bs′ at m =
       le-after m 1 (at + 26) (omega arith) (omega arith),
     )
 
-diverge-renumbered : (q : ℕ → ℕ) (bs bs′ : List ℕ) (at : ℕ) → Renumbered q bs bs′ at 4 0 2 → divergeFrom bs′ at ≡ rDiv q (divergeFrom bs at)
+diverge-renumbered : (wide : Bool) (q : ℕ → ℕ) (bs bs′ : List ℕ) (at : ℕ) → Renumbered q bs bs′ at (divergeSize wide) 0 (2 * divergeWords wide)
+    → divergeFrom wide bs′ at ≡ rDiv q (divergeFrom wide bs at)
 unfolding divergeFrom
-diverge-renumbered q bs bs′ at m =
+diverge-renumbered wide q bs bs′ at m =
     let e : at + 0 ≡ at = omega arith in
-    rw (rw e at (m .number), le-after m 2 (at + 2) (omega arith) (omega arith))
+    let k = words-some wide in
+    rw (rw e at (m .number), le-after m 2 (at + 2 * divergeWords wide) (omega arith) (omega arith))
 
 -- ---- the header and the records of an image
 
@@ -77,6 +83,10 @@ module _ (p q : ℕ → ℕ) (bs bs′ : List ℕ) (m : ImagesMatch p q bs bs′
   pub diverge-room : divergeRoom bs′ ≡ divergeRoom bs
   diverge-room = header-low 4 16 (omega arith)
 
+  pub wide-match : isWide bs′ ≡ isWide bs
+  unfolding isWide
+  wide-match = ap (λ (x : ℕ). eqb x 1) (header-high 1 42 (omega arith) (omega arith))
+
   pub path-header : pathHeader bs′ ≡ pathHeader bs
   unfolding pathHeader
   path-header =
@@ -97,7 +107,8 @@ module _ (p q : ℕ → ℕ) (bs bs′ : List ℕ) (m : ImagesMatch p q bs bs′
 
   pub diverge-match : (i : ℕ) → i < divergeRoom bs → divergeAt bs′ i ≡ rDiv q (divergeAt bs i)
   diverge-match i l =
-      ap (λ (e : ℕ). divergeFrom bs′ (divergePlace e i)) est-count ∙ diverge-renumbered q bs bs′ (divergePlace (estCount bs) i) (m .diverge i l)
+      ap₂ (λ (w : Bool) (e : ℕ). divergeFrom w bs′ (divergePlace w e i)) wide-match est-count
+      ∙ diverge-renumbered (isWide bs) q bs bs′ (divergePlace (isWide bs) (estCount bs) i) (m .diverge i l)
 
   -- the state of the second is the renumbered state of the first
   pub decoded-match : pathCount bs ≤ estCount bs → divergeCount bs ≤ divergeRoom bs → decoded bs′ ≡ rTrainDisp p q (decoded bs)

@@ -1,9 +1,9 @@
 -- One record of each kind: where it is written, what it reads, and its round trips. Assumes nothing.
-use mathlib.Core.Path.{_≡_, refl, _∙_}
+use mathlib.Core.Path.{_≡_, refl, sym, ap, _∙_}
 use mathlib.Core.Logic.{inl}
-use mathlib.Core.Bool.{not}
+use mathlib.Core.Bool.{Bool, not}
 use mathlib.Core.List.{List}
-use Prim.Native.Nat.{ℕ, zero, suc, _+_, _/_, _%_, _^_, _≤_, _<_}
+use Prim.Native.Nat.{ℕ, zero, suc, _+_, _*_, _-_, _/_, _%_, _^_, _≤_, _<_}
 use native.Mathlib.Omega.{arith}
 use lib.Dec.{T, lit<}
 use lib.Ieee.{Float, binary64, fits, isNan}
@@ -17,9 +17,10 @@ use Rattle.disp_structs.specs.declared.EstTime.{EstTime}
 use Rattle.disp_structs.specs.declared.DispNode.{DispNode}
 use Rattle.disp_structs.specs.declared.DivergeNode.{DivergeNode}
 use Rattle.disp_structs.proofs.FloatLaws.{bits-real, bits-lt, real-bits}
-use Rattle.image.specs.Fields.{divergeTrainField, fieldBound}
+use Rattle.image.specs.Fields.{divergeWords, divergeSize, divergeTrainField, divergeSpareField, fieldBound, readIn}
 use Rattle.image.specs.Image.{estCount, estPlace, nodePlace, typeOf, typeNumber, estFrom, nodeFrom, divergeFrom, estAt, nodeAt, zeroEst, zeroNode, wholeEst, wholeNode, putEst, putNode, putDiverge}
 use borrow.Author.Tests.{le-ltb, lt-ltb}
+use Rattle.image.proofs.WidthLaws.{words-some}
 use Rattle.image.proofs.Writers.{Writes, put-to, then}
 
 -- ---- records within an image
@@ -233,35 +234,53 @@ node-back bs at b g =
     )
     (put-le 4 (at + 28) bs b)
 
--- ---- diverge records
+-- ---- diverge records, of either width
 
-pub diverge-writes : (x : DivergeNode) (at : ℕ) → Writes at (at + 4) (putDiverge x at)
-unfolding putDiverge
-diverge-writes x at =
-    then (put-to 2 (x .«train_idx» .0) at (at + 2) (omega arith)) (put-to 2 (x .«disp_node_idx») (at + 2) (at + 4) (omega arith)) (omega arith) (omega arith)
-
-pub diverge-cong : (bs cs : List ℕ) (at : ℕ) → ((i : ℕ) → at ≤ i → i < at + 4 → getD bs i 0 ≡ getD cs i 0) → divergeFrom bs at ≡ divergeFrom cs at
-unfolding divergeFrom
-diverge-cong bs cs at h =
-    rw (
-      le-cong 2 bs cs at (λ i l m. h i (omega arith) (omega arith)),
-      le-cong 2 bs cs (at + 2) (λ i l m. h i (omega arith) (omega arith)),
-    )
-
-pub record DivergeHeld (x : DivergeNode) : Type 0 where
-  pub train : x .«train_idx» .0 < fieldBound divergeTrainField
+pub record DivergeHeld (wide : Bool) (x : DivergeNode) : Type 0 where
+  pub train : x .«train_idx» .0 < fieldBound (divergeTrainField wide)
   pub node : x .«disp_node_idx» < 2 ^ 16
 
-pub diverge-read : (x : DivergeNode) (at : ℕ) (bs : List ℕ) → DivergeHeld x → at + 4 ≤ length bs → divergeFrom (putDiverge x at bs) at ≡ x
-unfolding divergeFrom putDiverge
-diverge-read x at bs k l =
-    let b1 = putLe 2 (x .«train_idx» .0) at bs in
-    let l1 : length b1 ≡ length bs = length-put 2 (x .«train_idx» .0) at bs in
-    let b2 = putLe 2 (x .«disp_node_idx») (at + 2) b1 in
-    let f1 : leAt 2 b2 at ≡ (x .«train_idx» .0) = le-put-other 2 2 (x .«disp_node_idx») (at + 2) b1 at (inl (omega arith)) ∙ (le-put-same 2 (x .«train_idx» .0) at bs (omega arith) (k .train)) in
-    let f2 : leAt 2 b2 (at + 2) ≡ (x .«disp_node_idx») = le-put-same 2 (x .«disp_node_idx») (at + 2) b1 (omega arith) (k .node) in
-    rw (f1, f2)
+module _ (wide : Bool) where
+  abbrev K : ℕ
+  K = divergeWords wide
 
-pub diverge-back : (bs : List ℕ) (at : ℕ) → Bytes bs → putDiverge (divergeFrom bs at) at bs ≡ bs
-unfolding divergeFrom putDiverge
-diverge-back bs at b = rw (put-le 2 at bs b) (put-le 2 (at + 2) bs b)
+  pub diverge-writes : (x : DivergeNode) (at : ℕ) → Writes at (at + divergeSize wide) (putDiverge wide x at)
+  unfolding putDiverge
+  diverge-writes x at =
+      let k = words-some wide in
+      then (then (put-to (2 * K) (x .«train_idx» .0) at (at + 2 * K) (omega arith)) (put-to 2 (x .«disp_node_idx») (at + 2 * K) (at + (2 * K + 2)) (omega arith)) (omega arith) (omega arith))
+      (put-to (2 * K - 2) 0 (at + (2 * K + 2)) (at + divergeSize wide) (omega arith)) (omega arith) (omega arith)
+
+  pub diverge-cong : (bs cs : List ℕ) (at : ℕ) → ((i : ℕ) → at ≤ i → i < at + divergeSize wide → getD bs i 0 ≡ getD cs i 0) → divergeFrom wide bs at ≡ divergeFrom wide cs at
+  unfolding divergeFrom
+  diverge-cong bs cs at h =
+      let k = words-some wide in
+      rw (
+        le-cong (2 * K) bs cs at (λ i l m. h i (omega arith) (omega arith)),
+        le-cong 2 bs cs (at + 2 * K) (λ i l m. h i (omega arith) (omega arith)),
+      )
+
+  pub diverge-read : (x : DivergeNode) (at : ℕ) (bs : List ℕ) → DivergeHeld wide x → at + divergeSize wide ≤ length bs → divergeFrom wide (putDiverge wide x at bs) at ≡ x
+  unfolding divergeFrom putDiverge
+  diverge-read x at bs h l =
+      let k = words-some wide in
+      let b1 = putLe (2 * K) (x .«train_idx» .0) at bs in
+      let l1 : length b1 ≡ length bs = length-put (2 * K) (x .«train_idx» .0) at bs in
+      let b2 = putLe 2 (x .«disp_node_idx») (at + 2 * K) b1 in
+      let b3 = putLe (2 * K - 2) 0 (at + (2 * K + 2)) b2 in
+      let f1 : leAt (2 * K) b3 at ≡ x .«train_idx» .0 =
+      le-put-other (2 * K) (2 * K - 2) 0 (at + (2 * K + 2)) b2 at (inl (omega arith))
+      ∙ (le-put-other (2 * K) 2 (x .«disp_node_idx») (at + 2 * K) b1 at (inl (omega arith)) ∙ le-put-same (2 * K) (x .«train_idx» .0) at bs (omega arith) (h .train)) in
+      let f2 : leAt 2 b3 (at + 2 * K) ≡ x .«disp_node_idx» =
+      le-put-other 2 (2 * K - 2) 0 (at + (2 * K + 2)) b2 (at + 2 * K) (inl (omega arith)) ∙ le-put-same 2 (x .«disp_node_idx») (at + 2 * K) b1 (omega arith) (h .node) in
+      rw (f1, f2)
+
+  -- its spare bytes are 0
+  abbrev pub GoodDiverge : (bs : List ℕ) (at : ℕ) → Type 0
+  GoodDiverge bs at = readIn (divergeSpareField wide) bs at ≡ 0
+
+  pub diverge-back : (bs : List ℕ) (at : ℕ) → Bytes bs → GoodDiverge bs at → putDiverge wide (divergeFrom wide bs at) at bs ≡ bs
+  unfolding divergeFrom putDiverge
+  diverge-back bs at b g =
+      rw (put-le (2 * K) at bs b, put-le 2 (at + 2 * K) bs b)
+      (ap (λ (y : ℕ). putLe (2 * K - 2) y (at + (2 * K + 2)) bs) (sym g) ∙ put-le (2 * K - 2) (at + (2 * K + 2)) bs b)

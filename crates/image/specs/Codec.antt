@@ -1,12 +1,13 @@
 -- The state of a train from the bytes of an image, and back. Assumes nothing.
 use Prim.Native.Nat.{ℕ, _+_, _*_, _-_}
+use mathlib.Core.Bool.{Bool, cond}
 use mathlib.Core.List.{List, [], _∷_}
 use lib.ListN.{length, replicate}
 use Rattle.disp_structs.specs.Floats.{bitsOf}
 use Rattle.disp_structs.specs.Listed.{listed}
 use Rattle.disp_structs.specs.Train.{Train}
-use Rattle.image.specs.Fields.{sizeField, estCountField, divergeRoomField, estOffsetField, pathOffsetField, divergeOffsetField, trainField, fixedField, freeField, frontField, backField, spareField, spareRestField, searchField, fixedMaxField, readField, putField}
-use Rattle.image.specs.Image.{estCount, pathCount, divergeCount, divergeRoom, trainIdx, distDispPathSearch, distFixedMax, estPlace, nodePlace, divergePlace, imageSize, estAt, nodeAt, divergeAt, putEst, putNode, putDiverge, zeroWords, putPathHeader}
+use Rattle.image.specs.Fields.{sizeField, estCountField, divergeRoomField, estOffsetField, pathOffsetField, divergeOffsetField, trainField, fixedField, freeField, frontField, backField, spareField, spareRestField, searchField, fixedMaxField, divergeWords, divergeSize, readField, putField}
+use Rattle.image.specs.Image.{estCount, pathCount, divergeCount, divergeRoom, trainIdx, isWide, distDispPathSearch, distFixedMax, estPlace, nodePlace, divergeOffset, divergePlace, imageSize, estAt, nodeAt, divergeAt, putEst, putNode, putDiverge, zeroWords, putPathHeader}
 use Rattle.image.specs.declared.codec.PathHeader.{PathHeader}
 
 -- total: what an image holds, accepted or not
@@ -45,49 +46,57 @@ pathHeaderOf t =
     }
 
 -- the path with its unused records, then the diverge nodes with theirs
-unfoldable pub putRecords : Train → List ℕ → List ℕ
-putRecords t bs =
+unfoldable pub putRecords : (wide : Bool) → Train → List ℕ → List ℕ
+putRecords wide t bs =
     let e = length (t .«est_times») in
     let n = length (t .«disp_path») in
     let m = length (t .«div_nodes») in
-    zeroWords (t .divergeRoom - m) (divergePlace e m)
-    (putEach putDiverge 4 (t .«div_nodes») (divergePlace e 0)
+    zeroWords (divergeWords wide * (t .divergeRoom - m)) (divergePlace wide e m)
+    (putEach (putDiverge wide) (divergeSize wide) (t .«div_nodes») (divergePlace wide e 0)
     (zeroWords (8 * (e - n)) (nodePlace e n)
     (putEach putNode 32 (t .«disp_path») (nodePlace e 0) bs)))
 
--- an image with what an update changes
-unfoldable pub storedInto : Train → List ℕ → List ℕ
-storedInto t bs = putPathHeader (pathHeaderOf t) (putRecords t bs)
+-- what an update changes
+unfoldable pub putChanges : (wide : Bool) → Train → List ℕ → List ℕ
+putChanges wide t bs = putPathHeader (pathHeaderOf t) (putRecords wide t bs)
+
+-- an image with what an update changes, of the width that it has
+abbrev pub storedInto : Train → List ℕ → List ℕ
+storedInto t bs = putChanges (isWide bs) t bs
 
 -- ---- what no update changes: the rest of the header in its three parts, and the est records
 
-unfoldable pub putSize : Train → List ℕ → List ℕ
-putSize t bs = putField estCountField (length (t .«est_times»)) (putField sizeField (imageSize (length (t .«est_times»)) (t .divergeRoom)) bs)
+unfoldable pub putSize : (wide : Bool) → Train → List ℕ → List ℕ
+putSize wide t bs = putField estCountField (length (t .«est_times»)) (putField sizeField (imageSize wide (length (t .«est_times»)) (t .divergeRoom)) bs)
 
 -- Q, the three offsets, the train
 unfoldable pub putOffsets : Train → List ℕ → List ℕ
 putOffsets t bs =
     let e = length (t .«est_times») in
     putField trainField (t .«train_idx» .0)
-    (putField divergeOffsetField (divergePlace e 0)
+    (putField divergeOffsetField (divergeOffset e)
     (putField pathOffsetField (nodePlace e 0)
     (putField estOffsetField (estPlace 0)
     (putField divergeRoomField (t .divergeRoom) bs))))
 
+-- the number of a width at byte 42
+abbrev pub wideNumber : Bool → ℕ
+wideNumber wide = cond wide 1 0
+
 -- six spare bytes, the two distances
-unfoldable pub putDists : Train → List ℕ → List ℕ
-putDists t bs =
+unfoldable pub putDists : (wide : Bool) → Train → List ℕ → List ℕ
+putDists wide t bs =
     putField fixedMaxField (bitsOf (t .«dist_fixed_max» .0))
     (putField searchField (bitsOf (t .«dist_disp_path_search» .0))
     (putField spareRestField 0
-    (putField spareField 0 bs)))
+    (putField spareField (wideNumber wide) bs)))
 
-unfoldable pub constantInto : Train → List ℕ → List ℕ
-constantInto t bs = putEach putEst 32 (t .«est_times») (estPlace 0) (putDists t (putOffsets t (putSize t bs)))
+unfoldable pub constantInto : (wide : Bool) → Train → List ℕ → List ℕ
+constantInto wide t bs = putEach putEst 32 (t .«est_times») (estPlace 0) (putDists wide t (putOffsets t (putSize wide t bs)))
 
 -- every byte of the image
-unfoldable pub encodedInto : Train → List ℕ → List ℕ
-encodedInto t bs = storedInto t (constantInto t bs)
+unfoldable pub encodedInto : (wide : Bool) → Train → List ℕ → List ℕ
+encodedInto wide t bs = putChanges wide t (constantInto wide t bs)
 
-unfoldable pub encoded : Train → List ℕ
-encoded t = encodedInto t (replicate (imageSize (length (t .«est_times»)) (t .divergeRoom)) 0)
+unfoldable pub encoded : (wide : Bool) → Train → List ℕ
+encoded wide t = encodedInto wide t (replicate (imageSize wide (length (t .«est_times»)) (t .divergeRoom)) 0)

@@ -1,6 +1,7 @@
 -- The fields of an image (document 01, Layouts), each with its place and width in bytes: readers, writers, refusals and matching cite this table.
 -- Assumes nothing.
-use Prim.Native.Nat.{ℕ, _+_, _^_}
+use Prim.Native.Nat.{ℕ, _+_, _*_, _-_, _^_}
+use mathlib.Core.Bool.{Bool, cond}
 use mathlib.Core.List.{List}
 use Rattle.link_rules.specs.Octets.{leAt, putLe}
 
@@ -56,7 +57,10 @@ frontField = field 38 2
 abbrev pub backField : Field
 backField = field 40 2
 
--- six spare bytes, in two parts
+-- six spare bytes, of which the first is 1 in a wide image (document 02, Q-6); that one with the byte behind it, and the other four
+abbrev pub wideField : Field
+wideField = field 42 1
+
 abbrev pub spareField : Field
 spareField = field 42 2
 
@@ -123,13 +127,22 @@ nodeKindField = field 26 2
 abbrev pub nodeSpareField : Field
 nodeSpareField = field 28 4
 
--- ---- diverge record of 4 bytes
+-- ---- diverge record of one word of 4 bytes, in a wide image of two: the train takes half of it, the node two bytes, what is left is spare
 
-abbrev pub divergeTrainField : Field
-divergeTrainField = field 0 2
+unfoldable pub divergeWords : (wide : Bool) → ℕ
+divergeWords wide = cond wide 2 1
 
-abbrev pub divergeNodeField : Field
-divergeNodeField = field 2 2
+abbrev pub divergeSize : (wide : Bool) → ℕ
+divergeSize wide = 4 * divergeWords wide
+
+abbrev pub divergeTrainField : (wide : Bool) → Field
+divergeTrainField wide = field 0 (2 * divergeWords wide)
+
+abbrev pub divergeNodeField : (wide : Bool) → Field
+divergeNodeField wide = field (2 * divergeWords wide) 2
+
+abbrev pub divergeSpareField : (wide : Bool) → Field
+divergeSpareField wide = field (2 * divergeWords wide + 2) (2 * divergeWords wide - 2)
 
 -- ---- read and written
 

@@ -1,6 +1,6 @@
 -- The image of one train (document 01, Layouts): its header, its records, and the state that they hold. Assumes nothing.
 use Prim.Native.Nat.{ℕ, zero, suc, _+_, _*_, _-_}
-use mathlib.Core.Bool.{cond}
+use mathlib.Core.Bool.{Bool, cond}
 use mathlib.Core.List.{List, []}
 use lib.Dec.{eqb, ltb}
 use lib.ListN.{length}
@@ -13,7 +13,7 @@ use Rattle.disp_structs.specs.declared.EstType.the-variants.{Arrive, Clear, Fak
 use Rattle.disp_structs.specs.declared.EstTime.{EstTime}
 use Rattle.disp_structs.specs.declared.DispNode.{DispNode}
 use Rattle.disp_structs.specs.declared.DivergeNode.{DivergeNode}
-use Rattle.image.specs.Fields.{sizeField, estCountField, pathCountField, divergeCountField, divergeRoomField, trainField, fixedField, freeField, frontField, backField, searchField, fixedMaxField, estDistField, estNextField, estNextAltField, estPrevField, estPrevAltField, estLinkField, estTypeField, estKindField, nodeOffsetField, nodeTimeField, nodeLinkField, nodeEstField, nodeAuthField, nodeTypeField, nodeKindField, nodeSpareField, divergeTrainField, divergeNodeField, fieldBound, readField, putField, readIn, putIn, readFirst, putFirst}
+use Rattle.image.specs.Fields.{sizeField, estCountField, pathCountField, divergeCountField, divergeRoomField, trainField, fixedField, freeField, frontField, backField, wideField, searchField, fixedMaxField, estDistField, estNextField, estNextAltField, estPrevField, estPrevAltField, estLinkField, estTypeField, estKindField, nodeOffsetField, nodeTimeField, nodeLinkField, nodeEstField, nodeAuthField, nodeTypeField, nodeKindField, nodeSpareField, divergeWords, divergeTrainField, divergeNodeField, divergeSpareField, readField, putField, readIn, putIn, readFirst, putFirst}
 use Rattle.image.specs.declared.codec.PathHeader.{PathHeader}
 
 -- ---- header; the places and widths of all fields stand in Fields
@@ -39,6 +39,10 @@ divergeRoom bs = readField divergeRoomField bs
 
 abbrev pub trainIdx : List ℕ → TrainIdx
 trainIdx bs = record { 0 = readField trainField bs }
+
+-- an image is wide exactly if its byte 42 is 1, else narrow (document 02, Q-6)
+unfoldable pub isWide : List ℕ → Bool
+isWide bs = eqb (readField wideField bs) 1
 
 -- the header's numbers that an update changes
 unfoldable pub pathHeader : List ℕ → PathHeader
@@ -66,16 +70,23 @@ estPlace i = 64 + 32 * i
 abbrev pub nodePlace : (e i : ℕ) → ℕ
 nodePlace e i = 64 + 32 * e + 32 * i
 
-abbrev pub divergePlace : (e i : ℕ) → ℕ
-divergePlace e i = 64 + 64 * e + 4 * i
+-- the first diverge record, of either width
+abbrev pub divergeOffset : (e : ℕ) → ℕ
+divergeOffset e = 64 + 64 * e
+
+abbrev pub divergePlace : (wide : Bool) (e i : ℕ) → ℕ
+divergePlace wide e i = 64 + 64 * e + 4 * (divergeWords wide * i)
 
 -- the size of an image of e est records with room for q diverge nodes
-abbrev pub imageSize : (e q : ℕ) → ℕ
-imageSize e q = 64 + 64 * e + 4 * q
+abbrev pub imageSize : (wide : Bool) (e q : ℕ) → ℕ
+imageSize wide e q = 64 + 64 * e + 4 * (divergeWords wide * q)
 
--- the largest train of an image, which its diverge records hold; laws that store a train ask for no more than it
+-- the largest train of a width (document 02, Q-6), and of an image
+unfoldable pub largestOf : (wide : Bool) → ℕ
+largestOf wide = cond wide 999999 65535
+
 abbrev pub largestTrain : List ℕ → ℕ
-largestTrain bs = fieldBound divergeTrainField - 1
+largestTrain bs = largestOf (isWide bs)
 
 -- ---- records
 
@@ -111,9 +122,9 @@ nodeFrom bs at =
       «disp_auth_idx_entry» = readIn nodeAuthField bs at;
     }
 
--- the diverge record in the 4 bytes from at
-unfoldable pub divergeFrom : (bs : List ℕ) (at : ℕ) → DivergeNode
-divergeFrom bs at = record { «train_idx» = record { 0 = readFirst divergeTrainField bs at }; «disp_node_idx» = readIn divergeNodeField bs at }
+-- the diverge record from at
+unfoldable pub divergeFrom : (wide : Bool) (bs : List ℕ) (at : ℕ) → DivergeNode
+divergeFrom wide bs at = record { «train_idx» = record { 0 = readFirst (divergeTrainField wide) bs at }; «disp_node_idx» = readIn (divergeNodeField wide) bs at }
 
 -- est_times[i], disp_path[i], div_nodes[i]
 abbrev pub estAt : (bs : List ℕ) (i : ℕ) → EstTime
@@ -123,7 +134,7 @@ abbrev pub nodeAt : (bs : List ℕ) (i : ℕ) → DispNode
 nodeAt bs i = nodeFrom bs (nodePlace (estCount bs) i)
 
 abbrev pub divergeAt : (bs : List ℕ) (i : ℕ) → DivergeNode
-divergeAt bs i = divergeFrom bs (divergePlace (estCount bs) i)
+divergeAt bs i = divergeFrom (isWide bs) bs (divergePlace (isWide bs) (estCount bs) i)
 
 -- records of zeros
 abbrev pub zeroEst : EstTime
@@ -131,6 +142,9 @@ zeroEst = estFrom [] 0
 
 abbrev pub zeroNode : DispNode
 zeroNode = nodeFrom [] 0
+
+abbrev pub zeroDiverge : DivergeNode
+zeroDiverge = record { «train_idx» = record { 0 = 0 }; «disp_node_idx» = 0 }
 
 -- est_times[i] and disp_path[i] where the record lies within the image, else a record of zeros
 unfoldable pub wholeEst : (bs : List ℕ) (i : ℕ) → EstTime
@@ -161,8 +175,11 @@ putNode x at bs =
     (putIn nodeTimeField (bitsOf (x .«time_pass» .0)) at
     (putFirst nodeOffsetField (bitsOf (x .offset .0)) at bs))))))
 
-unfoldable pub putDiverge : (x : DivergeNode) (at : ℕ) (bs : List ℕ) → List ℕ
-putDiverge x at bs = putIn divergeNodeField (x .«disp_node_idx») at (putFirst divergeTrainField (x .«train_idx» .0) at bs)
+unfoldable pub putDiverge : (wide : Bool) (x : DivergeNode) (at : ℕ) (bs : List ℕ) → List ℕ
+putDiverge wide x at bs =
+    putIn (divergeSpareField wide) 0 at
+    (putIn (divergeNodeField wide) (x .«disp_node_idx») at
+    (putFirst (divergeTrainField wide) (x .«train_idx» .0) at bs))
 
 -- k numbers of 4 bytes from at are 0
 unfoldable pub zeroWords : (k at : ℕ) (bs : List ℕ) → List ℕ
@@ -174,7 +191,7 @@ unfoldable pub clearNodes : (n : ℕ) (bs : List ℕ) → List ℕ
 clearNodes n bs = zeroWords (8 * (estCount bs - n)) (nodePlace (estCount bs) n) bs
 
 unfoldable pub clearDiverges : (m : ℕ) (bs : List ℕ) → List ℕ
-clearDiverges m bs = zeroWords (divergeRoom bs - m) (divergePlace (estCount bs) m) bs
+clearDiverges m bs = zeroWords (divergeWords (isWide bs) * (divergeRoom bs - m)) (divergePlace (isWide bs) (estCount bs) m) bs
 
 unfoldable pub putPathHeader : PathHeader → List ℕ → List ℕ
 putPathHeader h bs =

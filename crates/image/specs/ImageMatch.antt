@@ -4,8 +4,8 @@ use mathlib.Core.List.{List}
 use Prim.Native.Nat.{ℕ, _+_, _≤_, _<_}
 use lib.ListN.{length, getD}
 use Rattle.link_rules.specs.Octets.{leAt}
-use Rattle.image.specs.Fields.{trainField, estLinkField, nodeLinkField, divergeTrainField}
-use Rattle.image.specs.Image.{estCount, divergeRoom, estPlace, nodePlace, divergePlace}
+use Rattle.image.specs.Fields.{trainField, estLinkField, nodeLinkField, divergeSize, divergeTrainField}
+use Rattle.image.specs.Image.{estCount, divergeRoom, isWide, estPlace, nodePlace, divergePlace}
 
 -- the same bytes from a up to e
 abbrev pub SameBytes : (bs bs′ : List ℕ) (a e : ℕ) → Type 0
@@ -23,6 +23,6 @@ pub record ImagesMatch (p q : ℕ → ℕ) (bs bs′ : List ℕ) : Type 0 where
   pub header : Renumbered q bs bs′ 0 64 (trainField .place) (trainField .width)
   pub est : (i : ℕ) → i < estCount bs → Renumbered p bs bs′ (estPlace i) 32 (estLinkField .place) (estLinkField .width)
   pub node : (i : ℕ) → i < estCount bs → Renumbered p bs bs′ (nodePlace (estCount bs) i) 32 (nodeLinkField .place) (nodeLinkField .width)
-  pub diverge : (i : ℕ) → i < divergeRoom bs → Renumbered q bs bs′ (divergePlace (estCount bs) i) 4 (divergeTrainField .place) (divergeTrainField .width)
+  pub diverge : (i : ℕ) → i < divergeRoom bs → Renumbered q bs bs′ (divergePlace (isWide bs) (estCount bs) i) (divergeSize (isWide bs)) (divergeTrainField (isWide bs) .place) (divergeTrainField (isWide bs) .width)
   -- bytes behind the records, which an image has that 6 refuses
-  pub rest : SameBytes bs bs′ (divergePlace (estCount bs) (divergeRoom bs)) (length bs)
+  pub rest : SameBytes bs bs′ (divergePlace (isWide bs) (estCount bs) (divergeRoom bs)) (length bs)

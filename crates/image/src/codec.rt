@@ -17,7 +17,7 @@ ghost use Prim.Native.Nat.{_+_, _*_, _-_, _^_, _<_};
 ghost use lib.ListN.{length, replicate};
 ghost use Rattle.link_rules.specs.Octets.{leAt, putLe};
 ghost use Rattle.disp_structs.specs.Floats.{realOf};
-ghost use Rattle.image.specs.Image.{sizeOf, estCount, pathCount, divergeCount, divergeRoom, trainIdx, pathHeader, distDispPathSearch, distFixedMax, estPlace, nodePlace, divergePlace, typeOf, typeNumber, estFrom, estAt, nodeFrom, nodeAt, zeroEst, zeroNode, wholeEst, wholeNode, divergeAt, putNode, putDiverge, zeroWords, clearNodes, clearDiverges, putPathHeader};
+ghost use Rattle.image.specs.Image.{sizeOf, estCount, pathCount, divergeCount, divergeRoom, trainIdx, isWide, pathHeader, distDispPathSearch, distFixedMax, estPlace, nodePlace, divergePlace, typeOf, typeNumber, estFrom, estAt, nodeFrom, nodeAt, zeroEst, zeroNode, wholeEst, wholeNode, divergeAt, putNode, putDiverge, zeroWords, clearNodes, clearDiverges, putPathHeader};
 
 // The header's numbers that an update changes.
 pub struct PathHeader {
@@ -65,6 +65,13 @@ pub fn train_idx(img: &[u8]) -> TrainIdx
     ensures { λ r. ⌜ r ≡ trainIdx (now (img .entry)) ⌝ }
 {
     TrainIdx(octets::u16_at(img, 32) as u32)
+}
+
+// Byte 42 is 1.
+pub fn is_wide(img: &[u8]) -> bool
+    ensures { λ r. ⌜ r ≡ isWide (now (img .entry)) ⌝ }
+{
+    octet_at(img, 42) == 1
 }
 
 pub fn path_header(img: &[u8]) -> PathHeader
@@ -117,9 +124,12 @@ pub fn node_place(e: u32, i: u32) -> usize
     64 + 32 * (e as usize) + 32 * (i as usize)
 }
 
-pub fn diverge_place(e: u32, i: u32) -> usize
-    ensures { λ r. ⌜ r ≡ divergePlace e i ⌝ }
+pub fn diverge_place(wide: bool, e: u32, i: u32) -> usize
+    ensures { λ r. ⌜ r ≡ divergePlace wide e i ⌝ }
 {
+    if wide {
+        return 64 + 64 * (e as usize) + 8 * (i as usize);
+    }
     64 + 64 * (e as usize) + 4 * (i as usize)
 }
 
@@ -295,7 +305,14 @@ fn node_past(s: &[u8], at: usize) -> DispNode
 pub fn diverge_at(img: &[u8], i: u32) -> DivergeNode
     ensures { λ r. ⌜ r ≡ divergeAt (now (img .entry)) i ⌝ }
 {
-    let at = diverge_place(est_count(img), i);
+    let wide = is_wide(img);
+    let at = diverge_place(wide, est_count(img), i);
+    if wide {
+        return DivergeNode {
+            train_idx: TrainIdx(octets::u32_at(img, at)),
+            disp_node_idx: octets::u16_at(img, at + 4) as u32,
+        };
+    }
     DivergeNode {
         train_idx: TrainIdx(octets::u16_at(img, at) as u32),
         disp_node_idx: octets::u16_at(img, at + 2) as u32,
@@ -377,11 +394,18 @@ fn put_node_past(s: &mut [u8], at: usize, x: DispNode)
     octets::put_u32(s, at + 28, 0);
 }
 
-// Of a larger number the low 16 bits are written.
+// Of a number that its field cannot hold the low bits are written.
 pub fn put_diverge(img: &mut [u8], i: u32, x: DivergeNode)
-    ensures { λ _. ⌜ now (img .exit) ≡ putDiverge x (divergePlace (estCount (now (img .entry))) i) (now (img .entry)) ⌝ }
+    ensures { λ _. ⌜ now (img .exit) ≡ putDiverge (isWide (now (img .entry))) x (divergePlace (isWide (now (img .entry))) (estCount (now (img .entry))) i) (now (img .entry)) ⌝ }
 {
-    let at = diverge_place(est_count(img), i);
+    let wide = is_wide(img);
+    let at = diverge_place(wide, est_count(img), i);
+    if wide {
+        octets::put_u32(img, at, x.train_idx.0);
+        octets::put_u16(img, at + 4, (x.disp_node_idx % 65536) as u16);
+        octets::put_u16(img, at + 6, 0);
+        return;
+    }
     octets::put_u16(img, at, (x.train_idx.0 % 65536) as u16);
     octets::put_u16(img, at + 2, (x.disp_node_idx % 65536) as u16);
 }
@@ -399,8 +423,13 @@ pub fn clear_nodes(img: &mut [u8], n: u32)
 pub fn clear_diverges(img: &mut [u8], m: u32)
     ensures { λ _. ⌜ now (img .exit) ≡ clearDiverges m (now (img .entry)) ⌝ }
 {
-    let at = diverge_place(est_count(img), m);
+    let wide = is_wide(img);
+    let at = diverge_place(wide, est_count(img), m);
     let q = diverge_room(img);
+    if wide {
+        clear_words(img, at, 2 * count_from(m, q));
+        return;
+    }
     clear_words(img, at, count_from(m, q));
 }
 

@@ -1,5 +1,5 @@
 -- Where the one pass finds that all fits, no refusal applies. Assumes nothing.
-use mathlib.Core.Path.{_≡_, refl}
+use mathlib.Core.Path.{_≡_, refl, subst}
 use mathlib.Core.Bool.{Bool, true, false, not, cond, _&&_}
 use mathlib.Core.List.{List}
 use Prim.Native.Nat.{ℕ, zero, suc, _+_, _≤_, _<_}
@@ -15,10 +15,13 @@ use Rattle.disp_structs.specs.declared.EstType.the-variants.{Arrive, Clear, Fak
 use Rattle.est_times.specs.Cycles.{firstOnCycle}
 use Rattle.est_times.specs.declared.Cycle.{Cycle}
 use Rattle.est_times.specs.declared.Cycle.the-variants.{None, At}
-use Rattle.image.specs.Image.{estCount, pathCount, divergeCount, estPlace, nodePlace, typeOf, estFrom, nodeFrom, nodeAt}
-use Rattle.image_fault.specs.ImageFault.{firstUnfit, countsFit, partsFit, trainFits, estTypeFits, nodeTypeFits, unusedZero, recordsFit, imageFits, floatFits, timeFits, eventFits, estLinksFit, estFits, nodeFits, headerFits, valueFault, nexts, alts, cycleRefused, cycleFault, onRoute, divergeFits, routeFault, imageFault}
-use Rattle.link_rules.specs.Refusals.{noRefusal}
-use Rattle.image_fault.specs.AllFit.{eventPasses, acyclic, estPasses, nodePasses, pathPasses, headPasses, recordsPass, allFit}
+use Rattle.image.specs.Fields.{divergeWords}
+use Rattle.image.specs.Image.{estCount, pathCount, divergeCount, isWide, estPlace, nodePlace, typeOf, estFrom, nodeFrom, nodeAt}
+use Rattle.image_fault.specs.ImageFault.{firstUnfit, countsFit, partsFit, trainFits, estTypeFits, nodeTypeFits, divergeSpareFits, unusedZero, recordsFit, imageFits, floatFits, timeFits, eventFits, estLinksFit, estFits, nodeFits, headerFits, divergeTrainFits, trainsFault, valueFault, nexts, alts, cycleRefused, cycleFault, onRoute, divergeFits, routeFault, faultWith}
+use Rattle.image_fault.specs.declared.Widths.{Widths}
+use Rattle.link_rules.specs.Refusals.{noRefusal, orElse}
+use Rattle.link_rules.specs.declared.refusal.Refusal.{Refusal}
+use Rattle.image_fault.specs.AllFit.{eventPasses, acyclic, estPasses, nodePasses, pathPasses, headPasses, widePasses, divergesPass, recordsPass, allFit}
 use Rattle.image_fault.proofs.ScanLaws.{both, step-fit}
 use Rattle.image_fault.proofs.AcceptLaws.{node-fits, event-link}
 
@@ -136,11 +139,16 @@ cycle-none (At i) h = absurd (omega (arith, eqb-true 8 0 h))
 
 -- ---- all of them
 
-pub head-few : (bs : List ℕ) → headPasses bs ≡ true → estCount bs ≤ 512
+pub head-few : (w : Widths) (bs : List ℕ) → headPasses w bs ≡ true → estCount bs ≤ 512
 unfolding headPasses countsFit
-head-few bs h = leb-true (estCount bs) 512 (both (leb (estCount bs) 512) _ (both (leb 1 (estCount bs)) _ (both (countsFit bs) _ h .0) .1) .0)
+head-few w bs h = leb-true (estCount bs) 512 (both (leb (estCount bs) 512) _ (both (leb 1 (estCount bs)) _ (both (countsFit bs) _ h .0) .1) .0)
 
-module _ (bs : List ℕ) (l : ℕ) (head : headPasses bs ≡ true) (records : recordsPass bs l ≡ true) where
+-- a narrow record has no spare bytes
+pub narrow-spare : (bs : List ℕ) (i : ℕ) → isWide bs ≡ false → divergeSpareFits bs i ≡ true
+unfolding divergeSpareFits divergeWords leAt
+narrow-spare bs i e = rw e
+
+module _ (w : Widths) (bs : List ℕ) (l : ℕ) (head : headPasses w bs ≡ true) (records : recordsPass bs l ≡ true) where
   ests : allBelow (estCount bs) (estPasses bs l) ≡ true
   unfolding recordsPass
   ests = both (allBelow (estCount bs) (estPasses bs l)) _ records .0
@@ -149,9 +157,35 @@ module _ (bs : List ℕ) (l : ℕ) (head : headPasses bs ≡ true) (records : re
   unfolding recordsPass
   paths = both (allBelow (pathCount bs) (pathPasses bs l)) _ (both (acyclic bs) _ (both (allBelow (estCount bs) (estPasses bs l)) _ records .1) .1) .0
 
+  diverges-pass : (allBelow (divergeCount bs) (divergeFits bs) ≡ true) × (cond (isWide bs) (allBelow (divergeCount bs) (widePasses bs)) true ≡ true)
+  unfolding recordsPass divergesPass
+  diverges-pass =
+      both (allBelow (divergeCount bs) (divergeFits bs)) _
+      (both (allBelow (pathCount bs) (pathPasses bs l)) _ (both (acyclic bs) _ (both (allBelow (estCount bs) (estPasses bs l)) _ records .1) .1) .1)
+
   diverges : allBelow (divergeCount bs) (divergeFits bs) ≡ true
-  unfolding recordsPass
-  diverges = both (allBelow (pathCount bs) (pathPasses bs l)) _ (both (acyclic bs) _ (both (allBelow (estCount bs) (estPasses bs l)) _ records .1) .1) .1
+  diverges = diverges-pass .0
+
+  wides : isWide bs ≡ true → (i : ℕ) → i < divergeCount bs → (divergeSpareFits bs i ≡ true) × (divergeTrainFits bs i ≡ true)
+  unfolding widePasses
+  wides e i h =
+      both (divergeSpareFits bs i) (divergeTrainFits bs i)
+      (all-at (widePasses bs) (divergeCount bs) i (subst (λ (v : Bool). cond v (allBelow (divergeCount bs) (widePasses bs)) true ≡ true) e (diverges-pass .1)) h)
+
+  spare : (i : ℕ) → i < divergeCount bs → divergeSpareFits bs i ≡ true
+  spare i h = go (isWide bs) refl
+    where
+      go : (v : Bool) → isWide bs ≡ v → divergeSpareFits bs i ≡ true
+      go true e = wides e i h .0
+      go false e = narrow-spare bs i e
+
+  trains : trainsFault bs ≡ noRefusal
+  unfolding trainsFault
+  trains = go (isWide bs) refl
+    where
+      go : (v : Bool) → isWide bs ≡ v → cond v (firstUnfit 22 (divergeTrainFits bs) (divergeCount bs) 0) noRefusal ≡ noRefusal
+      go true e = first-none 22 (divergeTrainFits bs) (divergeCount bs) 0 (λ i h. wides e i (omega arith) .1)
+      go false e = refl
 
   est : (i : ℕ) → i < estCount bs → EstPasses bs l i
   est i h = est-passes bs l i (all-at (estPasses bs l) (estCount bs) i ests h)
@@ -163,20 +197,20 @@ module _ (bs : List ℕ) (l : ℕ) (head : headPasses bs ≡ true) (records : re
   node : (i : ℕ) → i < pathCount bs → (nodeTypeFits bs i ≡ true) × (nodeFits bs l i ≡ true)
   node i h = node-passes bs l i (path i h .0)
 
-  fits : imageFits bs ≡ true
+  fits : imageFits w bs ≡ true
   unfolding headPasses imageFits recordsFit
   fits =
       let a = both (countsFit bs) _ head in
       let b = both (partsFit bs) _ (a .1) in
-      let c = both (trainFits bs) _ (b .1) in
+      let c = both (trainFits w bs) _ (b .1) in
       let d = both (headerFits bs) (unusedZero bs) (c .1) in
-      rw (a .0, b .0, c .0, all-of (estTypeFits bs) (estCount bs) (λ i h. est i h .kind), all-of (nodeTypeFits bs) (pathCount bs) (λ i h. node i h .0), d .1)
+      rw (a .0, b .0, c .0, all-of (estTypeFits bs) (estCount bs) (λ i h. est i h .kind), all-of (nodeTypeFits bs) (pathCount bs) (λ i h. node i h .0), all-of (divergeSpareFits bs) (divergeCount bs) spare, d .1)
 
   values : valueFault bs l ≡ noRefusal
   unfolding headPasses valueFault
   values =
-      let d = both (headerFits bs) (unusedZero bs) (both (trainFits bs) _ (both (partsFit bs) _ (both (countsFit bs) _ head .1) .1) .1) in
-      rw (first-none 7 (estFits bs l) (estCount bs) 0 (λ i h. est i (omega arith) .values), first-none 7 (nodeFits bs l) (pathCount bs) 0 (λ i h. node i (omega arith) .1), d .0)
+      let d = both (headerFits bs) (unusedZero bs) (both (trainFits w bs) _ (both (partsFit bs) _ (both (countsFit bs) _ head .1) .1) .1) in
+      rw (first-none 7 (estFits bs l) (estCount bs) 0 (λ i h. est i (omega arith) .values), first-none 7 (nodeFits bs l) (pathCount bs) 0 (λ i h. node i (omega arith) .1), d .0, trains)
 
   cycle : cycleFault bs ≡ noRefusal
   unfolding recordsPass acyclic cycleFault
@@ -187,10 +221,10 @@ module _ (bs : List ℕ) (l : ℕ) (head : headPasses bs ≡ true) (records : re
   route =
       rw (first-none 9 (onRoute bs) (pathCount bs) 0 (λ i h. path i (omega arith) .1), first-none 9 (divergeFits bs) (divergeCount bs) 0 (λ i h. all-at (divergeFits bs) (divergeCount bs) i diverges (omega arith)))
 
-pub all-fit-none : (bs : List ℕ) (l : ℕ) → allFit bs l ≡ true → imageFault bs l ≡ noRefusal
-unfolding allFit imageFault
-all-fit-none bs l h =
+pub all-fit-none : (w : Widths) (f : Refusal) (bs : List ℕ) (l : ℕ) → allFit w bs l ≡ true → faultWith w f bs l ≡ orElse f noRefusal
+unfolding allFit faultWith
+all-fit-none w f bs l h =
     let a = both (leb 2 l) _ h in
     let b = both (leb l 4000) _ (a .1) in
-    let c = both (headPasses bs) (recordsPass bs l) (b .1) in
-    rw (a .0, b .0, fits bs l (c .0) (c .1), values bs l (c .0) (c .1), cycle bs l (c .0) (c .1), route bs l (c .0) (c .1))
+    let c = both (headPasses w bs) (recordsPass bs l) (b .1) in
+    rw (a .0, b .0, fits w bs l (c .0) (c .1), values w bs l (c .0) (c .1), cycle w bs l (c .0) (c .1), route w bs l (c .0) (c .1))

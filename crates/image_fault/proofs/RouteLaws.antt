@@ -19,6 +19,7 @@ use Rattle.est_times.specs.declared.Cycle.the-variants.{None, At}
 use Rattle.est_times.proofs.WalkLaws.{or-right, or-cases}
 use Rattle.image.specs.Image.{estCount, pathCount, divergeCount, estAt, nodeAt, divergeAt}
 use Rattle.image_fault.specs.ImageFault.{firstUnfit, nexts, alts, cycleRefused, cycleFault, stepsTo, comesFrom, endsAt, arrivesOn, arrived, firstArrival, onRoute, innerFits, divergeFits, routeFault}
+use Rattle.image_fault.specs.declared.Widths.{Widths}
 use Rattle.image_fault.proofs.ScanLaws.{both, first-clean}
 use Rattle.image_fault.proofs.AcceptLaws.{Accepted, or-else-clean, clean-node, node-fits}
 
@@ -35,7 +36,7 @@ arrived-yes bs x j (suc i) l h = go (eq-or-lt-of-le l) (λ m. arrived-yes bs x j
     go (inl q) r = let e : j ≡ i = omega arith in or-right (arrived bs x i) (arrivesOn x (nodeAt bs i .«link_event»)) (rw e at h)
     go (inr m) r = or-left (arrived bs x i) (arrivesOn x (nodeAt bs i .«link_event»)) (r (omega arith))
 
-module _ (bs : List ℕ) (l : ℕ) (a : Accepted bs l) where
+module _ {w : Widths} (bs : List ℕ) (l : ℕ) (a : Accepted w bs l) where
   -- 8: next and alt form no cycle
   pub no-cycle : firstOnCycle (nexts bs) (alts bs) (estCount bs) ≡ None
   unfolding cycleFault

@@ -1,14 +1,15 @@
--- One pass over an image: 6 to 9 asked of a record together, by its numbers. Where all pass there is no refusal; where not, ImageFault says which comes
+-- One pass over an image: 6 to 9 and 22 asked of a record together, by its numbers. Where all pass there is no refusal; where not, ImageFault says which comes
 -- first. Assumes nothing.
 use Prim.Native.Nat.{ℕ, _+_}
-use mathlib.Core.Bool.{Bool, not, _&&_}
+use mathlib.Core.Bool.{Bool, true, cond, not, _&&_}
 use mathlib.Core.List.{List}
 use lib.Dec.{leb, ltb, eqb}
 use lib.ListN.{length}
 use Rattle.link_rules.specs.Network.{allBelow}
 use Rattle.image.specs.Fields.{estDistField, estNextField, estNextAltField, estPrevField, estPrevAltField, estLinkField, estKindField, nodeOffsetField, nodeTimeField, nodeLinkField, nodeEstField, nodeKindField, nodeSpareField, readIn, readFirst}
-use Rattle.image.specs.Image.{estCount, pathCount, divergeCount, estPlace, nodePlace}
-use Rattle.image_fault.specs.ImageFault.{countsFit, partsFit, trainFits, unusedZero, floatFits, timeFits, headerFits, cycleFault, onRoute, divergeFits}
+use Rattle.image.specs.Image.{estCount, pathCount, divergeCount, isWide, estPlace, nodePlace}
+use Rattle.image_fault.specs.ImageFault.{countsFit, partsFit, trainFits, divergeSpareFits, unusedZero, floatFits, timeFits, headerFits, divergeTrainFits, cycleFault, onRoute, divergeFits}
+use Rattle.image_fault.specs.declared.Widths.{Widths}
 
 -- an event: the type is at most 2, the link below L, and not 0 at an Arrive
 unfoldable pub eventPasses : (l link kind : ℕ) → Bool
@@ -39,19 +40,27 @@ nodePasses bs l i =
 unfoldable pub pathPasses : (bs : List ℕ) (l i : ℕ) → Bool
 pathPasses bs l i = nodePasses bs l i && onRoute bs i
 
-unfoldable pub headPasses : List ℕ → Bool
-headPasses bs = countsFit bs && (partsFit bs && (trainFits bs && (headerFits bs && unusedZero bs)))
+unfoldable pub headPasses : Widths → List ℕ → Bool
+headPasses w bs = countsFit bs && (partsFit bs && (trainFits w bs && (headerFits bs && unusedZero bs)))
 
 -- 8
 unfoldable pub acyclic : List ℕ → Bool
 acyclic bs = eqb (cycleFault bs .number) 0
+
+-- a diverge record of a wide image passes 6 and 22
+unfoldable pub widePasses : (bs : List ℕ) (i : ℕ) → Bool
+widePasses bs i = divergeSpareFits bs i && divergeTrainFits bs i
+
+-- and all pass 9
+unfoldable pub divergesPass : List ℕ → Bool
+divergesPass bs = allBelow (divergeCount bs) (divergeFits bs) && cond (isWide bs) (allBelow (divergeCount bs) (widePasses bs)) true
 
 unfoldable pub recordsPass : (bs : List ℕ) (l : ℕ) → Bool
 recordsPass bs l =
     allBelow (estCount bs) (estPasses bs l)
     && (acyclic bs
     && (allBelow (pathCount bs) (pathPasses bs l)
-    && allBelow (divergeCount bs) (divergeFits bs)))
+    && divergesPass bs))
 
-unfoldable pub allFit : (bs : List ℕ) (l : ℕ) → Bool
-allFit bs l = leb 2 l && (leb l 4000 && (headPasses bs && recordsPass bs l))
+unfoldable pub allFit : (w : Widths) (bs : List ℕ) (l : ℕ) → Bool
+allFit w bs l = leb 2 l && (leb l 4000 && (headPasses w bs && recordsPass bs l))

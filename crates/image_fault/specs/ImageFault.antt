@@ -1,4 +1,5 @@
--- Refusals 6 to 9 of an image with their places (document 01, Update). L is the number of links. Assumes nothing.
+-- Refusals 6 to 9 of an image with their places (document 01, Update), and 22 of its diverge records (document 02, Q-6). L is the number of links.
+-- Assumes nothing.
 use Prim.Native.Nat.{ℕ, zero, suc, _+_, _*_, _-_, _%_}
 use mathlib.Core.Bool.{Bool, true, false, cond, not, _&&_, _||_}
 use mathlib.Core.List.{List}
@@ -19,10 +20,12 @@ use Rattle.disp_structs.specs.Listed.{listed}
 use Rattle.est_times.specs.Cycles.{firstOnCycle}
 use Rattle.est_times.specs.declared.Cycle.{Cycle}
 use Rattle.est_times.specs.declared.Cycle.the-variants.{None, At}
-use Rattle.image.specs.Fields.{estOffsetField, pathOffsetField, divergeOffsetField, spareField, spareRestField, searchField, fixedMaxField, estDistField, estKindField, nodeOffsetField, nodeTimeField, nodeKindField, nodeSpareField, readField, readIn, readFirst}
-use Rattle.image.specs.Image.{sizeOf, estCount, pathCount, divergeCount, divergeRoom, trainIdx, pathHeader, estPlace, nodePlace, divergePlace, imageSize, estAt, nodeAt, divergeAt}
+use Rattle.image.specs.Fields.{estOffsetField, pathOffsetField, divergeOffsetField, spareField, spareRestField, searchField, fixedMaxField, estDistField, estKindField, nodeOffsetField, nodeTimeField, nodeKindField, nodeSpareField, divergeWords, divergeSpareField, readField, readIn, readFirst}
+use Rattle.image.specs.Image.{sizeOf, estCount, pathCount, divergeCount, divergeRoom, trainIdx, isWide, pathHeader, estPlace, nodePlace, divergeOffset, divergePlace, imageSize, largestOf, estAt, nodeAt, divergeAt}
 use Rattle.image.specs.declared.codec.PathHeader.{PathHeader}
 use Rattle.link_rules.specs.declared.refusal.Refusal.{Refusal}
+use Rattle.image_fault.specs.declared.Widths.{Widths}
+use Rattle.image_fault.specs.declared.Widths.the-variants.{Narrow, Either}
 use Rattle.link_rules.specs.Refusals.{noRefusal, refused, orElse, refusedUnless}
 
 -- refusal n at the first of the k indices from i on that does not fit
@@ -46,12 +49,17 @@ countsFit bs =
 -- the parts follow without gaps, and the size is that of the whole buffer
 unfoldable pub partsFit : List ℕ → Bool
 partsFit bs =
-    eqb (readField estOffsetField bs) (estPlace 0) && (eqb (readField pathOffsetField bs) (nodePlace (estCount bs) 0) && (eqb (readField divergeOffsetField bs) (divergePlace (estCount bs) 0)
-    && (eqb (sizeOf bs) (imageSize (estCount bs) (divergeRoom bs)) && eqb (sizeOf bs) (length bs))))
+    eqb (readField estOffsetField bs) (estPlace 0) && (eqb (readField pathOffsetField bs) (nodePlace (estCount bs) 0) && (eqb (readField divergeOffsetField bs) (divergeOffset (estCount bs))
+    && (eqb (sizeOf bs) (imageSize (isWide bs) (estCount bs) (divergeRoom bs)) && eqb (sizeOf bs) (length bs))))
 
--- the train is not 0, and the six spare bytes are
-unfoldable pub trainFits : List ℕ → Bool
-trainFits bs = not (eqb (trainIdx bs .0) 0) && (eqb (readField spareField bs) 0 && eqb (readField spareRestField bs) 0)
+-- the widths that a call takes: a wide image has 1 in the first spare byte (document 02, Q-6)
+abbrev pub widthNumber : Widths → ℕ
+widthNumber Narrow = 0
+widthNumber Either = 1
+
+-- the train is not 0, and the six spare bytes are, the first of them up to the width
+unfoldable pub trainFits : Widths → List ℕ → Bool
+trainFits w bs = not (eqb (trainIdx bs .0) 0) && (leb (readField spareField bs) (widthNumber w) && eqb (readField spareRestField bs) 0)
 
 -- a type is at most 2, and the spare bytes behind it are 0
 unfoldable pub estTypeFits : (bs : List ℕ) (i : ℕ) → Bool
@@ -59,6 +67,10 @@ estTypeFits bs i = leb (readIn estKindField bs (estPlace i)) 2
 
 unfoldable pub nodeTypeFits : (bs : List ℕ) (i : ℕ) → Bool
 nodeTypeFits bs i = leb (readIn nodeKindField bs (nodePlace (estCount bs) i)) 2 && eqb (readIn nodeSpareField bs (nodePlace (estCount bs) i)) 0
+
+-- the spare bytes of a diverge record, which a wide image has, are 0
+unfoldable pub divergeSpareFits : (bs : List ℕ) (i : ℕ) → Bool
+divergeSpareFits bs i = eqb (readIn (divergeSpareField (isWide bs)) bs (divergePlace (isWide bs) (estCount bs) i)) 0
 
 -- the four bytes of number j from at are 0
 unfoldable pub zeroWord : (bs : List ℕ) (at j : ℕ) → Bool
@@ -68,16 +80,18 @@ zeroWord bs at j = eqb (leAt 4 bs (at + 4 * j)) 0
 unfoldable pub unusedZero : List ℕ → Bool
 unusedZero bs =
     allBelow (8 * (estCount bs - pathCount bs)) (zeroWord bs (nodePlace (estCount bs) (pathCount bs)))
-    && allBelow (divergeRoom bs - divergeCount bs) (zeroWord bs (divergePlace (estCount bs) (divergeCount bs)))
+    && allBelow (divergeWords (isWide bs) * (divergeRoom bs - divergeCount bs)) (zeroWord bs (divergePlace (isWide bs) (estCount bs) (divergeCount bs)))
 
 unfoldable pub recordsFit : List ℕ → Bool
-recordsFit bs = allBelow (estCount bs) (estTypeFits bs) && (allBelow (pathCount bs) (nodeTypeFits bs) && unusedZero bs)
+recordsFit bs =
+    allBelow (estCount bs) (estTypeFits bs) && (allBelow (pathCount bs) (nodeTypeFits bs)
+    && (allBelow (divergeCount bs) (divergeSpareFits bs) && unusedZero bs))
 
-unfoldable pub imageFits : List ℕ → Bool
-imageFits bs = countsFit bs && (partsFit bs && (trainFits bs && recordsFit bs))
+unfoldable pub imageFits : Widths → List ℕ → Bool
+imageFits w bs = countsFit bs && (partsFit bs && (trainFits w bs && recordsFit bs))
 
-abbrev pub layoutFault : List ℕ → Refusal
-layoutFault bs = refusedUnless (imageFits bs) 6
+abbrev pub layoutFault : Widths → List ℕ → Refusal
+layoutFault w bs = refusedUnless (imageFits w bs) 6
 
 -- ---- 7: floats, links, est indices, and the header's indices
 
@@ -116,12 +130,20 @@ indicesFit h = leb (h .fixed) (h .«path_count») && (leb (h .free) (h .«path_c
 unfoldable pub headerFits : List ℕ → Bool
 headerFits bs = distFits (readField searchField bs) && (distFits (readField fixedMaxField bs) && indicesFit (pathHeader bs))
 
--- est records come first, then path records, then the header
+-- 22: the train of a diverge record of a wide image is above 999,999; a narrow one cannot hold such
+unfoldable pub divergeTrainFits : (bs : List ℕ) (i : ℕ) → Bool
+divergeTrainFits bs i = leb (divergeAt bs i .«train_idx» .0) (largestOf true)
+
+unfoldable pub trainsFault : List ℕ → Refusal
+trainsFault bs = cond (isWide bs) (firstUnfit 22 (divergeTrainFits bs) (divergeCount bs) 0) noRefusal
+
+-- est records come first, then path records, then the header; 22 at the end
 unfoldable pub valueFault : (bs : List ℕ) (l : ℕ) → Refusal
 valueFault bs l =
     orElse (firstUnfit 7 (estFits bs l) (estCount bs) 0)
     (orElse (firstUnfit 7 (nodeFits bs l) (pathCount bs) 0)
-    (refusedUnless (headerFits bs) 7))
+    (orElse (refusedUnless (headerFits bs) 7)
+    (trainsFault bs)))
 
 -- ---- 8: next and alt form a cycle
 
@@ -188,10 +210,16 @@ routeFault bs = orElse (firstUnfit 9 (onRoute bs) (pathCount bs) 0) (firstUnfit 
 
 -- ---- all in order
 
-unfoldable pub imageFault : (bs : List ℕ) (l : ℕ) → Refusal
-imageFault bs l =
+-- in a call that takes the widths w; f is the call's own refusal between 6 and 7
+unfoldable pub faultWith : (w : Widths) (f : Refusal) (bs : List ℕ) (l : ℕ) → Refusal
+faultWith w f bs l =
     orElse (lengthFault l)
-    (orElse (layoutFault bs)
+    (orElse (layoutFault w bs)
+    (orElse f
     (orElse (valueFault bs l)
     (orElse (cycleFault bs)
-    (routeFault bs))))
+    (routeFault bs)))))
+
+-- in a call that takes narrow images alone, and has no refusal of its own there
+abbrev pub imageFault : (bs : List ℕ) (l : ℕ) → Refusal
+imageFault bs l = faultWith Narrow noRefusal bs l

@@ -1,4 +1,4 @@
-// Refusals 6 to 9 of an image with their places (document 01), read straight from its bytes.
+// Refusals 6 to 9 of an image with their places (document 01), and 22 of its diverge records (document 02, Q-6), read straight from its bytes.
 // Every function here is proved, the crate assumes nothing of its own, and no public function has a `requires`.
 mod pass;
 
@@ -22,8 +22,14 @@ ghost use Prim.Native.Nat.{ℕ, _+_, _-_, _*_, _^_, _≤_, _<_};
 ghost use Rattle.link_rules.specs.Network.{allBelow};
 ghost use Rattle.disp_structs.specs.Values.{isArrive};
 ghost use Rattle.image.specs.Image.{estCount, pathCount, estAt, nodeAt};
-ghost use Rattle.image_fault.specs.ImageFault.{imageFault, imageFits, valueFault, cycleFault, routeFault, firstUnfit, countsFit, partsFit, trainFits, estTypeFits, nodeTypeFits, zeroWord, unusedZero, recordsFit, floatFits, timeFits, distFits, eventFits, estLinksFit, estFits, nodeFits, indicesFit, headerFits, stepsTo, comesFrom, endsAt, onRoute, innerFits, divergeFits};
+ghost use Rattle.image_fault.specs.ImageFault.{faultWith, imageFault, imageFits, trainsFault, divergeTrainFits, valueFault, cycleFault, routeFault, firstUnfit, countsFit, partsFit, widthNumber, trainFits, estTypeFits, nodeTypeFits, divergeSpareFits, zeroWord, unusedZero, recordsFit, floatFits, timeFits, distFits, eventFits, estLinksFit, estFits, nodeFits, indicesFit, headerFits, stepsTo, comesFrom, endsAt, onRoute, innerFits, divergeFits};
 ghost use Rattle.image_fault.specs.CodeFacts.{CountsFit, zeroByte, isLater, leadsOn};
+
+// The widths of the images that a call takes (document 02, Q-6).
+pub enum Widths {
+    Narrow,
+    Either,
+}
 
 // ---- 6: header, size, types, spare bytes, unused records
 
@@ -60,6 +66,7 @@ fn parts_fit(img: &[u8]) -> bool
 {
     let e = codec::est_count(img);
     let q = codec::diverge_room(img);
+    let wide = codec::is_wide(img);
     let size = codec::size(img) as usize;
     if octets::u32_at(img, 20) as usize != codec::est_place(0) {
         return false;
@@ -67,23 +74,33 @@ fn parts_fit(img: &[u8]) -> bool
     if octets::u32_at(img, 24) as usize != codec::node_place(e, 0) {
         return false;
     }
-    if octets::u32_at(img, 28) as usize != codec::diverge_place(e, 0) {
+    if octets::u32_at(img, 28) as usize != codec::diverge_place(wide, e, 0) {
         return false;
     }
-    if size != codec::diverge_place(e, q) {
+    if size != codec::diverge_place(wide, e, q) {
         return false;
     }
     size == img.len()
 }
 
-fn train_fits(img: &[u8]) -> bool
-    ensures { λ r. ⌜ r ≡ trainFits (now (img .entry)) ⌝ }
+// What the first spare byte and the one behind it may be at most.
+fn width_number(w: Widths) -> u16
+    ensures { λ r. ⌜ r ≡ widthNumber w ⌝ }
+{
+    match w {
+        Widths::Narrow => 0,
+        Widths::Either => 1,
+    }
+}
+
+fn train_fits(img: &[u8], w: Widths) -> bool
+    ensures { λ r. ⌜ r ≡ trainFits w (now (img .entry)) ⌝ }
 {
     let t = codec::train_idx(img);
     if t.0 == 0 {
         return false;
     }
-    if octets::u16_at(img, 42) != 0 {
+    if width_number(w) < octets::u16_at(img, 42) {
         return false;
     }
     octets::u32_at(img, 44) == 0
@@ -125,6 +142,30 @@ fn node_types_fit(img: &[u8], n: u32) -> bool
     let mut i: u32 = 0;
     while i < n {
         if node_type_fits(img, i) {
+            i += 1;
+        } else {
+            return false;
+        }
+    }
+    true
+}
+
+fn diverge_spare_fits(img: &[u8], i: u32) -> bool
+    ensures { λ r. ⌜ r ≡ divergeSpareFits (now (img .entry)) i ⌝ }
+{
+    if codec::is_wide(img) {
+        let at = codec::diverge_place(true, codec::est_count(img), i);
+        return octets::u16_at(img, at + 6) == 0;
+    }
+    true
+}
+
+fn diverge_spares_fit(img: &[u8], m: u32) -> bool
+    ensures { λ r. ⌜ r ≡ allBelow m (divergeSpareFits (now (img .entry))) ⌝ }
+{
+    let mut i: u32 = 0;
+    while i < m {
+        if diverge_spare_fits(img, i) {
             i += 1;
         } else {
             return false;
@@ -181,7 +222,18 @@ fn unused_zero(img: &[u8]) -> bool
     let m = codec::diverge_count(img);
     let q = codec::diverge_room(img);
     if words_zero(img, codec::node_place(e, n), 8 * codec::count_from(n, e)) {
-        return words_zero(img, codec::diverge_place(e, m), codec::count_from(m, q));
+        if codec::is_wide(img) {
+            return words_zero(
+                img,
+                codec::diverge_place(true, e, m),
+                2 * codec::count_from(m, q),
+            );
+        }
+        return words_zero(
+            img,
+            codec::diverge_place(false, e, m),
+            codec::count_from(m, q),
+        );
     }
     false
 }
@@ -191,19 +243,22 @@ fn records_fit(img: &[u8]) -> bool
 {
     if est_types_fit(img, codec::est_count(img)) {
         if node_types_fit(img, codec::path_count(img)) {
-            return unused_zero(img);
+            if diverge_spares_fit(img, codec::diverge_count(img)) {
+                return unused_zero(img);
+            }
+            return false;
         }
         return false;
     }
     false
 }
 
-fn image_fits(img: &[u8]) -> bool
-    ensures { λ r. ⌜ r ≡ imageFits (now (img .entry)) ⌝ }
+fn image_fits(img: &[u8], w: Widths) -> bool
+    ensures { λ r. ⌜ r ≡ imageFits w (now (img .entry)) ⌝ }
 {
     if counts_fit(img) {
         if parts_fit(img) {
-            if train_fits(img) {
+            if train_fits(img, w) {
                 return records_fit(img);
             }
             return false;
@@ -372,15 +427,64 @@ fn node_fault(img: &[u8], l: u32, n: u32) -> Refusal
     }
 }
 
-// Est records come first, then path records, then the header.
+fn diverge_train_fits(img: &[u8], i: u32) -> bool
+    ensures { λ r. ⌜ r ≡ divergeTrainFits (now (img .entry)) i ⌝ }
+{
+    let d = codec::diverge_at(img, i);
+    d.train_idx.0 <= 999999
+}
+
+fn first_large_train(img: &[u8], m: u32) -> Refusal
+    requires { ⌜ m ≤ 1024 ⌝ }
+    ensures { λ r. ⌜ r ≡ firstUnfit 22 (divergeTrainFits (now (img .entry))) m 0 ⌝ }
+{
+    let mut i: u32 = 0;
+    while i < m {
+        if diverge_train_fits(img, i) {
+            i += 1;
+        } else {
+            return Refusal {
+                number: 22,
+                place: i as u16,
+            };
+        }
+    }
+    Refusal {
+        number: 0,
+        place: 0,
+    }
+}
+
+fn trains_fault(img: &[u8]) -> Refusal
+    requires { ⌜ CountsFit (now img) ⌝ }
+    ensures { λ r. ⌜ r ≡ trainsFault (now (img .entry)) ⌝ }
+{
+    if codec::is_wide(img) {
+        return first_large_train(img, codec::diverge_count(img));
+    }
+    Refusal {
+        number: 0,
+        place: 0,
+    }
+}
+
+// Est records come first, then path records, then the header, then trains by 22.
 fn value_fault(img: &[u8], l: u32) -> Refusal
     requires { ⌜ CountsFit (now img) ⌝ }
     ensures { λ r. ⌜ r ≡ valueFault (now (img .entry)) l ⌝ }
 {
     let in_ests = est_fault(img, l, codec::est_count(img));
+    if in_ests.number != 0 {
+        return in_ests;
+    }
     let in_path = node_fault(img, l, codec::path_count(img));
-    let in_header = refusal::refused_unless(header_fits(img), 7);
-    refusal::or_else(in_ests, refusal::or_else(in_path, in_header))
+    if in_path.number != 0 {
+        return in_path;
+    }
+    refusal::or_else(
+        refusal::refused_unless(header_fits(img), 7),
+        trains_fault(img),
+    )
 }
 
 // ---- 8: next and alt form a cycle
@@ -639,9 +743,9 @@ fn route_fault(img: &[u8], links: u32) -> Refusal
     diverge_fault(img, codec::diverge_count(img))
 }
 
-// The first refusal, one number after the other.
-fn first_fault(img: &[u8], links: u32) -> Refusal
-    ensures { λ r. ⌜ r ≡ imageFault (now (img .entry)) links ⌝ }
+// The first refusal, one number after the other; own is the call's between 6 and 7.
+fn first_fault(img: &[u8], links: u32, w: Widths, own: Refusal) -> Refusal
+    ensures { λ r. ⌜ r ≡ faultWith w own (now (img .entry)) links ⌝ }
 {
     if links < 2 {
         return Refusal {
@@ -655,7 +759,10 @@ fn first_fault(img: &[u8], links: u32) -> Refusal
             place: 0,
         };
     }
-    if image_fits(img) {
+    if image_fits(img, w) {
+        if own.number != 0 {
+            return own;
+        }
         let f = value_fault(img, links);
         if f.number != 0 {
             return f;
@@ -672,15 +779,28 @@ fn first_fault(img: &[u8], links: u32) -> Refusal
     }
 }
 
-// The first refusal of an image over `links` links, in document 01's order. Most images have none, and one pass tells.
-pub fn image_fault(img: &[u8], links: u32) -> Refusal
-    ensures { λ r. ⌜ r ≡ imageFault (now (img .entry)) links ⌝ }
+// The first refusal of an image of the widths w over `links` links, in the order of documents 01 and 02; own is the call's between 6 and 7, or none.
+// Most images have none, and one pass tells.
+pub fn fault_with(img: &[u8], links: u32, w: Widths, own: Refusal) -> Refusal
+    ensures { λ r. ⌜ r ≡ faultWith w own (now (img .entry)) links ⌝ }
 {
-    if pass::all_fit(img, links) {
-        return Refusal {
+    if pass::all_fit(img, links, w) {
+        let none = Refusal {
             number: 0,
             place: 0,
         };
+        return refusal::or_else(own, none);
     }
-    first_fault(img, links)
+    first_fault(img, links, w, own)
+}
+
+// The first refusal of a narrow image over `links` links, in document 01's order; a wide one is refused by 6.
+pub fn image_fault(img: &[u8], links: u32) -> Refusal
+    ensures { λ r. ⌜ r ≡ imageFault (now (img .entry)) links ⌝ }
+{
+    let none = Refusal {
+        number: 0,
+        place: 0,
+    };
+    fault_with(img, links, Widths::Narrow, none)
 }

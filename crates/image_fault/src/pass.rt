@@ -7,9 +7,10 @@ ghost use lib.ListN.{length, replicate};
 ghost use Prim.Native.Nat.{_≤_};
 ghost use Rattle.link_rules.specs.Network.{allBelow};
 ghost use Rattle.disp_structs.specs.Values.{isArrive};
-ghost use Rattle.image.specs.Image.{estCount, pathCount, nodeAt};
+ghost use Rattle.image.specs.Image.{estCount, pathCount, divergeCount, nodeAt};
 ghost use Rattle.image_fault.specs.ImageFault.{divergeFits};
-ghost use Rattle.image_fault.specs.AllFit.{eventPasses, acyclic, estPasses, nodePasses, pathPasses, headPasses, recordsPass, allFit};
+ghost use Rattle.image_fault.specs.AllFit.{eventPasses, acyclic, estPasses, nodePasses, pathPasses, headPasses, widePasses, divergesPass, recordsPass, allFit};
+use crate::Widths;
 use disp_structs::EstIdx;
 use image::codec;
 use link_rules::octets;
@@ -201,12 +202,48 @@ fn diverges_fit(img: &[u8], m: u32) -> bool
     true
 }
 
-fn head_passes(img: &[u8]) -> bool
-    ensures { λ r. ⌜ r ≡ headPasses (now (img .entry)) ⌝ }
+fn wide_passes(img: &[u8], i: u32) -> bool
+    ensures { λ r. ⌜ r ≡ widePasses (now (img .entry)) i ⌝ }
+{
+    if crate::diverge_spare_fits(img, i) {
+        return crate::diverge_train_fits(img, i);
+    }
+    false
+}
+
+fn wides_pass(img: &[u8], m: u32) -> bool
+    ensures { λ r. ⌜ r ≡ allBelow m (widePasses (now (img .entry))) ⌝ }
+{
+    let mut i: u32 = 0;
+    while i < m {
+        if wide_passes(img, i) {
+            i += 1;
+        } else {
+            return false;
+        }
+    }
+    true
+}
+
+fn diverges_pass(img: &[u8], m: u32) -> bool
+    requires { ⌜ m ≡ divergeCount (now img) ⌝ }
+    ensures { λ r. ⌜ r ≡ divergesPass (now (img .entry)) ⌝ }
+{
+    if diverges_fit(img, m) {
+        if codec::is_wide(img) {
+            return wides_pass(img, m);
+        }
+        return true;
+    }
+    false
+}
+
+fn head_passes(img: &[u8], w: Widths) -> bool
+    ensures { λ r. ⌜ r ≡ headPasses w (now (img .entry)) ⌝ }
 {
     if crate::counts_fit(img) {
         if crate::parts_fit(img) {
-            if crate::train_fits(img) {
+            if crate::train_fits(img, w) {
                 if crate::header_fits(img) {
                     return crate::unused_zero(img);
                 }
@@ -235,7 +272,7 @@ fn records_pass(img: &[u8], links: u32) -> bool
     if ests_pass(img, e, links) {
         if is_acyclic(img, e) {
             if path_passes(img, e, codec::path_count(img), links) {
-                return diverges_fit(img, codec::diverge_count(img));
+                return diverges_pass(img, codec::diverge_count(img));
             }
             return false;
         }
@@ -244,8 +281,8 @@ fn records_pass(img: &[u8], links: u32) -> bool
     false
 }
 
-pub(crate) fn all_fit(img: &[u8], links: u32) -> bool
-    ensures { λ r. ⌜ r ≡ allFit (now (img .entry)) links ⌝ }
+pub(crate) fn all_fit(img: &[u8], links: u32, w: Widths) -> bool
+    ensures { λ r. ⌜ r ≡ allFit w (now (img .entry)) links ⌝ }
 {
     if links < 2 {
         return false;
@@ -253,7 +290,7 @@ pub(crate) fn all_fit(img: &[u8], links: u32) -> bool
     if 4000 < links {
         return false;
     }
-    if head_passes(img) {
+    if head_passes(img, w) {
         return records_pass(img, links);
     }
     false

@@ -1,10 +1,12 @@
 -- Records written one after another leave the header's numbers, and together they are what is stored. Assumes nothing.
 use mathlib.Core.Path.{_≡_, sym, ap, ap₂, _∙_}
 use mathlib.Core.Logic.{inl}
+use mathlib.Core.Bool.{Bool}
 use mathlib.Core.List.{List}
 use Prim.Native.Nat.{ℕ, _+_, _*_, _-_, _≤_}
 use native.Mathlib.Omega.{arith}
 use native.Mathlib.Numerals.{add-one}
+use lib.Dec.{eqb}
 use lib.ListN.{length}
 use Rattle.link_rules.specs.Octets.{leAt}
 use Rattle.disp_structs.specs.Listed.{listed}
@@ -12,8 +14,9 @@ use Rattle.disp_structs.proofs.ListedLaws.{listed-length}
 use Rattle.disp_structs.specs.declared.DispNode.{DispNode}
 use Rattle.disp_structs.specs.declared.DivergeNode.{DivergeNode}
 use Rattle.free_path.specs.Columns.{divAt}
-use Rattle.image.specs.Image.{estCount, divergeRoom, estAt, nodeAt, nodePlace, divergePlace, putNode, putDiverge, zeroWords, clearNodes, clearDiverges, putPathHeader}
-use Rattle.image.specs.Codec.{putEach, putRecords, storedInto}
+use Rattle.image.specs.Fields.{divergeWords, divergeSize}
+use Rattle.image.specs.Image.{estCount, divergeRoom, isWide, estAt, nodeAt, nodePlace, divergePlace, putNode, putDiverge, zeroWords, clearNodes, clearDiverges, putPathHeader}
+use Rattle.image.specs.Codec.{putEach, putRecords, putChanges, storedInto}
 use Rattle.image.specs.declared.codec.PathHeader.{PathHeader}
 use Rattle.image.proofs.Writers.{Writes, le-outside, each-writes, zero-writes}
 use Rattle.image.proofs.RecordLaws.{node-writes, diverge-writes}
@@ -24,6 +27,10 @@ use Rattle.image_store.specs.Stored.{changedTrain}
 -- a write from 64 on leaves a number of the header
 header-stays : {a b : ℕ} {f : List ℕ → List ℕ} → Writes a b f → (v j : ℕ) (bs : List ℕ) → j + v ≤ 64 → 64 ≤ a → leAt v (f bs) j ≡ leAt v bs j
 header-stays wf v j bs h l = le-outside wf v j bs (inl (omega arith))
+
+wide-stays : {a b : ℕ} {f : List ℕ → List ℕ} → Writes a b f → (bs : List ℕ) → 64 ≤ a → isWide (f bs) ≡ isWide bs
+unfolding isWide
+wide-stays wf bs l = ap (λ (x : ℕ). eqb x 1) (header-stays wf 1 42 bs (omega arith) l)
 
 -- ---- one more record of n
 
@@ -51,22 +58,26 @@ module _ (n : ℕ) (f : ℕ → DispNode) (bs : List ℕ) where
       p ∙ rw (q, h, nodes-stay 4 4 (omega arith), k) (sym (each-next putNode 32 n f (nodePlace (estCount bs) 0) bs))
 
 module _ (m : ℕ) (g : ℕ → DivergeNode) (bs : List ℕ) where
-  abbrev pub divergesInto : List ℕ
-  divergesInto = putEach putDiverge 4 (listed m g) (divergePlace (estCount bs) 0) bs
+  abbrev W : Bool
+  W = isWide bs
 
-  diverges-write : Writes (divergePlace (estCount bs) 0) (divergePlace (estCount bs) 0 + 4 * length (listed m g)) (putEach putDiverge 4 (listed m g) (divergePlace (estCount bs) 0))
-  diverges-write = each-writes putDiverge 4 diverge-writes (listed m g) (divergePlace (estCount bs) 0)
+  abbrev into : List ℕ
+  into = putEach (putDiverge W) (divergeSize W) (listed m g) (divergePlace W (estCount bs) 0) bs
 
-  pub diverges-long : length divergesInto ≡ length bs
+  diverges-write : Writes (divergePlace W (estCount bs) 0) (divergePlace W (estCount bs) 0 + divergeSize W * length (listed m g)) (putEach (putDiverge W) (divergeSize W) (listed m g) (divergePlace W (estCount bs) 0))
+  diverges-write = each-writes (putDiverge W) (divergeSize W) (diverge-writes W) (listed m g) (divergePlace W (estCount bs) 0)
+
+  pub diverges-long : length into ≡ length bs
   diverges-long = diverges-write .long bs
 
-  pub diverges-stay : (v j : ℕ) → j + v ≤ 64 → leAt v divergesInto j ≡ leAt v bs j
+  pub diverges-stay : (v j : ℕ) → j + v ≤ 64 → leAt v into j ≡ leAt v bs j
   diverges-stay v j h = header-stays diverges-write v j bs h (omega arith)
 
-  pub diverges-next : (x : DivergeNode) (b c : List ℕ) → b ≡ divergesInto → x ≡ g m → c ≡ putDiverge x (divergePlace (estCount b) m) b → c ≡ putEach putDiverge 4 (listed (m + 1) g) (divergePlace (estCount bs) 0) bs
+  pub diverges-next : (x : DivergeNode) (b c : List ℕ) → b ≡ into → x ≡ g m → c ≡ putDiverge (isWide b) x (divergePlace (isWide b) (estCount b) m) b
+      → c ≡ putEach (putDiverge W) (divergeSize W) (listed (m + 1) g) (divergePlace W (estCount bs) 0) bs
   diverges-next x b c h q p =
-      let k : divergePlace (estCount bs) m ≡ divergePlace (estCount bs) 0 + 4 * m = omega arith in
-      p ∙ rw (q, h, diverges-stay 4 4 (omega arith), k) (sym (each-next putDiverge 4 m g (divergePlace (estCount bs) 0) bs))
+      let k : divergePlace W (estCount bs) m ≡ divergePlace W (estCount bs) 0 + divergeSize W * m = omega arith in
+      p ∙ rw (q, h, wide-stays diverges-write bs (omega arith), diverges-stay 4 4 (omega arith), k) (sym (each-next (putDiverge W) (divergeSize W) m g (divergePlace W (estCount bs) 0) bs))
 
 -- ---- what is stored
 
@@ -78,9 +89,9 @@ clear-nodes : (n e : ℕ) (bs : List ℕ) → estCount bs ≡ e → clearNodes n
 unfolding clearNodes
 clear-nodes n e bs h = ap (λ (x : ℕ). zeroWords (8 * (x - n)) (nodePlace x n) bs) h
 
-clear-diverges : (m e q : ℕ) (bs : List ℕ) → estCount bs ≡ e → divergeRoom bs ≡ q → clearDiverges m bs ≡ zeroWords (q - m) (divergePlace e m) bs
+clear-diverges : (m : ℕ) (w : Bool) (e q : ℕ) (bs : List ℕ) → isWide bs ≡ w → estCount bs ≡ e → divergeRoom bs ≡ q → clearDiverges m bs ≡ zeroWords (divergeWords w * (q - m)) (divergePlace w e m) bs
 unfolding clearDiverges
-clear-diverges m e q bs h k = ap₂ (λ (x y : ℕ). zeroWords (y - m) (divergePlace x m) bs) h k
+clear-diverges m w e q bs v h k = rw (v, h, k)
 
 -- the writes of a train whose counts are e and q, n and m, over any of its other fields
 module _ (img dt dn : List ℕ) (h : PathHeader) where
@@ -90,30 +101,30 @@ module _ (img dt dn : List ℕ) (h : PathHeader) where
   abbrev m : ℕ
   m = h .«diverge_count»
 
-  abbrev written : (e q : ℕ) (bs : List ℕ) → List ℕ
-  written e q bs =
+  abbrev written : (w : Bool) (e q : ℕ) (bs : List ℕ) → List ℕ
+  written w e q bs =
       putPathHeader h
-      (zeroWords (q - m) (divergePlace e m)
-      (putEach putDiverge 4 (listed m (divAt dt dn)) (divergePlace e 0)
+      (zeroWords (divergeWords w * (q - m)) (divergePlace w e m)
+      (putEach (putDiverge w) (divergeSize w) (listed m (divAt dt dn)) (divergePlace w e 0)
       (zeroWords (8 * (e - n)) (nodePlace e n)
       (putEach putNode 32 (listed n (nodeAt img)) (nodePlace e 0) bs))))
 
-  changed-is : (bs : List ℕ) → storedInto (changedTrain img dt dn h bs) bs ≡ written (estCount bs) (divergeRoom bs) bs
-  unfolding changedTrain storedInto putRecords
+  changed-is : (bs : List ℕ) → storedInto (changedTrain img dt dn h bs) bs ≡ written (isWide bs) (estCount bs) (divergeRoom bs) bs
+  unfolding changedTrain putChanges putRecords
   changed-is bs = rw (listed-length (estCount bs) (estAt bs), listed-length n (nodeAt img), listed-length m (divAt dt dn))
 
-  train-is : (bs : List ℕ) → storedInto (trainOf img dt dn h) bs ≡ written (estCount img) (divergeRoom img) bs
-  unfolding trainOf storedInto putRecords
+  train-is : (bs : List ℕ) → storedInto (trainOf img dt dn h) bs ≡ written (isWide bs) (estCount img) (divergeRoom img) bs
+  unfolding trainOf putChanges putRecords
   train-is bs = rw (listed-length (estCount img) (estAt img), listed-length n (nodeAt img), listed-length m (divAt dt dn))
 
   -- an image with the counts of the copy takes the copy's train
   pub stored-train : (bs : List ℕ) → estCount bs ≡ estCount img → divergeRoom bs ≡ divergeRoom img → storedInto (changedTrain img dt dn h bs) bs ≡ storedInto (trainOf img dt dn h) bs
-  stored-train bs he hq = changed-is bs ∙ ap₂ (λ (e q : ℕ). written e q bs) he hq ∙ sym (train-is bs)
+  stored-train bs he hq = changed-is bs ∙ ap₂ (λ (e q : ℕ). written (isWide bs) e q bs) he hq ∙ sym (train-is bs)
 
   -- the five writes, one after another
   module _ (bs b1 b2 b3 b4 : List ℕ)
       (p1 : b1 ≡ putEach putNode 32 (listed n (nodeAt img)) (nodePlace (estCount bs) 0) bs) (p2 : b2 ≡ clearNodes n b1)
-      (p3 : b3 ≡ putEach putDiverge 4 (listed m (divAt dt dn)) (divergePlace (estCount b2) 0) b2) (p4 : b4 ≡ clearDiverges m b3) where
+      (p3 : b3 ≡ putEach (putDiverge (isWide b2)) (divergeSize (isWide b2)) (listed m (divAt dt dn)) (divergePlace (isWide b2) (estCount b2) 0) b2) (p4 : b4 ≡ clearDiverges m b3) where
     -- a number of the header
     same1 : (v j : ℕ) → j + v ≤ 64 → leAt v b1 j ≡ leAt v bs j
     same1 v j l = ap (λ (x : List ℕ). leAt v x j) p1 ∙ nodes-stay n (nodeAt img) bs v j l
@@ -127,11 +138,19 @@ module _ (img dt dn : List ℕ) (h : PathHeader) where
     is2 : b2 ≡ zeroWords (8 * (estCount bs - n)) (nodePlace (estCount bs) n) b1
     is2 = p2 ∙ clear-nodes n (estCount bs) b1 (same1 4 4 (omega arith))
 
-    is3 : b3 ≡ putEach putDiverge 4 (listed m (divAt dt dn)) (divergePlace (estCount bs) 0) b2
-    is3 = p3 ∙ ap (λ (x : ℕ). putEach putDiverge 4 (listed m (divAt dt dn)) (divergePlace x 0) b2) (same2 4 4 (omega arith))
+    wide2 : isWide b2 ≡ isWide bs
+    unfolding isWide
+    wide2 = ap (λ (x : ℕ). eqb x 1) (same2 1 42 (omega arith))
 
-    is4 : b4 ≡ zeroWords (divergeRoom bs - m) (divergePlace (estCount bs) m) b3
-    is4 = p4 ∙ clear-diverges m (estCount bs) (divergeRoom bs) b3 (same3 4 4 (omega arith)) (same3 4 16 (omega arith))
+    wide3 : isWide b3 ≡ isWide bs
+    unfolding isWide
+    wide3 = ap (λ (x : ℕ). eqb x 1) (same3 1 42 (omega arith))
+
+    is3 : b3 ≡ putEach (putDiverge (isWide bs)) (divergeSize (isWide bs)) (listed m (divAt dt dn)) (divergePlace (isWide bs) (estCount bs) 0) b2
+    is3 = p3 ∙ ap₂ (λ (w : Bool) (x : ℕ). putEach (putDiverge w) (divergeSize w) (listed m (divAt dt dn)) (divergePlace w x 0) b2) wide2 (same2 4 4 (omega arith))
+
+    is4 : b4 ≡ zeroWords (divergeWords (isWide bs) * (divergeRoom bs - m)) (divergePlace (isWide bs) (estCount bs) m) b3
+    is4 = p4 ∙ clear-diverges m (isWide bs) (estCount bs) (divergeRoom bs) b3 wide3 (same3 4 4 (omega arith)) (same3 4 16 (omega arith))
 
     pub stored-is : putPathHeader h b4 ≡ storedInto (changedTrain img dt dn h bs) bs
     stored-is = rw (is4, is3, is2, p1) (sym (changed-is bs))

@@ -1,11 +1,15 @@
 -- What goes back to the caller's image. Assumes nothing.
 use Prim.Native.Nat.{ℕ, _+_}
+use mathlib.Core.Bool.{Bool}
 use mathlib.Core.List.{List}
 use Rattle.link_rules.specs.Octets.{leAt, putLe}
 use Rattle.disp_structs.specs.Listed.{listed}
 use Rattle.disp_structs.specs.Train.{Train}
 use Rattle.free_path.specs.Columns.{divAt}
-use Rattle.image.specs.Image.{estCount, divergeRoom, trainIdx, distDispPathSearch, distFixedMax, estAt, nodeAt}
+use Rattle.disp_structs.specs.declared.DivergeNode.{DivergeNode}
+use Rattle.image.specs.Fields.{divergeSize}
+use Rattle.image.specs.Image.{estCount, divergeRoom, trainIdx, distDispPathSearch, distFixedMax, divergePlace, estAt, nodeAt, putDiverge}
+use Rattle.image.specs.Codec.{putEach}
 use Rattle.image.specs.declared.codec.PathHeader.{PathHeader}
 
 -- bs with the 32 bytes of img from p on, from q on, in four words
@@ -15,6 +19,10 @@ wordsInto img p q bs =
     (putLe 8 (leAt 8 img (p + 16)) (q + 16)
     (putLe 8 (leAt 8 img (p + 8)) (q + 8)
     (putLe 8 (leAt 8 img p) q bs)))
+
+-- bs with diverge nodes in its first records
+abbrev pub divergesInto : (wide : Bool) (ds : List DivergeNode) (bs : List ℕ) → List ℕ
+divergesInto wide ds bs = putEach (putDiverge wide) (divergeSize wide) ds (divergePlace wide (estCount bs) 0) bs
 
 -- the train of the caller's image bs, with the path of img, the diverge nodes of columns dt and dn, and the numbers of h
 unfoldable pub changedTrain : (img dt dn : List ℕ) (h : PathHeader) (bs : List ℕ) → Train

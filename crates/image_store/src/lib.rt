@@ -4,10 +4,10 @@ ghost use mathlib.Core.Path.{_≡_};
 ghost use Prim.Native.Nat.{_^_, _<_};
 ghost use Rattle.disp_structs.specs.Listed.{listed};
 ghost use Rattle.free_path.specs.Columns.{divAt};
-ghost use Rattle.image.specs.Image.{estCount, nodePlace, divergePlace, nodeAt, putNode, putDiverge};
+ghost use Rattle.image.specs.Image.{estCount, isWide, nodePlace, nodeAt, putNode};
 ghost use Rattle.image.specs.Codec.{putEach, storedInto};
 ghost use Rattle.image_store.specs.Plain.{plainNode};
-ghost use Rattle.image_store.specs.Stored.{wordsInto, changedTrain};
+ghost use Rattle.image_store.specs.Stored.{wordsInto, divergesInto, changedTrain};
 use disp_structs::DivergeNode;
 use free_path::columns;
 use image::codec;
@@ -81,7 +81,7 @@ fn put_nodes(image: &mut [u8], img: &[u8], n: u32)
 
 // The first m diverge nodes of two columns go to an image.
 fn put_diverges(image: &mut [u8], dt: &[u32], dn: &[u32], m: u32)
-    ensures { λ _. ⌜ now (image .exit) ≡ putEach putDiverge 4 (listed m (divAt (now (dt .entry)) (now (dn .entry)))) (divergePlace (estCount (now (image .entry))) 0) (now (image .entry)) ⌝ }
+    ensures { λ _. ⌜ now (image .exit) ≡ divergesInto (isWide (now (image .entry))) (listed m (divAt (now (dt .entry)) (now (dn .entry)))) (now (image .entry)) ⌝ }
 {
     let mut i: u32 = 0;
     while i < m {

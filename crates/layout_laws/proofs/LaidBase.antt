@@ -1,13 +1,16 @@
 -- Header and est records of a laid out image, as they stand before the path is written. Assumes nothing.
 use mathlib.Core.Path.{_≡_, sym, ap, _∙_}
 use mathlib.Core.Logic.{_⊎_, inl, inr, ⊎-elim}
+use mathlib.Core.Bool.{false}
 use mathlib.Core.List.{List, _++_}
-use Prim.Native.Nat.{ℕ, _+_, _-_, _^_, _≤_, _<_}
+use Prim.Native.Nat.{ℕ, _+_, _*_, _-_, _^_, _≤_, _<_}
 use native.Mathlib.Omega.{arith}
 use lib.ListN.{length, getD, take, drop, replicate, length-replicate, getD-replicate, List·getD-append, List·getD-eq-default}
 use lib.Seq.{paste, length-paste, length-take-le, length-paste-head, getD-take, getD-drop, getD-append-add}
 use Rattle.link_rules.specs.Octets.{leAt}
 use Rattle.link_rules.proofs.OctetLaws.{length-put, getD-put, le-put-same, le-put-other}
+use Rattle.image.specs.Fields.{divergeWords}
+use Rattle.image.specs.Image.{divergePlace}
 use Rattle.image.proofs.Writers.{side, put-writes}
 use Rattle.image.proofs.Parts.{keep}
 use Rattle.train_disp.specs.TrainDisp.{settingBits, withHeader, withEst}
@@ -49,6 +52,13 @@ module _ (e : ℕ) (o : Settings) (bs : List ℕ) where
   head-after i h =
       getD-put 4 _ 4 _ i (inr (omega arith)) ∙ getD-put 8 _ 56 _ i (inr (omega arith)) ∙ getD-put 8 _ 48 _ i (inr (omega arith)) ∙ getD-put 2 _ 32 _ i (inr (omega arith)) ∙ getD-put 4 _ 28 _ i (inr (omega arith))
       ∙ getD-put 4 _ 24 _ i (inr (omega arith)) ∙ getD-put 4 _ 20 _ i (inr (omega arith)) ∙ getD-put 4 _ 16 _ i (inr (omega arith)) ∙ getD-put 4 _ 12 _ i (inr (omega arith)) ∙ getD-put 4 _ 0 _ i (inr (omega arith))
+
+  -- nor is the byte of the width
+  head-width : getD (withHeader e o bs) 42 0 ≡ getD bs 42 0
+  unfolding withHeader
+  head-width =
+      getD-put 4 _ 4 _ 42 (inr (omega arith)) ∙ getD-put 8 _ 56 _ 42 (inl (omega arith)) ∙ getD-put 8 _ 48 _ 42 (inl (omega arith)) ∙ getD-put 2 _ 32 _ 42 (inr (omega arith)) ∙ getD-put 4 _ 28 _ 42 (inr (omega arith))
+      ∙ getD-put 4 _ 24 _ 42 (inr (omega arith)) ∙ getD-put 4 _ 20 _ 42 (inr (omega arith)) ∙ getD-put 4 _ 16 _ 42 (inr (omega arith)) ∙ getD-put 4 _ 12 _ 42 (inr (omega arith)) ∙ getD-put 4 _ 0 _ 42 (inr (omega arith))
 
   pub header-long : length (withHeader e o bs) ≡ length bs
   unfolding withHeader
@@ -100,3 +110,15 @@ module _ (e : ℕ) (o : Settings) (est : List ℕ) (size : ℕ) (h : 64 + length
   pub based-zero : (i : ℕ) → 64 + length est ≤ i → getD (based e o est size) i 0 ≡ 0
   unfolding withEst
   based-zero i l = paste-after head est 64 (omega (arith, size-head)) i l ∙ (head-after e o (replicate size 0) i (omega arith) ∙ zero-all size i)
+
+  -- a narrow image
+  pub based-width : getD (based e o est size) 42 0 ≡ 0
+  based-width = based-head 42 (omega arith) ∙ (head-width e o (replicate size 0) ∙ zero-all size 42)
+
+-- where its diverge records begin
+abbrev pub narrowPlace : (e i : ℕ) → ℕ
+narrowPlace e i = 64 + 64 * e + 4 * i
+
+pub narrow-place : (e i : ℕ) → divergePlace false e i ≡ narrowPlace e i
+unfolding divergeWords
+narrow-place e i = omega arith

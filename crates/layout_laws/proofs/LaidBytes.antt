@@ -6,21 +6,22 @@ use mathlib.Core.List.{List, [], _∷_, map}
 use Prim.Native.Nat.{ℕ, zero, suc, _+_, _*_, _%_, _≤_, _<_}
 use native.Mathlib.Nat.{lt-of-le-of-lt}
 use native.Mathlib.Omega.{arith}
-use lib.Dec.{T, lit<}
+use lib.Dec.{T, eqb, lit<}
 use lib.Ieee.{Float, binary64, fits}
 use lib.Ieee.Bits.{ofBits-fits}
 use lib.Ieee.Fits.{add-fits}
 use lib.ListN.{length, getD, replicate, length-replicate, length-map, List·getD-eq-default}
 use borrow.Author.Tests.{le-leb}
 use Rattle.link_rules.specs.Octets.{leAt, putLe}
-use Rattle.link_rules.proofs.OctetLaws.{length-put, le-put-same, le-put-other}
+use Rattle.link_rules.proofs.OctetLaws.{length-put, getD-put, le-put-same, le-put-other}
 use Rattle.disp_structs.specs.Floats.{bitsOf, inReach}
 use Rattle.disp_structs.specs.Values.{noEst, sameEst, zeroMetres, within}
 use Rattle.disp_structs.specs.declared.Metres.{Metres}
 use Rattle.disp_structs.specs.declared.EstTime.{EstTime}
 use Rattle.disp_structs.specs.declared.DispNode.{DispNode}
 use Rattle.disp_structs.proofs.FloatLaws.{bits-lt, bits-number, real-bits, reach-number}
-use Rattle.image.specs.Image.{estCount, pathCount, nodePlace, divergePlace, typeNumber, estFrom, nodeFrom, putNode}
+use Rattle.image.specs.Fields.{divergeWords}
+use Rattle.image.specs.Image.{estCount, pathCount, isWide, nodePlace, typeNumber, estFrom, nodeFrom, putNode}
 use Rattle.image.specs.Codec.{putEach}
 use Rattle.image.proofs.Writers.{Writes, side, then, put-to, put-writes, each-writes, le-outside}
 use Rattle.image.proofs.RecordLaws.{Real, node-writes}
@@ -29,7 +30,7 @@ use Rattle.image_fault.specs.ImageFault.{floatFits}
 use Rattle.train_disp.specs.TrainDisp.{newNode, offsetBehind, walkNext, estLength, newPath, putNodes, withEnds, laidImage, allWithin}
 use Rattle.train_disp.specs.declared.Settings.{Settings}
 use Rattle.train_disp.proofs.LayOutLaws.{count-written, walk-few, SizesFit}
-use Rattle.layout_laws.proofs.LaidBase.{based, based-long}
+use Rattle.layout_laws.proofs.LaidBase.{based, based-long, based-width, narrowPlace}
 use Rattle.layout_laws.proofs.OffsetsAside.{Aside, SameAside}
 
 -- ---- a path without its offsets
@@ -192,22 +193,33 @@ module _ (est : List ℕ) (o : Settings) (size : ℕ) (z : SizesFit (length est)
     noded-long = nodes-write .long base ∙ base-long
 
     pub laid-long : length (laidImage sums est o size) ≡ size
-    unfolding laidImage withEnds
-    laid-long = length-put 2 (length path) (divergePlace e 1 + 2) _ ∙ (length-put 4 (length path) 8 noded ∙ noded-long)
+    unfolding laidImage withEnds divergeWords
+    laid-long = length-put 2 (length path) (narrowPlace e 1 + 2) _ ∙ (length-put 4 (length path) 8 noded ∙ noded-long)
 
     pub laid-est-count : estCount (laidImage sums est o size) ≡ e
-    unfolding laidImage withEnds
+    unfolding laidImage withEnds divergeWords
     laid-est-count =
-        le-put-other 4 2 (length path) (divergePlace e 1 + 2) (putLe 4 (length path) 8 noded) 4 (inl (omega arith))
+        le-put-other 4 2 (length path) (narrowPlace e 1 + 2) (putLe 4 (length path) 8 noded) 4 (inl (omega arith))
         ∙ (le-put-other 4 4 (length path) 8 noded 4 (inl (omega arith))
         ∙ (le-outside nodes-write 4 4 base (inl (omega arith))
         ∙ count-written est e o (replicate size 0) (rw length-replicate (omega (arith, z .size-is))) (z .few-est)))
 
     pub laid-path-count : pathCount (laidImage sums est o size) ≡ length path
-    unfolding laidImage withEnds
+    unfolding laidImage withEnds divergeWords
     laid-path-count =
-        le-put-other 4 2 (length path) (divergePlace e 1 + 2) (putLe 4 (length path) 8 noded) 8 (inl (omega arith))
+        le-put-other 4 2 (length path) (narrowPlace e 1 + 2) (putLe 4 (length path) 8 noded) 8 (inl (omega arith))
         ∙ le-put-same 4 (length path) 8 noded (omega (arith, noded-long, z .size-is)) (lt-of-le-of-lt few (lt-of-le-of-lt (z .few-est) (lit< tt)))
+
+    -- a narrow image
+    pub laid-narrow : isWide (laidImage sums est o size) ≡ false
+    unfolding laidImage withEnds divergeWords isWide leAt
+    laid-narrow =
+        let n = length path in
+        let b : getD (putLe 2 n (narrowPlace e 1 + 2) (putLe 4 n 8 noded)) 42 0 ≡ 0 =
+        getD-put 2 n (narrowPlace e 1 + 2) (putLe 4 n 8 noded) 42 (inl (omega arith))
+        ∙ (getD-put 4 n 8 noded 42 (inr (omega arith))
+        ∙ (nodes-write .outside base 42 (inl (omega arith)) ∙ based-width e o est size (omega (arith, z .whole, z .size-is)))) in
+        ap (λ (x : ℕ). eqb (x + 256 * 0) 1) b
 
   same-count : length (newPath false est) ≡ length (newPath true est)
   same-count = ap length (sym (walk-plain est e 0 zeroMetres)) ∙ length-map (newPath true est) plain
@@ -218,11 +230,11 @@ module _ (est : List ℕ) (o : Settings) (size : ℕ) (z : SizesFit (length est)
       ∙ ap (λ (ns : List DispNode). getD (putNodes ns (nodePlace e 0) base) i 0) (walk-plain est e 0 zeroMetres)
 
   laid-same : (i : ℕ) → Aside (length (newPath true est)) (nodePlace e 0) i → i < size → getD (laidImage true est o size) i 0 ≡ getD (laidImage false est o size) i 0
-  unfolding laidImage withEnds
+  unfolding laidImage withEnds divergeWords
   laid-same i h l =
       let n = length (newPath true est) in
       rw same-count
-      (keep (put-writes 2 n (divergePlace e 1 + 2)) (putLe 4 n 8 (noded true)) (putLe 4 n 8 (noded false))
+      (keep (put-writes 2 n (narrowPlace e 1 + 2)) (putLe 4 n 8 (noded true)) (putLe 4 n 8 (noded false))
       (length-put 4 n 8 (noded true) ∙ (noded-long true ∙ sym (length-put 4 n 8 (noded false) ∙ noded-long false))) i (omega (arith, length-put 4 n 8 (noded true), noded-long true))
       (keep (put-writes 4 n 8) (noded true) (noded false) (noded-long true ∙ sym (noded-long false)) i (omega (arith, noded-long true)) (nodes-same i h l)))
 
@@ -230,7 +242,7 @@ module _ (est : List ℕ) (o : Settings) (size : ℕ) (z : SizesFit (length est)
   past sums i l = List·getD-eq-default (laidImage sums est o size) 0 (omega (arith, laid-long sums))
 
   offset-fits : allWithin (newPath true est) ≡ true → (i : ℕ) → i < length (newPath true est) → floatFits (leAt 8 (laidImage true est o size) (nodePlace e i)) ≡ true
-  unfolding laidImage withEnds offsetBehind
+  unfolding laidImage withEnds divergeWords offsetBehind
   offset-fits w i l =
       let path = newPath true est in
       let n = length path in
@@ -239,7 +251,7 @@ module _ (est : List ℕ) (o : Settings) (size : ℕ) (z : SizesFit (length est)
       let holds = walk-all true est (λ x. T (fits binary64 (x .offset .0))) (λ j y. T (fits binary64 (y .0))) (λ j y h. h) (λ j y h. add-fits binary64 (y .0) (read est j .«dist_to_next» .0)) e 0 zeroMetres (ofBits-fits binary64 0) in
       let real : (j : ℕ) → j < n → Real (getD path j (nodeFrom [] 0) .offset .0) = λ j m. real-offset (getD path j (nodeFrom [] 0)) (holds j m) (all-within path w j m) in
       rw (
-        le-put-other 8 2 n (divergePlace e 1 + 2) (putLe 4 n 8 (noded true)) (nodePlace e i) (inl (omega arith)),
+        le-put-other 8 2 n (narrowPlace e 1 + 2) (putLe 4 n 8 (noded true)) (nodePlace e i) (inl (omega arith)),
         le-put-other 8 4 n 8 (noded true) (nodePlace e i) (inr (omega arith)),
         q,
         nodes-number 8 0 (λ x. bitsOf (x .offset .0)) (λ x. Real (x .offset .0)) offset-read (omega arith) path (nodePlace e 0) base real (omega (arith, base-long, z .size-is)) i l,

@@ -1,5 +1,5 @@
 -- Images laid out from est records and orders that match, match. Assumes nothing.
-use mathlib.Core.Path.{_≡_, refl, sym, ap, ap₂, _∙_}
+use mathlib.Core.Path.{_≡_, refl, sym, ap, ap₂, subst, _∙_}
 use mathlib.Core.Logic.{_⊎_, inl, inr, ⊎-elim}
 use mathlib.Core.Bool.{Bool, true, false, cond, not}
 use mathlib.Core.List.{List, [], _∷_, map}
@@ -20,7 +20,8 @@ use Rattle.disp_structs.specs.Renumbered.{rEst, rNode}
 use Rattle.disp_structs.specs.declared.Metres.{Metres}
 use Rattle.disp_structs.specs.declared.DispNode.{DispNode}
 use Rattle.disp_structs.proofs.FloatLaws.{real-number, reach-number}
-use Rattle.image.specs.Image.{divergeRoom, estPlace, nodePlace, divergePlace, estFrom, nodeFrom, putNode}
+use Rattle.image.specs.Fields.{divergeWords}
+use Rattle.image.specs.Image.{divergeRoom, estPlace, nodePlace, estFrom, nodeFrom, putNode}
 use Rattle.image.specs.ImageMatch.{Renumbered, ImagesMatch}
 use Rattle.image.proofs.Writers.{Writes, side, put-writes, each-writes, le-outside}
 use Rattle.image.proofs.RecordLaws.{NodeHeld, node-writes}
@@ -30,9 +31,9 @@ use Rattle.image.proofs.MatchEncoded.{match-outside, node-one, each-match, widt
 use Rattle.train_disp.specs.TrainDisp.{newNode, offsetBehind, walkNext, estLength, newPath, withHeader, putNodes, withEnds, laidImage, allWithin}
 use Rattle.train_disp.specs.declared.Settings.{Settings}
 use Rattle.layout_laws.specs.LayOutMatch.{EstsMatch, rSettings}
-use Rattle.layout_laws.proofs.LaidBase.{head-train, head-beside, based, based-long, based-head, based-est, based-zero}
+use Rattle.layout_laws.proofs.LaidBase.{head-train, head-beside, based, based-long, based-head, based-est, based-zero, narrowPlace, narrow-place}
 use Rattle.train_disp.proofs.LayOutLaws.{SizesFit}
-use Rattle.layout_laws.proofs.LaidBytes.{read, later, walk-all, all-within, laid-est-count, few}
+use Rattle.layout_laws.proofs.LaidBytes.{read, later, walk-all, all-within, laid-est-count, laid-narrow, few}
 
 -- ---- numbers
 
@@ -168,14 +169,14 @@ module _ (p q : ℕ → ℕ) (top : ℕ) (est est′ : List ℕ) (o : Settings) 
   nodes′ = putNodes (map (rNode p) path) (nodePlace e 0)
 
   abbrev ends : List ℕ → List ℕ
-  ends bs = putLe 2 n (divergePlace e 1 + 2) (putLe 4 n 8 bs)
+  ends bs = putLe 2 n (narrowPlace e 1 + 2) (putLe 4 n 8 bs)
 
   first-is : laidImage sums est o size ≡ ends (nodes base)
-  unfolding laidImage withEnds
+  unfolding laidImage withEnds divergeWords
   first-is = refl
 
   second-is : laidImage sums est′ (rSettings q o) size ≡ ends (nodes′ base′)
-  unfolding laidImage withEnds
+  unfolding laidImage withEnds divergeWords
   second-is = rw (path-match p (rp .zero-stays) est est′ m (z .whole) sums, m .long, length-map path (rNode p))
 
   room : 64 + length est ≤ size
@@ -202,7 +203,7 @@ module _ (p q : ℕ → ℕ) (top : ℕ) (est est′ : List ℕ) (o : Settings) 
   -- a byte outside of the path on which the first buffers agree
   outer : (i : ℕ) → (i < nodePlace e 0) ⊎ (nodePlace e 0 + 32 * n ≤ i) → i < size → getD base′ i 0 ≡ getD base i 0 → getD (ends (nodes′ base′)) i 0 ≡ getD (ends (nodes base)) i 0
   outer i h l k =
-      keep (put-writes 2 n (divergePlace e 1 + 2)) (putLe 4 n 8 (nodes′ base′)) (putLe 4 n 8 (nodes base))
+      keep (put-writes 2 n (narrowPlace e 1 + 2)) (putLe 4 n 8 (nodes′ base′)) (putLe 4 n 8 (nodes base))
       (length-put 4 n 8 (nodes′ base′) ∙ (same-long ∙ sym (length-put 4 n 8 (nodes base)))) i (omega (arith, length-put 4 n 8 (nodes′ base′), writes′ .long base′, long′))
       (keep (put-writes 4 n 8) (nodes′ base′) (nodes base) same-long i (omega (arith, writes′ .long base′, long′))
       (writes′ .outside base′ i h ∙ (k ∙ sym (writes .outside base i h))))
@@ -211,15 +212,15 @@ module _ (p q : ℕ → ℕ) (top : ℕ) (est est′ : List ℕ) (o : Settings) 
       same-long = writes′ .long base′ ∙ (long′ ∙ (sym long ∙ sym (writes .long base)))
 
   -- a number that the ends leave
-  ends-number : (v j : ℕ) (bs : List ℕ) → 12 ≤ j → (j + v ≤ divergePlace e 1 + 2) ⊎ (divergePlace e 1 + 4 ≤ j) → leAt v (ends bs) j ≡ leAt v bs j
+  ends-number : (v j : ℕ) (bs : List ℕ) → 12 ≤ j → (j + v ≤ narrowPlace e 1 + 2) ⊎ (narrowPlace e 1 + 4 ≤ j) → leAt v (ends bs) j ≡ leAt v bs j
   ends-number v j bs h k =
-      le-put-other v 2 n (divergePlace e 1 + 2) (putLe 4 n 8 bs) j (⊎-elim (λ (c : j + v ≤ divergePlace e 1 + 2). inl c) (λ (c : divergePlace e 1 + 4 ≤ j). inr (omega arith)) k)
+      le-put-other v 2 n (narrowPlace e 1 + 2) (putLe 4 n 8 bs) j (⊎-elim (λ (c : j + v ≤ narrowPlace e 1 + 2). inl c) (λ (c : narrowPlace e 1 + 4 ≤ j). inr (omega arith)) k)
       ∙ le-put-other v 4 n 8 bs j (inr (omega arith))
 
   -- a record between header and diverge nodes
-  ends-match : (at w k v : ℕ) → k + v ≤ w → 64 ≤ at → at + w ≤ divergePlace e 0 → Renumbered p (nodes base) (nodes′ base′) at w k v → Renumbered p (ends (nodes base)) (ends (nodes′ base′)) at w k v
+  ends-match : (at w k v : ℕ) → k + v ≤ w → 64 ≤ at → at + w ≤ narrowPlace e 0 → Renumbered p (nodes base) (nodes′ base′) at w k v → Renumbered p (ends (nodes base)) (ends (nodes′ base′)) at w k v
   ends-match at w k v f h l x =
-      match-outside (put-writes 2 n (divergePlace e 1 + 2)) (put-writes 2 n (divergePlace e 1 + 2)) p (putLe 4 n 8 (nodes base)) (putLe 4 n 8 (nodes′ base′)) at w k v f (inl (omega arith)) (inl (omega arith))
+      match-outside (put-writes 2 n (narrowPlace e 1 + 2)) (put-writes 2 n (narrowPlace e 1 + 2)) p (putLe 4 n 8 (nodes base)) (putLe 4 n 8 (nodes′ base′)) at w k v f (inl (omega arith)) (inl (omega arith))
       (match-outside (put-writes 4 n 8) (put-writes 4 n 8) p (nodes base) (nodes′ base′) at w k v f (inr (omega arith)) (inr (omega arith)) x)
 
   -- ---- the header
@@ -312,15 +313,15 @@ module _ (p q : ℕ → ℕ) (top : ℕ) (est est′ : List ℕ) (o : Settings) 
   -- ---- diverge records
 
   diverge-train : (s : List ℕ) (u : Settings) (h : 64 + length s ≤ size) → length s ≡ length est → (f : List ℕ → List ℕ) → Writes (nodePlace e 0) (nodePlace e 0 + 32 * n) f
-      → (i : ℕ) → leAt 2 (ends (f (based e u s size))) (divergePlace e i) ≡ 0
+      → (i : ℕ) → leAt 2 (ends (f (based e u s size))) (narrowPlace e i) ≡ 0
   diverge-train s u h g f w i =
-      ends-number 2 (divergePlace e i) (f (based e u s size)) (omega arith) (⊎-elim (λ (c : i < 2). inl (omega arith)) (λ (c : 2 ≤ i). inr (omega arith)) (side i 2))
-      ∙ (le-outside w 2 (divergePlace e i) (based e u s size) (inr (omega (arith, few-nodes)))
-      ∙ le-zero 2 (based e u s size) (divergePlace e i) (λ y k l. based-zero e u s size h y (omega (arith, z .whole, g))))
+      ends-number 2 (narrowPlace e i) (f (based e u s size)) (omega arith) (⊎-elim (λ (c : i < 2). inl (omega arith)) (λ (c : 2 ≤ i). inr (omega arith)) (side i 2))
+      ∙ (le-outside w 2 (narrowPlace e i) (based e u s size) (inr (omega (arith, few-nodes)))
+      ∙ le-zero 2 (based e u s size) (narrowPlace e i) (λ y k l. based-zero e u s size h y (omega (arith, z .whole, g))))
 
-  diverge-match : (i : ℕ) → i < o .«diverge_room» → Renumbered q (ends (nodes base)) (ends (nodes′ base′)) (divergePlace e i) 4 0 2
+  diverge-match : (i : ℕ) → i < o .«diverge_room» → Renumbered q (ends (nodes base)) (ends (nodes′ base′)) (narrowPlace e i) 4 0 2
   diverge-match i l =
-      let k : divergePlace e i + 0 ≡ divergePlace e i = omega arith in
+      let k : narrowPlace e i + 0 ≡ narrowPlace e i = omega arith in
       record {
         before = λ y a c. absurd (omega arith);
         number = rw k (diverge-train est′ (rSettings q o) room′ (m .long) nodes′ writes′ i ∙ (sym (rq .zero-stays) ∙ ap q (sym (diverge-train est o room refl nodes writes i))));
@@ -342,14 +343,16 @@ module _ (p q : ℕ → ℕ) (top : ℕ) (est est′ : List ℕ) (o : Settings) 
       ∙ le-put-same 4 (o .«diverge_room») 16 _ (rw (length-put, length-put, length-replicate) (omega (arith, room))) (lt-of-le-of-lt (z .few-room) (lit< tt))))))
 
   pub laid-match : ImagesMatch p q (laidImage sums est o size) (laidImage sums est′ (rSettings q o) size)
+  unfolding divergeWords
   laid-match =
       record {
         long = rw (first-is, second-is) (same-long);
         header = rw (first-is, second-is) header-match;
         est = rw (laid-est-count est o size z sums, first-is, second-is) est-match;
         node = rw (laid-est-count est o size z sums, first-is, second-is) node-match;
-        diverge = rw (laid-est-count est o size z sums, room-is, first-is, second-is) diverge-match;
-        rest = rw (laid-est-count est o size z sums, room-is, first-is, second-is) (λ i l n. absurd (omega (arith, first-long, z .size-is)));
+        diverge = rw (laid-narrow est o size z sums, laid-est-count est o size z sums, room-is, first-is, second-is)
+            (λ i l. subst (λ (at : ℕ). Renumbered q (ends (nodes base)) (ends (nodes′ base′)) at 4 0 2) (sym (narrow-place e i)) (diverge-match i l));
+        rest = rw (laid-narrow est o size z sums, laid-est-count est o size z sums, room-is, first-is, second-is) (λ i l n. absurd (omega (arith, first-long, z .size-is)));
       }
     where
       same-long : length (ends (nodes′ base′)) ≡ length (ends (nodes base))

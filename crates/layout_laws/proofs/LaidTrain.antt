@@ -1,7 +1,7 @@
 -- What lay out writes is the new train: the image reads as it, and is its encoding. Assumes nothing.
 use mathlib.Core.Path.{_≡_, sym, ap, ap₂, _∙_}
 use mathlib.Core.Logic.{_⊎_, inl, inr}
-use mathlib.Core.Bool.{true}
+use mathlib.Core.Bool.{Bool, true, false}
 use mathlib.Core.List.{List, [], _∷_}
 use Prim.Native.Nat.{ℕ, _+_, _*_, _^_, _≤_, _<_}
 use native.Mathlib.Omega.{arith}
@@ -14,21 +14,24 @@ use Rattle.link_rules.proofs.OctetLaws.{Bytes, length-put, getD-put, le-put-sam
 use Rattle.link_rules.specs.declared.refusal.Answer.the-variants.{Done}
 use Rattle.disp_structs.specs.Floats.{realOf}
 use Rattle.disp_structs.specs.Listed.{listed}
+use Rattle.disp_structs.specs.Train.{Train}
 use Rattle.disp_structs.specs.declared.DispNode.{DispNode}
 use Rattle.disp_structs.specs.declared.DivergeNode.{DivergeNode}
 use Rattle.disp_structs.proofs.FloatLaws.{equal, bits-lt, real-bits}
 use Rattle.disp_structs.proofs.ListedLaws.{listed-same}
-use Rattle.image.specs.Image.{estCount, pathCount, divergeCount, estPlace, nodePlace, divergePlace, estFrom, nodeFrom, divergeFrom, estAt, nodeAt, divergeAt, putNode}
+use Rattle.image.specs.Fields.{divergeWords}
+use Rattle.image.specs.Image.{estCount, pathCount, divergeCount, isWide, estPlace, nodePlace, divergePlace, estFrom, nodeFrom, divergeFrom, estAt, nodeAt, divergeAt, putNode}
 use Rattle.image.specs.Codec.{decoded, encoded}
 use Rattle.image.proofs.Writers.{Writes, put-writes, each-writes}
 use Rattle.image.proofs.EachLaws.{from-outside, each-list}
 use Rattle.image.proofs.RecordLaws.{Real, NodeHeld, node-writes, node-cong, node-read}
+use Rattle.image_fault.specs.declared.Widths.the-variants.{Narrow}
 use Rattle.image_fault.proofs.AcceptLaws.{encoded-accepted}
 use Rattle.train_disp.specs.TrainDisp.{estLength, newPath, putNodes, settingBits, withHeader, withEnds, laidImage, allWithin, divergeNode, newTrain, laidOut}
 use Rattle.train_disp.specs.declared.Settings.{Settings}
-use Rattle.layout_laws.proofs.LaidBase.{zero-all, head-train, based, based-long, based-head, based-est, based-zero}
+use Rattle.layout_laws.proofs.LaidBase.{zero-all, head-train, based, based-long, based-head, based-est, based-zero, narrowPlace}
 use Rattle.train_disp.proofs.LayOutLaws.{SizesFit, sizes-fit}
-use Rattle.layout_laws.proofs.LaidBytes.{few, laid-est-count, laid-path-count}
+use Rattle.layout_laws.proofs.LaidBytes.{few, laid-est-count, laid-path-count, laid-narrow}
 use Rattle.layout_laws.proofs.LaidMatch.{le-shift, le-zero, held, numbers-within}
 use Rattle.layout_laws.proofs.LaidOut.{passed, laid-image, laid-accepted}
 
@@ -139,9 +142,9 @@ module _ (est : List ℕ) (o : Settings) (size : ℕ) (z : SizesFit (length est)
 
   -- a byte that neither the nodes nor the ends write
   byte : (i : ℕ) → (i < 8) ⊎ (12 ≤ i) → i < nodePlace e 0 → getD img i 0 ≡ getD base i 0
-  unfolding laidImage withEnds
+  unfolding laidImage withEnds divergeWords
   byte i h l =
-      getD-put 2 n (divergePlace e 1 + 2) (putLe 4 n 8 noded) i (inl (omega arith))
+      getD-put 2 n (narrowPlace e 1 + 2) (putLe 4 n 8 noded) i (inl (omega arith))
       ∙ (getD-put 4 n 8 noded i h ∙ nodes-write .outside base i (inl l))
 
   head : (v j : ℕ) → (j + v ≤ 8) ⊎ (12 ≤ j) → j + v ≤ 64 → leAt v img j ≡ leAt v (header e o size) j
@@ -153,6 +156,9 @@ module _ (est : List ℕ) (o : Settings) (size : ℕ) (z : SizesFit (length est)
 
   counted : estCount img ≡ e
   counted = laid-est-count est o size z true
+
+  narrow : isWide img ≡ false
+  narrow = laid-narrow est o size z true
 
   est-read-at : (i : ℕ) → i < e → estAt img i ≡ estFrom est (32 * i)
   est-read-at i l =
@@ -168,11 +174,11 @@ module _ (est : List ℕ) (o : Settings) (size : ℕ) (z : SizesFit (length est)
   node-outside = from-outside putNode nodeFrom 32 NodeHeld node-writes node-cong node-read (nodeFrom [] 0)
 
   node-read-at : (i : ℕ) → i < n → nodeAt img i ≡ nodeFrom noded (nodePlace e 0 + 32 * i)
-  unfolding laidImage withEnds
+  unfolding laidImage withEnds divergeWords
   node-read-at i l =
       let q : nodePlace e i ≡ nodePlace e 0 + 32 * i = omega arith in
       ap (λ (x : ℕ). nodeFrom img (nodePlace x i)) counted
-      ∙ (node-outside (put-writes 2 n (divergePlace e 1 + 2)) (putLe 4 n 8 noded) (nodePlace e i) (inl (omega (arith, at-most)))
+      ∙ (node-outside (put-writes 2 n (narrowPlace e 1 + 2)) (putLe 4 n 8 noded) (nodePlace e i) (inl (omega (arith, at-most)))
       ∙ (node-outside (put-writes 4 n 8) noded (nodePlace e i) (inr (omega arith)) ∙ ap (nodeFrom noded) q))
 
   path-read : listed (pathCount img) (nodeAt img) ≡ path
@@ -186,34 +192,34 @@ module _ (est : List ℕ) (o : Settings) (size : ℕ) (z : SizesFit (length est)
   tail-zero : (i : ℕ) → nodePlace e n ≤ i → getD noded i 0 ≡ 0
   tail-zero i l = nodes-write .outside base i (inr (omega arith)) ∙ based-zero e o est size room i (omega (arith, z .whole))
 
-  two : divergePlace e 2 ≤ size
+  two : narrowPlace e 2 ≤ size
   two = omega (arith, z .size-is, z .some-room)
 
-  diverge-zero : (j : ℕ) → divergePlace e 0 ≤ j → j ≤ divergePlace e 1 → leAt 2 img j ≡ 0
-  unfolding laidImage withEnds
+  diverge-zero : (j : ℕ) → narrowPlace e 0 ≤ j → j ≤ narrowPlace e 1 → leAt 2 img j ≡ 0
+  unfolding laidImage withEnds divergeWords
   diverge-zero j h l =
-      le-put-other 2 2 n (divergePlace e 1 + 2) (putLe 4 n 8 noded) j (inl (omega arith))
+      le-put-other 2 2 n (narrowPlace e 1 + 2) (putLe 4 n 8 noded) j (inl (omega arith))
       ∙ (le-put-other 2 4 n 8 noded j (inr (omega arith)) ∙ le-zero 2 noded j (λ i a b. tail-zero i (omega (arith, at-most))))
 
-  diverge-last : leAt 2 img (divergePlace e 1 + 2) ≡ n
-  unfolding laidImage withEnds
-  diverge-last = le-put-same 2 n (divergePlace e 1 + 2) (putLe 4 n 8 noded) (rw length-put (omega (arith, noded-long, two))) n-low
+  diverge-last : leAt 2 img (narrowPlace e 1 + 2) ≡ n
+  unfolding laidImage withEnds divergeWords
+  diverge-last = le-put-same 2 n (narrowPlace e 1 + 2) (putLe 4 n 8 noded) (rw length-put (omega (arith, noded-long, two))) n-low
 
-  first-diverge : divergeFrom img (divergePlace e 0) ≡ divergeNode 0
-  unfolding divergeFrom
-  first-diverge = rw (diverge-zero (divergePlace e 0) (omega arith) (omega arith), diverge-zero (divergePlace e 0 + 2) (omega arith) (omega arith))
+  first-diverge : divergeFrom false img (divergePlace false e 0) ≡ divergeNode 0
+  unfolding divergeFrom divergeWords
+  first-diverge = rw (diverge-zero (narrowPlace e 0) (omega arith) (omega arith), diverge-zero (narrowPlace e 0 + 2) (omega arith) (omega arith))
 
-  last-diverge : divergeFrom img (divergePlace e 1) ≡ divergeNode n
-  unfolding divergeFrom
-  last-diverge = rw (diverge-zero (divergePlace e 1) (omega arith) (omega arith), diverge-last)
+  last-diverge : divergeFrom false img (divergePlace false e 1) ≡ divergeNode n
+  unfolding divergeFrom divergeWords
+  last-diverge = rw (diverge-zero (narrowPlace e 1) (omega arith) (omega arith), diverge-last)
 
   diverges-read : listed (divergeCount img) (divergeAt img) ≡ divergeNode 0 ∷ (divergeNode n ∷ [])
   unfolding listed
   diverges-read =
       ap (λ (m : ℕ). listed m (divergeAt img)) (head 4 12 (inr (omega arith)) (omega arith) ∙ count-field e o size (omega (arith, room)))
       ∙ ap₂ (λ (a b : DivergeNode). a ∷ (b ∷ []))
-      (ap (λ (x : ℕ). divergeFrom img (divergePlace x 0)) counted ∙ first-diverge)
-      (ap (λ (x : ℕ). divergeFrom img (divergePlace x 1)) counted ∙ last-diverge)
+      (ap₂ (λ (w : Bool) (x : ℕ). divergeFrom w img (divergePlace w x 0)) narrow counted ∙ first-diverge)
+      (ap₂ (λ (w : Bool) (x : ℕ). divergeFrom w img (divergePlace w x 1)) narrow counted ∙ last-diverge)
 
   pub image-decoded : decoded img ≡ newTrain est o
   unfolding decoded newTrain
@@ -254,5 +260,9 @@ module _ (est : List ℕ) (o : Settings) (img : List ℕ) (bytes : Bytes est) (t
       ap decoded (laid-image est o img h) ∙ image-decoded est o (length img) (sizes-fit (length est) o (length img) (p .sizes)) bytes (p .reach) train search fixed
 
   -- and is its encoding
-  pub laid-encoded : Bytes (laidOut est o img .image) → laidOut est o img .image ≡ encoded (newTrain est o)
-  laid-encoded b = sym (encoded-accepted (laidOut est o img .image) (o .links) b (laid-accepted est o img h)) ∙ ap encoded laid-decoded
+  pub laid-encoded : Bytes (laidOut est o img .image) → laidOut est o img .image ≡ encoded false (newTrain est o)
+  laid-encoded b =
+      let ok = laid-accepted est o img h in
+      let p = passed est o img h in
+      let narrow : isWide (laidOut est o img .image) ≡ false = ap isWide (laid-image est o img h) ∙ laid-narrow est o (length img) (sizes-fit (length est) o (length img) (p .sizes)) true in
+      sym (encoded-accepted Narrow (laidOut est o img .image) (o .links) b ok) ∙ ap₂ (λ (w : Bool) (t : Train). encoded w t) narrow laid-decoded

@@ -1,20 +1,24 @@
 -- Two images that are the same but for the offsets of their path nodes: where the first is accepted and the offsets of the second fit, the second is accepted. Assumes nothing.
-use mathlib.Core.Path.{_≡_, refl, ap, _∙_}
+use mathlib.Core.Path.{_≡_, refl, ap, ap₂, _∙_}
 use mathlib.Core.Logic.{_⊎_, inl, inr, ⊎-elim}
-use mathlib.Core.Bool.{true}
+use mathlib.Core.Bool.{Bool, true}
 use mathlib.Core.List.{List}
 use Prim.Native.Nat.{ℕ, zero, suc, _+_, _*_, _-_, _≤_, _<_}
 use native.Mathlib.Omega.{arith}
+use lib.Dec.{leb, eqb}
 use lib.ListN.{length, getD}
 use Rattle.link_rules.specs.Octets.{leAt}
 use Rattle.link_rules.specs.declared.link_idx.LinkIdx.{LinkIdx}
 use Rattle.link_rules.proofs.OctetLaws.{le-cong}
 use Rattle.disp_structs.specs.declared.EstTime.{EstTime}
 use Rattle.disp_structs.proofs.ListedLaws.{listed-same}
-use Rattle.image.specs.Image.{estCount, pathCount, divergeCount, divergeRoom, pathHeader, estPlace, nodePlace, divergePlace, nodeFrom, divergeFrom, estAt, nodeAt, divergeAt}
+use Rattle.disp_structs.specs.declared.DivergeNode.{DivergeNode}
+use Rattle.image.specs.Fields.{divergeWords}
+use Rattle.image.specs.Image.{estCount, pathCount, divergeCount, divergeRoom, isWide, pathHeader, estPlace, nodePlace, divergePlace, largestOf, nodeFrom, divergeFrom, estAt, nodeAt, divergeAt}
 use Rattle.image.proofs.Writers.{side}
 use Rattle.image.proofs.RecordLaws.{est-cong, diverge-cong}
-use Rattle.image_fault.specs.ImageFault.{countsFit, partsFit, trainFits, estTypeFits, nodeTypeFits, zeroWord, unusedZero, recordsFit, imageFits, floatFits, estFits, nodeFits, headerFits, valueFault, nexts, alts, cycleFault, comesFrom, endsAt, arrived, firstArrival, onRoute, divergeFits, routeFault, imageFault}
+use Rattle.image_fault.specs.ImageFault.{countsFit, partsFit, trainFits, estTypeFits, nodeTypeFits, divergeSpareFits, zeroWord, unusedZero, recordsFit, imageFits, floatFits, estFits, nodeFits, headerFits, divergeTrainFits, trainsFault, valueFault, nexts, alts, cycleFault, comesFrom, endsAt, arrived, firstArrival, onRoute, divergeFits, routeFault, faultWith, imageFault}
+use Rattle.image_fault.specs.declared.Widths.the-variants.{Narrow}
 use Rattle.image_fault.specs.CodeFacts.{CountsFit}
 use Rattle.image_fault.proofs.AcceptLaws.{Accepted, accepted, fits-counts, clean-node, node-fits}
 use Rattle.image_fault.proofs.MatchLaws.{all-same, first-same}
@@ -54,6 +58,10 @@ module _ (bs bs′ : List ℕ) (s : SameAside bs bs′) where
   q-is : divergeRoom bs′ ≡ divergeRoom bs
   q-is = before 4 16 (omega arith)
 
+  w-is : isWide bs′ ≡ isWide bs
+  unfolding isWide
+  w-is = ap (λ (x : ℕ). eqb x 1) (before 1 42 (omega arith))
+
   -- ---- records
 
   est-is : (i : ℕ) → i < estCount bs → estAt bs′ i ≡ estAt bs i
@@ -69,11 +77,11 @@ module _ (bs bs′ : List ℕ) (s : SameAside bs bs′) where
 
   diverge-is : pathCount bs ≤ estCount bs → (i : ℕ) → divergeAt bs′ i ≡ divergeAt bs i
   diverge-is c i =
-      ap (λ (e : ℕ). divergeFrom bs′ (divergePlace e i)) e-is
-      ∙ diverge-cong bs′ bs (divergePlace (estCount bs) i) (λ k a b. s .same k (λ j r. inr (omega arith)))
+      ap₂ (λ (w : Bool) (e : ℕ). divergeFrom w bs′ (divergePlace w e i)) w-is e-is
+      ∙ diverge-cong (isWide bs) bs′ bs (divergePlace (isWide bs) (estCount bs) i) (λ k a b. s .same k (λ j r. inr (omega arith)))
 
   module _ (l : ℕ) (ok : imageFault bs l .number ≡ 0) where
-    a : Accepted bs l
+    a : Accepted Narrow bs l
     a = accepted bs l ok
 
     c : CountsFit bs
@@ -87,9 +95,9 @@ module _ (bs bs′ : List ℕ) (s : SameAside bs bs′) where
 
     parts-same : partsFit bs′ ≡ partsFit bs
     unfolding partsFit
-    parts-same = rw (before 4 20 (omega arith), before 4 24 (omega arith), before 4 28 (omega arith), before 4 0 (omega arith), e-is, q-is, s .long)
+    parts-same = rw (w-is, before 4 20 (omega arith), before 4 24 (omega arith), before 4 28 (omega arith), before 4 0 (omega arith), e-is, q-is, s .long)
 
-    train-same : trainFits bs′ ≡ trainFits bs
+    train-same : trainFits Narrow bs′ ≡ trainFits Narrow bs
     unfolding trainFits
     train-same = rw (before 2 32 (omega arith), before 2 42 (omega arith), before 4 44 (omega arith))
 
@@ -105,11 +113,19 @@ module _ (bs bs′ : List ℕ) (s : SameAside bs bs′) where
     unfolding zeroWord
     word-same at j h = rw (after 4 (at + 4 * j) (omega arith))
 
+    spare-same : (i : ℕ) → divergeSpareFits bs′ i ≡ divergeSpareFits bs i
+    unfolding divergeSpareFits
+    spare-same i =
+        let k = c .few-path in
+        let at = divergePlace (isWide bs) (estCount bs) i + (2 * divergeWords (isWide bs) + 2) in
+        rw (w-is, e-is, after (2 * divergeWords (isWide bs) - 2) at (omega arith))
+
     records-same : recordsFit bs′ ≡ recordsFit bs
     unfolding recordsFit unusedZero
     records-same =
         let k = c .few-path in
         rw (
+          w-is,
           e-is,
           n-is,
           m-is,
@@ -117,10 +133,11 @@ module _ (bs bs′ : List ℕ) (s : SameAside bs bs′) where
           all-same (estCount bs) (estTypeFits bs′) (estTypeFits bs) est-type-same,
           all-same (pathCount bs) (nodeTypeFits bs′) (nodeTypeFits bs) node-type-same,
           all-same (8 * (estCount bs - pathCount bs)) (zeroWord bs′ (nodePlace (estCount bs) (pathCount bs))) (zeroWord bs (nodePlace (estCount bs) (pathCount bs))) (λ j h. word-same (nodePlace (estCount bs) (pathCount bs)) j (omega arith)),
-          all-same (divergeRoom bs - divergeCount bs) (zeroWord bs′ (divergePlace (estCount bs) (divergeCount bs))) (zeroWord bs (divergePlace (estCount bs) (divergeCount bs))) (λ j h. word-same (divergePlace (estCount bs) (divergeCount bs)) j (omega arith)),
+          all-same (divergeCount bs) (divergeSpareFits bs′) (divergeSpareFits bs) (λ i h. spare-same i),
+          all-same (divergeWords (isWide bs) * (divergeRoom bs - divergeCount bs)) (zeroWord bs′ (divergePlace (isWide bs) (estCount bs) (divergeCount bs))) (zeroWord bs (divergePlace (isWide bs) (estCount bs) (divergeCount bs))) (λ j h. word-same (divergePlace (isWide bs) (estCount bs) (divergeCount bs)) j (omega arith)),
         )
 
-    fits-same : imageFits bs′ ≡ imageFits bs
+    fits-same : imageFits Narrow bs′ ≡ imageFits Narrow bs
     unfolding imageFits
     fits-same = rw (counts-same, parts-same, train-same, records-same)
 
@@ -150,6 +167,11 @@ module _ (bs bs′ : List ℕ) (s : SameAside bs bs′) where
     unfolding headerFits
     header-same = rw (before 8 48 (omega arith), before 8 56 (omega arith), path-header-same)
 
+    trains-same : trainsFault bs′ ≡ trainsFault bs
+    unfolding trainsFault divergeTrainFits
+    trains-same =
+        rw (w-is, m-is, first-same 22 (divergeTrainFits bs′) (divergeTrainFits bs) (divergeCount bs) 0 (λ j r t. ap (λ (d : DivergeNode). leb (d .«train_idx» .0) (largestOf true)) (diverge-is (c .few-path) j)))
+
     value-same : valueFault bs′ l ≡ valueFault bs l
     unfolding valueFault
     value-same =
@@ -159,6 +181,7 @@ module _ (bs bs′ : List ℕ) (s : SameAside bs bs′) where
           first-same 7 (estFits bs′ l) (estFits bs l) (estCount bs) 0 (λ j r t. est-same j (omega arith)),
           first-same 7 (nodeFits bs′ l) (nodeFits bs l) (pathCount bs) 0 (λ j r t. node-same j (omega arith)),
           header-same,
+          trains-same,
         )
 
     -- ---- 8
@@ -214,5 +237,5 @@ module _ (bs bs′ : List ℕ) (s : SameAside bs bs′) where
         )
 
     pub aside-accepted : imageFault bs′ l .number ≡ 0
-    unfolding imageFault
+    unfolding faultWith
     aside-accepted = rw (fits-same, value-same, cycle-same, route-same) ok

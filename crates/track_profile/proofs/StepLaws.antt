@@ -31,8 +31,9 @@ use Rattle.image_fault.proofs.AcceptLaws as Clean
 use Rattle.update_laws.specs.AfterRound.{Leaves}
 use Rattle.update_laws.specs.FitsGood.{TrainFits}
 use Rattle.update_laws.proofs.Updates.{StaysFit}
-use Rattle.update_definition.specs.UpdateImage.{UpdatedImage, callFault, linkIdxs, answerBy, updateFault, updatedImage}
+use Rattle.update_definition.specs.UpdateImage.{UpdatedImage, callFault, linkIdxs, answerBy, updateFaultIn, updateFault, updatedImageIn, updatedImage}
 use Rattle.update_laws.proofs.PathReads.{listed-read, read-listed}
+use Rattle.image_fault.specs.declared.Widths.the-variants.{Narrow}
 use Rattle.update_laws.proofs.UpdateLeaves.{leaves, left-holds}
 use Rattle.track_profile.specs.Profile.{InProfile, distAt, offsetAt}
 use Rattle.track_profile.specs.ExactSteps.{StepsExact, SuccessIsExact, estOf}
@@ -195,7 +196,7 @@ module _ (img occ blocking : List ℕ) (moved : ℕ) (local : Bool) (limit : ℕ
   train-left = updateFreePath occ (linkIdxs blocking) (record { 0 = moved }) local limit (decoded img)
 
   success-told : after .answer .status ≡ Success → (updateFault img occ blocking moved limit .number ≡ 0) × (train-left .answer .status ≡ Success)
-  unfolding updatedImage
+  unfolding updatedImageIn
   success-told h = go (updateFault img occ blocking moved limit .number) refl h
     where
       go : (k : ℕ) → updateFault img occ blocking moved limit .number ≡ k → answerBy k (updateFault img occ blocking moved limit) train-left img .answer .status ≡ Success
@@ -208,18 +209,18 @@ module _ (img occ blocking : List ℕ) (moved : ℕ) (local : Bool) (limit : ℕ
 
   -- Success leaves the est records
   pub success-ests : Bytes img → (top : ℕ) → top ≤ largestTrain img → TrainsWithin top occ moved → after .answer .status ≡ Success → decoded (after .image) .«est_times» ≡ decoded img .«est_times»
-  unfolding updateFault
+  unfolding updateFaultIn
   success-ests b top low w h =
       let k = success-told h in
       let c = Clean.or-else-clean (callFault occ blocking moved limit) (imageFault img (length occ)) (k .0) .1 in
-      let f = subst (λ (s : Status). Leaves (StaysFit (length occ) (largestTrain img) (decoded img)) (TrainFits (largestTrain img)) (decoded img) s (train-left .train)) (k .1) (leaves img (length occ) b c occ blocking moved local limit top low w) in
-      ap (λ (t : Train). t .«est_times») (left-holds img occ blocking moved local limit b top low w (k .0)) ∙ f .stays .same .ests
+      let f = subst (λ (s : Status). Leaves (StaysFit (length occ) (largestTrain img) (decoded img)) (TrainFits (largestTrain img)) (decoded img) s (train-left .train)) (k .1) (leaves Narrow img (length occ) b c occ blocking moved local limit top low w) in
+      ap (λ (t : Train). t .«est_times») (left-holds Narrow img occ blocking moved local limit b top low w (k .0)) ∙ f .stays .same .ests
 
   -- needed of the image before are its est distances alone, of the image after its offsets
   pub success-exact : Bytes img → (top : ℕ) → top ≤ largestTrain img → TrainsWithin top occ moved → DistsInProfile img → after .answer .status ≡ Success → OffsetsInProfile (after .image) → StepsExact (after .image)
   success-exact b top low w ds h os =
       let k = success-told h in
-      let e = left-holds img occ blocking moved local limit b top low w (k .0) in
+      let e = left-holds Narrow img occ blocking moved local limit b top low w (k .0) in
       let r = update-right occ (linkIdxs blocking) (record { 0 = moved }) local limit (decoded img) (k .1) in
       steps-exact (after .image) (subst (λ (t : Train). badPath (t .«est_times») (t .«disp_path») ≡ ok 0) (sym e) r) kept os
     where

@@ -12,13 +12,14 @@ use Rattle.disp_structs.specs.Listed.{listed}
 use Rattle.disp_structs.specs.Train.{Train}
 use Rattle.disp_structs.specs.declared.EstType.the-variants.{Arrive, Fake}
 use Rattle.est_times.specs.Cycles.{follow, via, reach, firstAt}
-use Rattle.image.specs.Image.{pathCount, typeOf, pathHeader, estFrom, nodeFrom, divergeFrom, putEst, putNode, putDiverge, zeroWords, putPathHeader}
-use Rattle.image.specs.Codec.{decoded, putEach, putRecords, storedInto, putSize, putOffsets, putDists, constantInto, encodedInto, encoded}
-use Rattle.image_fault.specs.ImageFault.{firstUnfit, countsFit, partsFit, trainFits, estTypeFits, nodeTypeFits, zeroWord, unusedZero, recordsFit, imageFits, floatFits, timeFits, distFits, eventFits, estLinksFit, estFits, nodeFits, indicesFit, headerFits, valueFault, cycleFault, stepsTo, comesFrom, endsAt, arrivesOn, arrived, firstArrival, onRoute, innerFits, divergeFits, routeFault, imageFault}
+use Rattle.image.specs.Fields.{divergeWords}
+use Rattle.image.specs.Image.{pathCount, typeOf, isWide, largestOf, pathHeader, estFrom, nodeFrom, divergeFrom, putEst, putNode, putDiverge, zeroWords, putPathHeader}
+use Rattle.image.specs.Codec.{decoded, putEach, putRecords, putChanges, putSize, putOffsets, putDists, constantInto, encodedInto, encoded}
+use Rattle.image_fault.specs.ImageFault.{firstUnfit, countsFit, partsFit, trainFits, estTypeFits, nodeTypeFits, divergeSpareFits, zeroWord, unusedZero, recordsFit, imageFits, floatFits, timeFits, distFits, eventFits, estLinksFit, estFits, nodeFits, indicesFit, headerFits, divergeTrainFits, trainsFault, valueFault, cycleFault, stepsTo, comesFrom, endsAt, arrivesOn, arrived, firstArrival, onRoute, innerFits, divergeFits, routeFault, faultWith}
 use Rattle.link_rules.specs.Refusals.{noRefusal, refused}
 use Rattle.update_definition.specs.Update.{Success}
 use Rattle.update_laws.specs.Build.{train, metres, est, node, dive, everything}
-use Rattle.update_definition.specs.UpdateImage.{UpdatedImage, linksBelow, callFault, updateFault, updatedImage}
+use Rattle.update_definition.specs.UpdateImage.{UpdatedImage, linksBelow, callFault, updateFaultIn, updateFault, updatedImageIn, updatedImage}
 use Rattle.track_profile.specs.Profile.{unitsOf, inProfile, offsetAt, imageInProfile, profileFault}
 use Rattle.track_profile.specs.ExactSteps.{namesNext, namesAlt}
 
@@ -51,7 +52,7 @@ track direct first second joins last =
     }
 
 unfoldable updated : Train → UpdatedImage
-updated t = updatedImage (encoded t) (0 ∷ 2 ∷ 0 ∷ 0 ∷ 0 ∷ []) (1 ∷ []) 2 false 5
+updated t = updatedImage (encoded false t) (0 ∷ 2 ∷ 0 ∷ 0 ∷ 0 ∷ []) (1 ∷ []) 2 false 5
 
 -- the offsets of an image in 1/1024 metre
 unfoldable offsets : List ℕ → List ℕ
@@ -59,7 +60,7 @@ offsets bs = listed (pathCount bs) (λ i. unitsOf (offsetAt bs i))
 
 -- what the two compute with
 unfoldable computed : ℕ
-unfolding everything track updated offsets le lt eq ne leAt putLe allBelow realOf bitsOf listed follow via reach firstAt typeOf pathHeader estFrom nodeFrom divergeFrom putEst putNode putDiverge zeroWords putPathHeader decoded putEach putRecords storedInto putSize putOffsets putDists constantInto encodedInto encoded firstUnfit countsFit partsFit trainFits estTypeFits nodeTypeFits zeroWord unusedZero recordsFit imageFits floatFits timeFits distFits eventFits estLinksFit estFits nodeFits indicesFit headerFits valueFault cycleFault stepsTo comesFrom endsAt arrivesOn arrived firstArrival onRoute innerFits divergeFits routeFault imageFault linksBelow callFault updateFault updatedImage unitsOf inProfile imageInProfile profileFault
+unfolding everything track updated offsets le lt eq ne leAt putLe allBelow realOf bitsOf listed follow via reach firstAt typeOf pathHeader estFrom nodeFrom isWide divergeWords largestOf divergeFrom putEst putNode putDiverge zeroWords putPathHeader decoded putEach putRecords putChanges putSize putOffsets putDists constantInto encodedInto encoded firstUnfit countsFit partsFit trainFits estTypeFits nodeTypeFits divergeSpareFits zeroWord unusedZero recordsFit imageFits floatFits timeFits distFits eventFits estLinksFit estFits nodeFits indicesFit headerFits divergeTrainFits trainsFault valueFault cycleFault stepsTo comesFrom endsAt arrivesOn arrived firstArrival onRoute innerFits divergeFits routeFault faultWith linksBelow callFault updateFaultIn updatedImageIn unitsOf inProfile imageInProfile profileFault
 computed = 0
 
 -- ---- 100 metres over link 1, 100 and 100 over the siding
@@ -67,7 +68,7 @@ computed = 0
 unfoldable short : Train
 short = track 0x4059_0000_0000_0000 0x4059_0000_0000_0000 0x4059_0000_0000_0000 0x4059_0000_0000_0000 0x4059_0000_0000_0000
 
-short-before : profileFault (encoded short) ≡ noRefusal
+short-before : profileFault (encoded false short) ≡ noRefusal
 unfolding computed short
 short-before = refl
 
@@ -89,12 +90,12 @@ short-steps = refl
 unfoldable long : Train
 long = track 0x40d3_a100_0000_0000 0x40d3_8800_0000_0000 0x40e3_8800_0000_0000 0x40d3_a100_0000_0000 0x40d3_a100_1000_0000
 
-long-before : profileFault (encoded long) ≡ noRefusal
+long-before : profileFault (encoded false long) ≡ noRefusal
 unfolding computed long
 long-before = refl
 
 -- at 20,100 metres and 1/1024 more, not near
-long-apart : nearFloat (offsetAt (encoded long) 2) (offsetAt (encoded long) 3) ≡ false
+long-apart : nearFloat (offsetAt (encoded false long) 2) (offsetAt (encoded false long) 3) ≡ false
 unfolding computed long
 long-apart = refl
 

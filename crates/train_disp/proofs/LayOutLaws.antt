@@ -16,6 +16,7 @@ use Rattle.disp_structs.specs.Values.{noEst, sameEst, within}
 use Rattle.disp_structs.specs.declared.Metres.{Metres}
 use Rattle.disp_structs.specs.declared.EstTime.{EstTime}
 use Rattle.disp_structs.specs.declared.DispNode.{DispNode}
+use Rattle.image.specs.Fields.{divergeWords}
 use Rattle.image.specs.Image.{estCount, nodePlace, imageSize, estFrom, putNode}
 use Rattle.image.specs.Codec.{putEach}
 use Rattle.train_disp.specs.TrainDisp.{newNode, offsetBehind, walkNext, withHeader, withEst, putNodes, sizesFit, allWithin, trainFault, sizeFault, layOutFault, laid, laidBy}
@@ -130,6 +131,12 @@ walk-few sums est (suc k) e o = go (sameEst (estFrom est (32 * e) .«idx_next»)
     go true h = omega arith
     go false h = omega arith
 
+-- ---- a narrow image
+
+pub narrow-size : (e q : ℕ) → imageSize false e q ≡ 64 + 64 * e + 4 * q
+unfolding divergeWords
+narrow-size e q = omega arith
+
 -- ---- what the sizes give
 
 -- 6 of the sizes
@@ -140,7 +147,7 @@ pub record SizesFit (n : ℕ) (o : Settings) (size : ℕ) : Type 0 where
   pub some-room : 2 ≤ o .«diverge_room»
   pub few-room : o .«diverge_room» ≤ 1024
   pub few-links : o .links ≤ 4000
-  pub size-is : size ≡ imageSize (n / 32) (o .«diverge_room»)
+  pub size-is : size ≡ 64 + 64 * (n / 32) + 4 * o .«diverge_room»
 
 pub sizes-fit : (n : ℕ) (o : Settings) (size : ℕ) → sizesFit n o size ≡ true → SizesFit n o size
 unfolding sizesFit
@@ -159,7 +166,7 @@ sizes-fit n o size h =
       some-room = leb-true 2 (o .«diverge_room») (d .0);
       few-room = leb-true (o .«diverge_room») 1024 (f .0);
       few-links = leb-true (o .links) 4000 (k .0);
-      size-is = eqb-true size (imageSize (n / 32) (o .«diverge_room»)) (k .1);
+      size-is = eqb-true size (imageSize false (n / 32) (o .«diverge_room»)) (k .1) ∙ narrow-size (n / 32) (o .«diverge_room»);
     }
 
 pub sizes-give : (n : ℕ) (o : Settings) (size : ℕ) → sizesFit n o size ≡ true → Sized n o size

@@ -15,7 +15,7 @@ use Rattle.disp_structs.specs.declared.DivergeNode.{DivergeNode}
 use Rattle.disp_structs.specs.Listed.{listed}
 use Rattle.disp_structs.specs.Train.{Train}
 use Rattle.link_rules.specs.LinkIdx.{noTrain, wideTrain}
-use Rattle.image.specs.Image.{nodePlace, divergePlace, imageSize, estFrom, putNode}
+use Rattle.image.specs.Image.{nodePlace, divergeOffset, divergePlace, imageSize, estFrom, putNode}
 use Rattle.image.specs.Fields.{sizeField, estCountField, pathCountField, divergeCountField, divergeRoomField, estOffsetField, pathOffsetField, divergeOffsetField, trainField, searchField, fixedMaxField, divergeNodeField, putField, putIn}
 use Rattle.image.specs.Codec.{putEach}
 use Rattle.image_fault.specs.ImageFault.{imageFault}
@@ -80,7 +80,7 @@ newTrain est o =
       divergeRoom = o .«diverge_room»;
     }
 
--- ---- the image over zero bytes
+-- ---- the image over zero bytes, a narrow one (document 02, Q-6)
 
 -- a distance setting's pattern; of a NaN a NaN's, which 7 refuses
 unfoldable pub settingBits : Float → ℕ
@@ -93,12 +93,12 @@ withHeader e o bs =
     (putField fixedMaxField (settingBits (o .«dist_fixed_max» .0))
     (putField searchField (settingBits (o .«dist_disp_path_search» .0))
     (putField trainField (o .«train_idx» .0)
-    (putField divergeOffsetField (64 + 64 * e)
+    (putField divergeOffsetField (divergeOffset e)
     (putField pathOffsetField (64 + 32 * e)
     (putField estOffsetField 64
     (putField divergeRoomField (o .«diverge_room»)
     (putField divergeCountField 2
-    (putField sizeField (imageSize e (o .«diverge_room»)) bs)))))))))
+    (putField sizeField (imageSize false e (o .«diverge_room»)) bs)))))))))
 
 -- the est records as they are
 unfoldable pub withEst : (est bs : List ℕ) → List ℕ
@@ -110,7 +110,7 @@ putNodes = putEach putNode 32
 
 -- N, and the ending diverge node (0, N) behind the starting one (0, 0) (168-173)
 unfoldable pub withEnds : (e n : ℕ) (bs : List ℕ) → List ℕ
-withEnds e n bs = putIn divergeNodeField n (divergePlace e 1) (putField pathCountField n bs)
+withEnds e n bs = putIn (divergeNodeField false) n (divergePlace false e 1) (putField pathCountField n bs)
 
 -- size bytes
 unfoldable pub laidImage : (sums : Bool) (est : List ℕ) (o : Settings) (size : ℕ) → List ℕ
@@ -130,7 +130,7 @@ unfoldable pub sizesFit : (n : ℕ) (o : Settings) (size : ℕ) → Bool
 sizesFit n o size =
     eqb (n % 32) 0 && (leb 1 (n / 32) && (leb (n / 32) 512
     && (leb 2 (o .«diverge_room») && (leb (o .«diverge_room») 1024
-    && (leb 2 (o .links) && (leb (o .links) 4000 && eqb size (imageSize (n / 32) (o .«diverge_room»))))))))
+    && (leb 2 (o .links) && (leb (o .links) 4000 && eqb size (imageSize false (n / 32) (o .«diverge_room»))))))))
 
 abbrev pub sizeFault : (est : List ℕ) (o : Settings) (size : ℕ) → Refusal
 sizeFault est o size = refusedUnless (sizesFit (length est) o size) 6

@@ -233,7 +233,7 @@ fn put_ends(img: &mut [u8], e: u32, n: u32)
     ensures { λ _. ⌜ now (img .exit) ≡ withEnds e n (now (img .entry)) ⌝ }
 {
     octets::put_u32(img, 8, n);
-    octets::put_u16(img, codec::diverge_place(e, 1) + 2, n as u16);
+    octets::put_u16(img, codec::diverge_place(false, e, 1) + 2, n as u16);
 }
 
 // No stored offset is beyond 1e12 in magnitude.

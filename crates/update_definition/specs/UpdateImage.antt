@@ -6,8 +6,11 @@ use lib.Dec.{ltb, leb, eqb}
 use lib.ListN.{length}
 use Rattle.link_rules.specs.declared.link_idx.LinkIdx.{LinkIdx}
 use Rattle.disp_structs.specs.Train.{Train}
+use Rattle.image.specs.Image.{largestTrain}
 use Rattle.image.specs.Codec.{decoded, storedInto}
-use Rattle.image_fault.specs.ImageFault.{lengthFault, imageFault}
+use Rattle.image_fault.specs.ImageFault.{lengthFault, faultWith}
+use Rattle.image_fault.specs.declared.Widths.{Widths}
+use Rattle.image_fault.specs.declared.Widths.the-variants.{Narrow, Either}
 use Rattle.link_rules.specs.Refusals.{noRefusal, refused, refusedUnless, orElse}
 use Rattle.link_rules.specs.declared.refusal.Refusal.{Refusal}
 use Rattle.tally.specs.Tally.{started}
@@ -39,6 +42,18 @@ callFault occ blocking moved limit =
     (orElse (blockingFault (length occ) blocking)
     (orderFault moved limit))
 
+-- ---- 22 (document 02, Q-6), in a call that takes images of either width
+
+-- no entry is above top
+unfoldable pub entriesUpTo : (top : ℕ) (occ : List ℕ) → Bool
+entriesUpTo top [] = true
+entriesUpTo top (t ∷ ts) = leb t top && entriesUpTo top ts
+
+-- an entry of the occupancy, or the moved train, is above the largest train of the image
+abbrev pub givenFault : Widths → (img occ : List ℕ) (moved : ℕ) → Refusal
+givenFault Narrow img occ moved = noRefusal
+givenFault Either img occ moved = refusedUnless (entriesUpTo (largestTrain img) occ && leb moved (largestTrain img)) 22
+
 -- ---- the update
 
 -- a refusal leaves the image, every other answer stores the train
@@ -63,13 +78,24 @@ answerBy (suc n) f u img = refusedAnswer f img
 abbrev pub linkIdxs : List ℕ → List LinkIdx
 linkIdxs blocking = map (λ (n : ℕ). record { 0 = n }) blocking
 
--- refusals 2 to 9 of the call and of the image
-unfoldable pub updateFault : List ℕ → List ℕ → List ℕ → ℕ → ℕ → Refusal
-updateFault img occ blocking moved limit = orElse (callFault occ blocking moved limit) (imageFault img (length occ))
+-- refusals 2 to 9 of the call and of the image, and 22, in a call that takes the widths w
+unfoldable pub updateFaultIn : Widths → List ℕ → List ℕ → List ℕ → ℕ → ℕ → Refusal
+updateFaultIn w img occ blocking moved limit = orElse (callFault occ blocking moved limit) (faultWith w (givenFault w img occ moved) img (length occ))
 
 -- the image, the occupancy, the blocking list, the moved train, local, the round limit; 10 to 13 are those of updateFreePath
-unfoldable pub updatedImage : List ℕ → List ℕ → List ℕ → ℕ → Bool → ℕ → UpdatedImage
-updatedImage img occ blocking moved local limit =
-    let f = updateFault img occ blocking moved limit in
+unfoldable pub updatedImageIn : Widths → List ℕ → List ℕ → List ℕ → ℕ → Bool → ℕ → UpdatedImage
+updatedImageIn w img occ blocking moved local limit =
+    let f = updateFaultIn w img occ blocking moved limit in
     let u = updateFreePath occ (linkIdxs blocking) (record { 0 = moved }) local limit (decoded img) in
     answerBy (f .number) f u img
+
+-- over an occupancy of u16 entries: narrow images alone (document 01)
+abbrev pub updateFault : List ℕ → List ℕ → List ℕ → ℕ → ℕ → Refusal
+updateFault img occ blocking moved limit = updateFaultIn Narrow img occ blocking moved limit
+
+abbrev pub updatedImage : List ℕ → List ℕ → List ℕ → ℕ → Bool → ℕ → UpdatedImage
+updatedImage img occ blocking moved local limit = updatedImageIn Narrow img occ blocking moved local limit
+
+-- over one of u32 entries: images of either width (document 02, Q-6)
+abbrev pub updatedImageWide : List ℕ → List ℕ → List ℕ → ℕ → Bool → ℕ → UpdatedImage
+updatedImageWide img occ blocking moved local limit = updatedImageIn Either img occ blocking moved local limit

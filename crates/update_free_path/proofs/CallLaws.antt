@@ -9,14 +9,15 @@ use Rattle.disp_structs.specs.declared.DispNode.{DispNode}
 use Rattle.image.specs.Image.{estCount, divergeRoom, nodeAt, pathHeader}
 use Rattle.image.specs.Codec.{decoded}
 use Rattle.image.specs.declared.codec.PathHeader.{PathHeader}
-use Rattle.image_fault.specs.ImageFault.{imageFault}
+use Rattle.image_fault.specs.declared.Widths.{Widths}
 use Rattle.link_rules.specs.Refusals.{refused}
 use Rattle.link_rules.specs.declared.refusal.Refusal.{Refusal}
-use Rattle.image_fault.proofs.AcceptLaws.{or-else-clean}
+use Rattle.image_fault.proofs.AcceptLaws.{either-accepted}
 use Rattle.free_path.specs.Base.{Res, at}
 use Rattle.free_path.proofs.ColumnLaws.{listed-out}
 use Rattle.update_definition.specs.Update as Update
-use Rattle.update_definition.specs.UpdateImage.{UpdatedImage, callFault, linkIdxs, updateFault, updatedImage, storedAnswer, refusedAnswer, answerBy}
+use Rattle.update_definition.specs.UpdateImage.{UpdatedImage, linkIdxs, updateFaultIn, updatedImageIn, storedAnswer, refusedAnswer, answerBy}
+use Rattle.update_laws.proofs.UpdateClean.{UpdateClean, update-clean}
 use Rattle.update_free_path.proofs.FaultLaws.{call-links}
 use Rattle.splice.specs.Read.{Kept}
 use Rattle.splice.proofs.NodeLaws.{kept-count, kept-le}
@@ -27,12 +28,12 @@ use Rattle.update_free_path.specs.declared.start.Args.{Args}
 pub kept-sizes : (img was image : List ℕ) → was ≡ image → Kept img was → (estCount image ≡ estCount img) × (divergeRoom image ≡ divergeRoom img)
 kept-sizes img was image e k = (ap estCount (sym e) ∙ sym (kept-count img was k), ap divergeRoom (sym e) ∙ sym (kept-le img was k 4 16 (omega arith)))
 
-module _ (img occ blocking : List ℕ) (o : Args) (f : Refusal) (e : f ≡ updateFault img occ blocking (o .moved .0) (o .limit)) where
+module _ (w : Widths) (img occ blocking : List ℕ) (o : Args) (f : Refusal) (e : f ≡ updateFaultIn w img occ blocking (o .moved .0) (o .limit)) where
   abbrev whole : UpdatedImage
-  whole = updatedImage img occ blocking (o .moved .0) (o .local) (o .limit)
+  whole = updatedImageIn w img occ blocking (o .moved .0) (o .local) (o .limit)
 
   by-fault : answerBy (f .number) f (updateOf img occ blocking o) img ≡ whole
-  unfolding updatedImage
+  unfolding updatedImageIn
   by-fault = ap (λ (x : Refusal). answerBy (x .number) x (updateOf img occ blocking o) img) e
 
   -- refused by 2 to 9
@@ -43,7 +44,7 @@ module _ (img occ blocking : List ℕ) (o : Args) (f : Refusal) (e : f ≡ updat
       go zero q = absurd (q refl)
       go (suc n) q = refl
 
-  pub judged-refused : (f .number ≡ 0 → ⊥) → Judged f img occ blocking o
+  pub judged-refused : (f .number ≡ 0 → ⊥) → Judged w f img occ blocking o
   judged-refused q = record { refused = refused-before; begins = λ z. absurd (q z); goes = λ z. absurd (q z) }
 
   module _ (q : f .number ≡ 0) where
@@ -59,15 +60,14 @@ module _ (img occ blocking : List ℕ) (o : Args) (f : Refusal) (e : f ≡ updat
           (sym (listed-out (h .«path_count») (nodeAt img) (h .free) l) ∙ ap (λ (x : PathHeader). at (listed (x .«path_count») (nodeAt img)) (x .free)) r)
           ∙ not-refused
 
-      clean : (callFault occ blocking (o .moved .0) (o .limit) .number ≡ 0) × (imageFault img (length occ) .number ≡ 0)
-      unfolding updateFault
-      clean = or-else-clean (callFault occ blocking (o .moved .0) (o .limit)) (imageFault img (length occ)) (ap (λ (x : Refusal). x .number) (sym e) ∙ q)
+      clean : UpdateClean w img occ blocking (o .moved .0) (o .limit)
+      clean = update-clean w img occ blocking (o .moved .0) (o .limit) (ap (λ (x : Refusal). x .number) (sym e) ∙ q)
 
       pub begins : h .free < h .«path_count» → UpdateBegins img occ h
-      begins l = record { fault = clean .1; few = call-links occ blocking (o .moved .0) (o .limit) (clean .0) .1; header = r; free = l }
+      begins l = record { fault = either-accepted w img (length occ) (clean .image); few = call-links occ blocking (o .moved .0) (o .limit) (clean .call) .1; header = r; free = l }
 
-      pub judged-ten : h .«path_count» ≤ h .free → Judged (refused 10 0) img occ blocking o
+      pub judged-ten : h .«path_count» ≤ h .free → Judged w (refused 10 0) img occ blocking o
       judged-ten l = record { refused = λ _. refused-ten l; begins = λ z. absurd (omega (arith, z)); goes = λ z. absurd (omega (arith, z)) }
 
-      pub judged-fine : h .free < h .«path_count» → Judged f img occ blocking o
+      pub judged-fine : h .free < h .«path_count» → Judged w f img occ blocking o
       judged-fine l = record { refused = refused-before; begins = λ _. subst (UpdateBegins img occ) r (begins l); goes = λ _. not-refused }

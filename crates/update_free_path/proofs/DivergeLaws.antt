@@ -12,9 +12,12 @@ use Rattle.disp_structs.specs.Listed.{listed}
 use Rattle.disp_structs.specs.declared.DivergeNode.{DivergeNode}
 use Rattle.disp_structs.proofs.ListedLaws.{listed-same}
 use Rattle.free_path.specs.Columns.{divAt}
-use Rattle.image.specs.Image.{estCount, pathCount, divergeCount, divergeRoom, nodePlace, divergeAt, pathHeader}
+use Rattle.image.specs.Image.{estCount, pathCount, divergeCount, divergeRoom, isWide, nodePlace, divergeAt, pathHeader}
 use Rattle.image.specs.Codec.{decoded}
-use Rattle.image_fault.specs.ImageFault.{imageFault}
+use Rattle.image.proofs.WidthLaws.{words-twice}
+use Rattle.link_rules.specs.Refusals.{noRefusal}
+use Rattle.image_fault.specs.ImageFault.{faultWith}
+use Rattle.image_fault.specs.declared.Widths.the-variants.{Either}
 use Rattle.image_fault.proofs.AcceptLaws as Clean
 use Rattle.splice.specs.Read.{trainOf}
 use Rattle.update_definition.specs.State.{withDivNodes}
@@ -77,10 +80,11 @@ start-fits top img moved f h = record { ests = f .ests; nodes = f .nodes; divs =
 -- ---- the bytes of an accepted image
 
 -- what they give the code
-pub accepted-size : (bs : List ℕ) (l : ℕ) → imageFault bs l .number ≡ 0 → Bytes bs
-    → (nodePlace (estCount bs) (estCount bs) ≤ length bs) × (length bs ≤ 36928) × (estCount bs ≤ 512) × (divergeRoom bs ≤ 1024) × (2 ≤ divergeCount bs) × (divergeCount bs ≤ divergeRoom bs) × (1 ≤ pathCount bs) × (pathCount bs ≤ estCount bs)
+pub accepted-size : (bs : List ℕ) (l : ℕ) → faultWith Either noRefusal bs l .number ≡ 0 → Bytes bs
+    → (nodePlace (estCount bs) (estCount bs) ≤ length bs) × (length bs ≤ 41024) × (estCount bs ≤ 512) × (divergeRoom bs ≤ 1024) × (2 ≤ divergeCount bs) × (divergeCount bs ≤ divergeRoom bs) × (1 ≤ pathCount bs) × (pathCount bs ≤ estCount bs)
 accepted-size bs l h b =
-    let a = Clean.accepted bs l h in
+    let a = Clean.accepted-in Either bs l h in
+    let n = words-twice (isWide bs) (divergeRoom bs) in
     let c = Clean.fits-counts bs (a .fits) in
     let g = Clean.good-image bs (a .fits) l (a .values) b in
     (omega (arith, g .long), omega (arith, g .long, c .few-est, c .few-room), c .few-est, c .few-room, c .some-diverge, c .few-diverge, c .some-path, c .few-path)

@@ -1,8 +1,8 @@
 -- The first round of an update: its train is accepted, and the loop from there is the update of the image's train. Assumes nothing.
 use mathlib.Core.Path.{_≡_, refl, sym, ap, ap₂, subst, _∙_}
-use mathlib.Core.Bool.{Bool, false, cond}
+use mathlib.Core.Bool.{Bool, true, false, cond}
 use mathlib.Core.List.{List}
-use Prim.Native.Nat.{ℕ, _-_, _≤_}
+use Prim.Native.Nat.{ℕ, _+_, _*_, _-_, _≤_}
 use native.Mathlib.Omega.{arith}
 use lib.ListN.{length, drop, replicate}
 use Rattle.link_rules.specs.LinkIdx.{noTrain}
@@ -12,7 +12,9 @@ use Rattle.link_rules.proofs.OctetLaws.{Bytes}
 use Rattle.disp_structs.specs.Listed.{listed}
 use Rattle.disp_structs.specs.Train.{Train}
 use Rattle.disp_structs.specs.declared.DispNode.{DispNode}
-use Rattle.image.specs.Image.{largestTrain, divergeCount, divergeAt, nodeAt, pathHeader, divergeRoom, estCount, imageSize}
+use Rattle.image.specs.Image.{largestOf, largestTrain, isWide, divergeCount, divergeAt, nodeAt, pathHeader, divergeRoom, estCount}
+use Rattle.image.proofs.WidthLaws.{words-twice}
+use Rattle.image_fault.specs.declared.Widths.the-variants.{Either}
 use Rattle.image_fault.proofs.AcceptLaws as Clean
 use Rattle.image.specs.Codec.{decoded}
 use Rattle.image.specs.declared.codec.PathHeader.{PathHeader}
@@ -46,6 +48,15 @@ use Rattle.update_free_path.specs.declared.rounds.Stop.{Stop}
 use Rattle.update_free_path.specs.declared.rounds.Stop.the-variants as Stops
 use Rattle.update_free_path.proofs.RoundsLaws.{strays-are, due-same}
 
+-- a column of u32 entries holds the trains of every image
+low-of : (wide : Bool) → largestOf wide ≤ 999999
+unfolding largestOf
+low-of true = omega arith
+low-of false = omega arith
+
+pub largest-low : (img : List ℕ) → largestTrain img ≤ 999999
+largest-low img = low-of (isWide img)
+
 -- the status of what the rounds end with
 status-ran : (stop : Stop) (f : Res ℕ) (tally : Tally) (was t : Train) → ranBy stop f tally was t .answer .status ≡ statusBy stop f
 unfolding Update.finish
@@ -62,10 +73,10 @@ by-met Stops.Ended f tally was t x y q = ap (λ (z : TrainIdx). Update.meets z (
 
 module _ (img occ : List ℕ) (h : PathHeader) (b : UpdateBegins img occ h) (bytes : Bytes img) where
   good : Accepted (length occ) (decoded img)
-  good = bytes-accepted img (length occ) bytes (b .fault) .0
+  good = bytes-accepted Either img (length occ) bytes (b .fault) .0
 
   fitting : (top : ℕ) → largestTrain img ≤ top → Fits top (decoded img)
-  fitting top high = fits-higher (largestTrain img) top high (decoded img) (bytes-accepted img (length occ) bytes (b .fault) .1)
+  fitting top high = fits-higher (largestTrain img) top high (decoded img) (bytes-accepted Either img (length occ) bytes (b .fault) .1)
 
   pub begin-size : (1 ≤ h .«diverge_count») × (h .«diverge_count» ≤ divergeRoom img)
   unfolding pathHeader
@@ -75,11 +86,11 @@ module _ (img occ : List ℕ) (h : PathHeader) (b : UpdateBegins img occ h) (byt
       (omega (arith, z .4), omega (arith, z .5))
 
   -- its length and the numbers by which it has room
-  pub begin-long : (length img ≡ imageSize (estCount img) (divergeRoom img)) × (estCount img ≤ 512) × (divergeRoom img ≤ 1024)
+  pub begin-long : (length img ≤ 64 + 64 * estCount img + 8 * divergeRoom img) × (estCount img ≤ 512) × (divergeRoom img ≤ 1024)
   begin-long =
-      let a = Clean.accepted img (length occ) (b .fault) in
+      let a = Clean.accepted-in Either img (length occ) (b .fault) in
       let c = Clean.fits-counts img (a .fits) in
-      (Clean.good-image img (a .fits) (length occ) (a .values) bytes .long, c .few-est, c .few-room)
+      (omega (arith, Clean.good-image img (a .fits) (length occ) (a .values) bytes .long, words-twice (isWide img) (divergeRoom img)), c .few-est, c .few-room)
 
   path-is : pathOf img (h .«path_count») ≡ decoded img .«disp_path»
   unfolding decoded pathHeader

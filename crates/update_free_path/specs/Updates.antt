@@ -13,8 +13,10 @@ use Rattle.disp_structs.specs.Train.{Train}
 use Rattle.disp_structs.specs.Values.{minus}
 use Rattle.image.specs.Image.{estCount, divergeRoom, nodeAt, distFixedMax, pathHeader}
 use Rattle.image.specs.Codec.{decoded}
-use Rattle.image_fault.specs.ImageFault.{imageFault}
-use Rattle.link_rules.specs.Refusals.{refused}
+use Rattle.image_fault.specs.ImageFault.{faultWith}
+use Rattle.image_fault.specs.declared.Widths.{Widths}
+use Rattle.image_fault.specs.declared.Widths.the-variants.{Either}
+use Rattle.link_rules.specs.Refusals.{noRefusal, refused}
 use Rattle.link_rules.specs.declared.refusal.Refusal.{Refusal}
 use Rattle.image.specs.declared.codec.PathHeader.{PathHeader}
 use Rattle.free_path.specs.Base.{Res, ok, no}
@@ -22,7 +24,7 @@ use Rattle.free_path.specs.Columns.{link, links, linkAt, flagged}
 use Rattle.free_path.specs.LinkOptType.{contains, linkIdxPath, linkOptType}
 use Rattle.free_path.specs.Validate.{known, validateFreePath}
 use Rattle.update_definition.specs.Update as Update
-use Rattle.update_definition.specs.UpdateImage.{UpdatedImage, linkIdxs, updatedImage, storedAnswer, refusedAnswer}
+use Rattle.update_definition.specs.UpdateImage.{UpdatedImage, linkIdxs, updatedImageIn, storedAnswer, refusedAnswer}
 use Rattle.validate.specs.Paths.{estsOf}
 use Rattle.search.specs.Read.{pathOf}
 use Rattle.splice.specs.Read.{trainOf, Kept}
@@ -204,6 +206,10 @@ pub record RoundsEnded (occ flags : List ℕ) (g : Given) (limit : ℕ) (img₀ 
 
 -- ---- the first round
 
+-- the greater of two numbers
+abbrev pub greaterOf : ℕ → ℕ → ℕ
+greaterOf a b = cond (ltb a b) b a
+
 -- the largest train that a column of u32 entries holds
 abbrev pub columnTop : ℕ
 columnTop = 2 ^ 32 - 1
@@ -223,7 +229,7 @@ givenAt img blocking flags o free =
 
 -- a call that is not refused before the first round
 pub record UpdateBegins (img occ : List ℕ) (h : PathHeader) : Type 0 where
-  pub fault : imageFault img (length occ) .number ≡ 0
+  pub fault : faultWith Either noRefusal img (length occ) .number ≡ 0
   pub few : length occ ≤ 4000
   pub header : h ≡ pathHeader img
   pub free : h .free < h .«path_count»
@@ -240,10 +246,10 @@ abbrev pub updateOf : List ℕ → List ℕ → List ℕ → Args → Update.Upd
 updateOf img occ blocking o = Update.updateFreePath occ (linkIdxs blocking) (o .moved) (o .local) (o .limit) (decoded img)
 
 -- what is asked before the first round: refused as the update is, else an update that begins
-pub record Judged (f : Refusal) (img occ blocking : List ℕ) (o : Args) : Type 0 where
-  pub refused : (f .number ≡ 0 → ⊥) → refusedAnswer f img ≡ updatedImage img occ blocking (o .moved .0) (o .local) (o .limit)
+pub record Judged (w : Widths) (f : Refusal) (img occ blocking : List ℕ) (o : Args) : Type 0 where
+  pub refused : (f .number ≡ 0 → ⊥) → refusedAnswer f img ≡ updatedImageIn w img occ blocking (o .moved .0) (o .local) (o .limit)
   pub begins : f .number ≡ 0 → UpdateBegins img occ (pathHeader img)
-  pub goes : f .number ≡ 0 → storedAnswer (updateOf img occ blocking o) img ≡ updatedImage img occ blocking (o .moved .0) (o .local) (o .limit)
+  pub goes : f .number ≡ 0 → storedAnswer (updateOf img occ blocking o) img ≡ updatedImageIn w img occ blocking (o .moved .0) (o .local) (o .limit)
 
 -- its rounds have ended with x
 pub record Finished (img₀ occ blocking : List ℕ) (o : Args) (img dt dn : List ℕ) (x : Ran) : Type 0 where

@@ -1,21 +1,26 @@
-// The parts of an update's call around its loop over rounds: refusals 2 to 9, and what the first round finds (free_path.rs 252-275).
+// The parts of an update's call around its loop over rounds: refusals 2 to 9 and 22, and what the first round finds (free_path.rs 252-275).
 // Of its functions only call_fault, which a check asks too, is public.
 ghost use mathlib.Core.Path.{_≡_};
-ghost use mathlib.Core.Bool.{cond, _||_};
+ghost use mathlib.Core.Bool.{cond, _&&_, _||_};
 ghost use mathlib.Core.List.{List};
 ghost use Prim.Native.Nat.{ℕ, _^_, _≤_, _<_};
-ghost use lib.Dec.{eqb};
+ghost use lib.Dec.{leb, eqb};
 ghost use lib.ListN.{length};
 ghost use Rattle.disp_structs.specs.Listed.{listed};
 ghost use Rattle.disp_structs.specs.Values.{minus};
 ghost use Rattle.free_path.specs.Columns.{divAt};
-ghost use Rattle.image.specs.Image.{divergeAt, nodeAt, distFixedMax};
+ghost use Rattle.image.specs.Image.{largestTrain, divergeAt, nodeAt, distFixedMax};
 ghost use Rattle.link_rules.specs.Refusals.{noRefusal, refused};
 ghost use Rattle.update_definition.specs.Update.{adjustSentinel};
-ghost use Rattle.update_definition.specs.UpdateImage.{linksBelow, callFault, updateFault};
+ghost use Rattle.update_definition.specs.UpdateImage.{linksBelow, callFault, entriesUpTo, givenFault, updateFaultIn};
+ghost use Rattle.image_fault.specs.declared.Widths.the-variants.{Either};
+ghost use Rattle.update_free_path.specs.Updates.{greaterOf};
+use crate::start::Args;
 use disp_structs::Metres;
 use image::codec;
+use image_fault::Widths;
 use link_rules::link_idx::TrainIdx;
+use link_rules::refusal;
 use link_rules::refusal::Refusal;
 
 // ---- refusals before the first round
@@ -86,21 +91,62 @@ pub fn call_fault(l: usize, blocking: &[u32], moved: TrainIdx, limit: u16) -> Re
     }
 }
 
-// Those of the call, else those of the image.
+fn greater(a: u32, b: u32) -> u32
+    ensures { λ r. ⌜ r ≡ greaterOf a b ⌝ }
+{
+    if a < b {
+        return b;
+    }
+    a
+}
+
+// The greatest of the entries and of moved. All are read, so that the compiler can take many at once.
+fn greatest_train(occ: &[u32], moved: u32) -> u32
+    ensures { λ r. ⌜ ((top : ℕ) → leb r top ≡ (entriesUpTo top (now (occ .entry)) && leb moved top)) ⌝ }
+{
+    let mut t = moved;
+    let mut i = 0;
+    while i < occ.len() {
+        t = greater(t, occ[i]);
+        i += 1;
+    }
+    t
+}
+
+fn largest_train(image: &[u8]) -> u32
+    ensures { λ r. ⌜ r ≡ largestTrain (now (image .entry)) ⌝ }
+{
+    if codec::is_wide(image) {
+        return 999999;
+    }
+    65535
+}
+
+// 22: an entry of the occupancy or the moved train that the image cannot hold, in a call that takes images of either width.
+pub(crate) fn given_fault(image: &[u8], occ: &[u32], moved: TrainIdx) -> Refusal
+    ensures { λ r. ⌜ r ≡ givenFault Either (now (image .entry)) (now (occ .entry)) (moved .0) ⌝ }
+{
+    let t = greatest_train(occ, moved.0);
+    refusal::refused_unless(t <= largest_train(image), 22)
+}
+
+// Those of the call, else those of the image; own is the 22 of the call.
 pub(crate) fn update_fault(
     image: &[u8],
     l: usize,
     blocking: &[u32],
-    moved: TrainIdx,
-    limit: u16,
+    o: Args,
+    w: Widths,
+    own: Refusal,
 ) -> Refusal
-    ensures { λ r. ⌜ ((occ : List ℕ) → length occ ≡ l → r ≡ updateFault (now (image .entry)) occ (now (blocking .entry)) (moved .0) limit) ⌝ }
+    ensures { λ r. ⌜ ((occ : List ℕ) → length occ ≡ l → own ≡ givenFault w (now (image .entry)) occ (o .moved .0) → r ≡ updateFaultIn w (now (image .entry)) occ (now (blocking .entry)) (o .moved .0) (o .limit)) ⌝ }
 {
-    let f = call_fault(l, blocking, moved, limit);
+    let moved = o.moved;
+    let f = call_fault(l, blocking, moved, o.limit);
     if f.number != 0 {
         return f;
     }
-    image_fault::image_fault(image, l as u32)
+    image_fault::fault_with(image, l as u32, w, own)
 }
 
 // ---- what the first round finds

@@ -10,6 +10,7 @@ use answer::Updated;
 use free_path::columns;
 use image::codec;
 use image::codec::PathHeader;
+use image_fault::Widths;
 use link_rules::link_idx::NarrowTrainIdx;
 use link_rules::link_idx::TrainIdx;
 use link_rules::refusal::Refusal;
@@ -19,7 +20,8 @@ ghost use mathlib.Core.List.{List};
 ghost use Prim.Native.Nat.{ℕ, _≤_};
 ghost use lib.ListN.{length};
 ghost use Rattle.image.specs.Image.{estCount, divergeRoom, pathHeader};
-ghost use Rattle.update_definition.specs.UpdateImage.{storedAnswer, updatedImage};
+ghost use Rattle.link_rules.specs.Refusals.{noRefusal};
+ghost use Rattle.update_definition.specs.UpdateImage.{storedAnswer, givenFault, updatedImage, updatedImageWide};
 ghost use Rattle.update_free_path.specs.Updates.{updatedOf, updateOf, UpdateBegins, Space, Judged};
 
 // The update runs on a copy of the image; only one that is not refused changes the image.
@@ -50,7 +52,7 @@ fn update_small(image: &mut [u8], occ: &[u32], blocking: &[u32], o: Args, h: Pat
     requires { ⌜ UpdateBegins (now image) (now occ) h × (estCount (now image) ≤ 64) × (divergeRoom (now image) ≤ 64) × (length (now occ) ≤ 512) ⌝ }
     ensures { λ x. ⌜ updatedOf x (now (image .exit)) ≡ storedAnswer (updateOf (now (image .entry)) (now (occ .entry)) (now (blocking .entry)) o) (now (image .entry)) ⌝ }
 {
-    let mut scratch = [0u8; 4416];
+    let mut scratch = [0u8; 4672];
     let mut col = [0u32; 64];
     let mut on = [0u8; 64];
     let mut flags = [0u8; 512];
@@ -79,7 +81,7 @@ fn update_few(image: &mut [u8], occ: &[u32], blocking: &[u32], o: Args, h: PathH
     requires { ⌜ UpdateBegins (now image) (now occ) h × (estCount (now image) ≤ 64) × (length (now occ) ≤ 512) ⌝ }
     ensures { λ x. ⌜ updatedOf x (now (image .exit)) ≡ storedAnswer (updateOf (now (image .entry)) (now (occ .entry)) (now (blocking .entry)) o) (now (image .entry)) ⌝ }
 {
-    let mut scratch = [0u8; 8256];
+    let mut scratch = [0u8; 12352];
     let mut col = [0u32; 64];
     let mut on = [0u8; 64];
     let mut flags = [0u8; 512];
@@ -108,7 +110,7 @@ fn update_large(image: &mut [u8], occ: &[u32], blocking: &[u32], o: Args, h: Pat
     requires { ⌜ UpdateBegins (now image) (now occ) h ⌝ }
     ensures { λ x. ⌜ updatedOf x (now (image .exit)) ≡ storedAnswer (updateOf (now (image .entry)) (now (occ .entry)) (now (blocking .entry)) o) (now (image .entry)) ⌝ }
 {
-    let mut scratch = [0u8; 36928];
+    let mut scratch = [0u8; 41024];
     let mut col = [0u32; 512];
     let mut on = [0u8; 512];
     let mut flags = [0u8; 4000];
@@ -184,12 +186,18 @@ fn widen_large(image: &mut [u8], occ: &[u16], blocking: &[u32], o: Args) -> Upda
     update_widened(image, occ, &mut wide[..n], blocking, o)
 }
 
-// Refusals 2 and 4 to 10 over l links, else number 0.
-fn start_fault(image: &[u8], l: usize, blocking: &[u32], o: Args) -> Refusal
-    ensures { λ r. ⌜ ((occ : List ℕ) → length occ ≡ l → Judged r (now (image .entry)) occ (now (blocking .entry)) o) ⌝ }
+// Refusals 2, 4 to 10 and 22 over l links, else number 0; own is the 22 of the call.
+fn start_fault(
+    image: &[u8],
+    l: usize,
+    blocking: &[u32],
+    o: Args,
+    w: Widths,
+    own: Refusal,
+) -> Refusal
+    ensures { λ r. ⌜ ((occ : List ℕ) → length occ ≡ l → own ≡ givenFault w (now (image .entry)) occ (o .moved .0) → Judged w r (now (image .entry)) occ (now (blocking .entry)) o) ⌝ }
 {
-    let moved = o.moved;
-    let f = call::update_fault(image, l, blocking, moved, o.limit);
+    let f = call::update_fault(image, l, blocking, o, w, own);
     if f.number != 0 {
         return f;
     }
@@ -203,7 +211,16 @@ fn start_fault(image: &[u8], l: usize, blocking: &[u32], o: Args) -> Refusal
     f
 }
 
-// Updates the train of an image over an occupancy of any trains. Refused by 2 and 4 to 13: then nothing is changed.
+fn no_refusal() -> Refusal
+    ensures { λ r. ⌜ r ≡ noRefusal ⌝ }
+{
+    Refusal {
+        number: 0,
+        place: 0,
+    }
+}
+
+// Updates the train of a narrow image over an occupancy of any trains. Refused by 2 and 4 to 13: then nothing is changed.
 pub fn update_over(
     image: &mut [u8],
     occ: &[u32],
@@ -219,7 +236,7 @@ pub fn update_over(
         local: local,
         limit: limit,
     };
-    let f = start_fault(image, occ.len(), blocking, o);
+    let f = start_fault(image, occ.len(), blocking, o, Widths::Narrow, no_refusal());
     if f.number != 0 {
         return answer::refused(f);
     }
@@ -227,7 +244,32 @@ pub fn update_over(
     update_begun(image, occ, blocking, o, h)
 }
 
-// The same over an occupancy of u16 entries, which is judged by its length and then widened once.
+// Updates the train of an image of either width (document 02, Q-6). Refused by 2, 4 to 13 and 22: then nothing is changed.
+pub fn update_wide(
+    image: &mut [u8],
+    occ: &[u32],
+    blocking: &[u32],
+    moved: TrainIdx,
+    local: bool,
+    limit: u16,
+) -> Updated
+    ensures { λ x. ⌜ updatedOf x (now (image .exit)) ≡ updatedImageWide (now (image .entry)) (now (occ .entry)) (now (blocking .entry)) (moved .0) local limit ⌝ }
+{
+    let o = Args {
+        moved: moved,
+        local: local,
+        limit: limit,
+    };
+    let own = call::given_fault(image, occ, moved);
+    let f = start_fault(image, occ.len(), blocking, o, Widths::Either, own);
+    if f.number != 0 {
+        return answer::refused(f);
+    }
+    let h = codec::path_header(image);
+    update_begun(image, occ, blocking, o, h)
+}
+
+// Updates the train of a narrow image over an occupancy of u16 entries, which is judged by its length and then widened once.
 pub fn update_free_path(
     image: &mut [u8],
     occ: &[u16],
@@ -243,7 +285,7 @@ pub fn update_free_path(
         local: local,
         limit: limit,
     };
-    let f = start_fault(image, occ.len(), blocking, o);
+    let f = start_fault(image, occ.len(), blocking, o, Widths::Narrow, no_refusal());
     if f.number != 0 {
         return answer::refused(f);
     }

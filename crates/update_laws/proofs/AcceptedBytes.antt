@@ -1,7 +1,7 @@
 -- An accepted train within its fields, stored into the image of its trip: the image passes 6 to 9 and holds the train. Assumes nothing.
 use mathlib.Core.Path.{_≡_, refl, sym, ap, subst, _∙_}
 use mathlib.Core.Logic.{⊎-elim}
-use mathlib.Core.Bool.{true, false, not}
+use mathlib.Core.Bool.{Bool, true, false, not}
 use mathlib.Core.List.{List, []}
 use Prim.Native.Nat.{ℕ, zero, suc, _≤_, _<_}
 use native.Mathlib.Nat.{eq-or-lt-of-le}
@@ -19,11 +19,14 @@ use Rattle.disp_structs.proofs.FloatLaws.{reach-number}
 use Rattle.est_times.proofs.Counting.{clash}
 use Rattle.free_path.specs.Base.{ok, at}
 use Rattle.image.specs.Fields.{divergeTrainField, fieldBound}
-use Rattle.image.specs.Image.{largestTrain, estFrom, nodeFrom, divergeFrom}
+use Rattle.image.specs.Image.{isWide, largestOf, largestTrain, estFrom, nodeFrom, zeroDiverge}
 use Rattle.image.specs.Codec.{decoded, storedInto}
+use Rattle.image.proofs.WidthLaws.{largest-held}
 use Rattle.image.proofs.RecordLaws.{EstHeld, NodeHeld, DivergeHeld}
 use Rattle.image.proofs.CodecLaws.{Keeps, Held}
-use Rattle.image_fault.specs.ImageFault.{imageFault}
+use Rattle.link_rules.specs.Refusals.{noRefusal}
+use Rattle.image_fault.specs.ImageFault.{faultWith}
+use Rattle.image_fault.specs.declared.Widths.{Widths}
 use Rattle.image_fault.proofs.ScanLaws.{both}
 use Rattle.image_fault.proofs.AcceptLaws as Clean
 use Rattle.update_definition.specs.Accepted.{Accepted, timeAccepted}
@@ -31,7 +34,8 @@ use Rattle.update_definition.specs.Fits.{Fits}
 use Rattle.update_laws.proofs.Answers.{ok-same}
 use Rattle.update_laws.proofs.Lists.{at-some, at-getD, at-below, last-at}
 use Rattle.update_laws.proofs.AcceptedClean.{good-clean}
-use Rattle.update_laws.proofs.StoredGood.{stored-good, decoded-stored}
+use Rattle.update_laws.proofs.StoredGood.{stored-good, decoded-stored, width-same, w-same}
+use Rattle.update_laws.proofs.BytesAccepted.{fits-higher}
 
 -- ---- floats that are accepted are no NaN
 
@@ -47,7 +51,7 @@ time-number (fin s m e) h = tt
 each-getD : {A : Type 0} (P : A → Type 0) (xs : List A) (d : A) → ((i : ℕ) (x : A) → at xs i ≡ ok x → P x) → (i : ℕ) → i < length xs → P (getD xs i d)
 each-getD P xs d h i l = let w = at-some xs i l in subst P (sym (at-getD xs i d (w .1))) (h i (w .0) (w .1))
 
-module _ (l : ℕ) (few : l ≤ 4000) (top : ℕ) (low : top < fieldBound divergeTrainField) (t : Train) (a : Accepted l t) (f : Fits top t) where
+module _ (l : ℕ) (few : l ≤ 4000) (wide : Bool) (top : ℕ) (low : top < fieldBound (divergeTrainField wide)) (t : Train) (a : Accepted l t) (f : Fits top t) where
   est-held : (i : ℕ) (x : EstTime) → at (t .«est_times») i ≡ ok x → EstHeld x
   est-held i x r =
       let w = a .ests .each i x r in
@@ -86,10 +90,10 @@ module _ (l : ℕ) (few : l ≤ 4000) (top : ℕ) (low : top < fieldBound diverg
       (λ (q : suc (suc i) < length (t .«div_nodes»)). omega (arith, node-few, a .divs .inner (suc i) d (omega arith) q r .high))
       (eq-or-lt-of-le m)
 
-  diverge-held : (i : ℕ) (d : DivergeNode) → at (t .«div_nodes») i ≡ ok d → DivergeHeld d
+  diverge-held : (i : ℕ) (d : DivergeNode) → at (t .«div_nodes») i ≡ ok d → DivergeHeld wide d
   diverge-held i d r = record { train = omega (arith, low, f .divs i d r); node = omega (arith, diverge-node i d (at-below (t .«div_nodes») i r) r) }
 
-  pub held : Held t
+  pub held : Held wide t
   held =
       let n = node-few in
       record {
@@ -98,7 +102,7 @@ module _ (l : ℕ) (few : l ≤ 4000) (top : ℕ) (low : top < fieldBound diverg
         few-room = omega (arith, a .room);
         est = each-getD EstHeld (t .«est_times») (estFrom [] 0) est-held;
         node = each-getD NodeHeld (t .«disp_path») (nodeFrom [] 0) node-held;
-        diverge = each-getD DivergeHeld (t .«div_nodes») (divergeFrom [] 0) diverge-held;
+        diverge = each-getD (DivergeHeld wide) (t .«div_nodes») zeroDiverge diverge-held;
         fixed = omega (arith, a .fixed);
         free = omega (arith, a .free);
         front = omega (arith, a .front);
@@ -111,11 +115,14 @@ module _ (l : ℕ) (few : l ≤ 4000) (top : ℕ) (low : top < fieldBound diverg
 -- ---- stored
 
 -- whatever the largest train is that the image holds
-pub accepted-bytes : (bs : List ℕ) (l : ℕ) → Bytes bs → imageFault bs l .number ≡ 0 → (top : ℕ) → top ≤ largestTrain bs → (t : Train) → Keeps t (decoded bs) → Accepted l t → Fits top t
-    → (imageFault (storedInto t bs) l .number ≡ 0) × (decoded (storedInto t bs) ≡ t)
-accepted-bytes bs l b h top low t k a f =
-    let c = Clean.accepted bs l h in
+pub accepted-bytes : (w : Widths) (bs : List ℕ) (l : ℕ) → Bytes bs → faultWith w noRefusal bs l .number ≡ 0 → (top : ℕ) → top ≤ largestTrain bs → (t : Train) → Keeps t (decoded bs) → Accepted l t → Fits top t
+    → (faultWith w noRefusal (storedInto t bs) l .number ≡ 0) × (decoded (storedInto t bs) ≡ t)
+accepted-bytes w bs l b h top low t k a f =
+    let c = Clean.accepted-in w bs l h in
     let g = Clean.good-image bs (c .fits) l (c .values) b in
-    let d = held l (c .links .1) top (omega (arith, low)) t a f in
+    let d = held l (c .links .1) (isWide bs) top (omega (arith, low, largest-held (isWide bs))) t a f in
     let e = decoded-stored bs g t k d in
-    (good-clean (storedInto t bs) l (stored-good bs g t k d) (subst (Accepted l) (sym e) a) (c .links .0) (c .links .1), e)
+    let n = width-same bs g t k d in
+    let v : largestTrain (storedInto t bs) ≡ largestTrain bs = ap largestOf (w-same bs g t k d) in
+    let u : Fits (largestTrain (storedInto t bs)) (decoded (storedInto t bs)) = subst (λ (m : ℕ). Fits m (decoded (storedInto t bs))) (sym v) (subst (Fits (largestTrain bs)) (sym e) (fits-higher top (largestTrain bs) low t f)) in
+    (good-clean w (storedInto t bs) l (stored-good bs g t k d) (subst (Accepted l) (sym e) a) u (omega (arith, n, c .width)) (c .links .0) (c .links .1), e)

@@ -23,15 +23,18 @@ use Rattle.disp_structs.proofs.FloatLaws.{bits-real}
 use Rattle.disp_structs.proofs.ListedLaws.{listed-length, listed-map}
 use Rattle.est_times.proofs.Counting.{clash}
 use Rattle.est_times.proofs.WalkLaws.{or-right, or-cases}
-use Rattle.image.specs.Image.{sizeOf, estCount, pathCount, divergeCount, divergeRoom, trainIdx, pathHeader, estPlace, nodePlace, divergePlace, imageSize, estFrom, nodeFrom, estAt, nodeAt, divergeAt}
+use Rattle.image.specs.Fields.{divergeWords, divergeSpareField, readIn}
+use Rattle.image.specs.Image.{sizeOf, estCount, pathCount, divergeCount, divergeRoom, trainIdx, isWide, pathHeader, estPlace, nodePlace, divergeOffset, divergePlace, imageSize, largestOf, largestTrain, estFrom, nodeFrom, estAt, nodeAt, divergeAt}
 use Rattle.image.specs.Codec.{decoded}
 use Rattle.image.proofs.RecordLaws.{Number}
 use Rattle.image.proofs.CodecLaws.{GoodImage}
-use Rattle.image_fault.specs.ImageFault.{firstUnfit, countsFit, partsFit, trainFits, estTypeFits, nodeTypeFits, zeroWord, unusedZero, recordsFit, imageFits, floatFits, timeFits, distFits, eventFits, estLinksFit, estFits, nodeFits, indicesFit, headerFits, valueFault, cycleRefused, cycleFault, stepsTo, comesFrom, endsAt, arrivesOn, arrived, firstArrival, onRoute, innerFits, divergeFits, routeFault, imageFault}
+use Rattle.image_fault.specs.ImageFault.{firstUnfit, countsFit, partsFit, widthNumber, trainFits, estTypeFits, nodeTypeFits, divergeSpareFits, zeroWord, unusedZero, recordsFit, imageFits, floatFits, timeFits, distFits, eventFits, estLinksFit, estFits, nodeFits, indicesFit, headerFits, divergeTrainFits, trainsFault, valueFault, cycleRefused, cycleFault, stepsTo, comesFrom, endsAt, arrivesOn, arrived, firstArrival, onRoute, innerFits, divergeFits, routeFault, faultWith}
+use Rattle.image_fault.specs.declared.Widths.{Widths}
 use Rattle.link_rules.specs.Refusals.{noRefusal}
 use Rattle.image_fault.proofs.ScanLaws.{both, step-fit}
 use Rattle.free_path.specs.Base.{ok, at}
 use Rattle.update_definition.specs.Accepted.{EventAccepted, EstAccepted, NodeAccepted, Accepted, timeAccepted, distanceAccepted}
+use Rattle.update_definition.specs.Fits.{Fits}
 use Rattle.update_laws.proofs.Lists.{last-at}
 use Rattle.update_laws.proofs.PathReads.{listed-read, read-listed, distinct-once, arrivesAt, linkOf}
 
@@ -89,7 +92,7 @@ event-in l e h = and (ltb (e .«link_idx» .0) l) _ (lt-ltb (e .«link_idx» .0)
 
 -- ---- an image of an accepted train
 
-module _ (bs : List ℕ) (l : ℕ) (g : GoodImage bs) (a : Accepted l (decoded bs)) where
+module _ (w : Widths) (bs : List ℕ) (l : ℕ) (g : GoodImage bs) (a : Accepted l (decoded bs)) (f : Fits (largestTrain bs) (decoded bs)) (narrow : leAt 2 bs 42 ≤ widthNumber w) where
   est-long : length (decoded bs .«est_times») ≡ estCount bs
   unfolding decoded
   est-long = listed-length (estCount bs) (estAt bs)
@@ -140,15 +143,15 @@ module _ (bs : List ℕ) (l : ℕ) (g : GoodImage bs) (a : Accepted l (decoded b
       let e = estCount bs in
       and (eqb (leAt 4 bs 20) (estPlace 0)) _ (eq-eqb (leAt 4 bs 20) (estPlace 0) (g .est-offset))
       (and (eqb (leAt 4 bs 24) (nodePlace e 0)) _ (eq-eqb (leAt 4 bs 24) (nodePlace e 0) (g .path-offset))
-      (and (eqb (leAt 4 bs 28) (divergePlace e 0)) _ (eq-eqb (leAt 4 bs 28) (divergePlace e 0) (g .diverge-offset))
-      (and (eqb (sizeOf bs) (imageSize e (divergeRoom bs))) _ (eq-eqb (sizeOf bs) (imageSize e (divergeRoom bs)) (g .size-is))
+      (and (eqb (leAt 4 bs 28) (divergeOffset e)) _ (eq-eqb (leAt 4 bs 28) (divergeOffset e) (g .diverge-offset))
+      (and (eqb (sizeOf bs) (imageSize (isWide bs) e (divergeRoom bs))) _ (eq-eqb (sizeOf bs) (imageSize (isWide bs) e (divergeRoom bs)) (g .size-is))
       (eq-eqb (sizeOf bs) (length bs) (g .size-is ∙ sym (g .long))))))
 
-  train-fits : trainFits bs ≡ true
+  train-fits : trainFits w bs ≡ true
   unfolding trainFits decoded
   train-fits =
       and (not (eqb (trainIdx bs .0) 0)) _ (rw (ne-eqb (trainIdx bs .0) 0 (a .train)))
-      (and (eqb (leAt 2 bs 42) 0) (eqb (leAt 4 bs 44) 0) (eq-eqb (leAt 2 bs 42) 0 (g .spare)) (eq-eqb (leAt 4 bs 44) 0 (g .spare-rest)))
+      (and (leb (leAt 2 bs 42) (widthNumber w)) (eqb (leAt 4 bs 44) 0) (le-leb (leAt 2 bs 42) (widthNumber w) narrow) (eq-eqb (leAt 4 bs 44) 0 (g .spare-rest)))
 
   node-type : (i : ℕ) → i < pathCount bs → nodeTypeFits bs i ≡ true
   unfolding nodeTypeFits
@@ -157,20 +160,22 @@ module _ (bs : List ℕ) (l : ℕ) (g : GoodImage bs) (a : Accepted l (decoded b
       and (leb (leAt 2 bs (k + 26)) 2) (eqb (leAt 4 bs (k + 28)) 0) (le-leb (leAt 2 bs (k + 26)) 2 (g .node i h .kind)) (eq-eqb (leAt 4 bs (k + 28)) 0 (g .node i h .spare))
 
   records-fit : recordsFit bs ≡ true
-  unfolding recordsFit unusedZero estTypeFits zeroWord
+  unfolding recordsFit unusedZero estTypeFits divergeSpareFits zeroWord
   records-fit =
       let e = estCount bs in
       let n = pathCount bs in
       let m = divergeCount bs in
+      let v = isWide bs in
       and (allBelow e (estTypeFits bs)) _ (all-true e (estTypeFits bs) (λ i h. le-leb (leAt 4 bs (estPlace i + 28)) 2 (g .est i h .kind)))
       (and (allBelow n (nodeTypeFits bs)) _ (all-true n (nodeTypeFits bs) node-type)
-      (and (allBelow (8 * (e - n)) (zeroWord bs (nodePlace e n))) (allBelow (divergeRoom bs - m) (zeroWord bs (divergePlace e m)))
+      (and (allBelow m (divergeSpareFits bs)) _ (all-true m (divergeSpareFits bs) (λ i h. eq-eqb (readIn (divergeSpareField v) bs (divergePlace v e i)) 0 (g .diverge i h)))
+      (and (allBelow (8 * (e - n)) (zeroWord bs (nodePlace e n))) (allBelow (divergeWords v * (divergeRoom bs - m)) (zeroWord bs (divergePlace v e m)))
       (all-true (8 * (e - n)) (zeroWord bs (nodePlace e n)) (λ j h. eq-eqb (leAt 4 bs (nodePlace e n + 4 * j)) 0 (g .no-node j h)))
-      (all-true (divergeRoom bs - m) (zeroWord bs (divergePlace e m)) (λ j h. eq-eqb (leAt 4 bs (divergePlace e m + 4 * j)) 0 (g .no-diverge j h)))))
+      (all-true (divergeWords v * (divergeRoom bs - m)) (zeroWord bs (divergePlace v e m)) (λ j h. eq-eqb (leAt 4 bs (divergePlace v e m + 4 * j)) 0 (g .no-diverge j h))))))
 
-  image-fits : imageFits bs ≡ true
+  image-fits : imageFits w bs ≡ true
   unfolding imageFits
-  image-fits = and (countsFit bs) _ counts-fit (and (partsFit bs) _ parts-fit (and (trainFits bs) (recordsFit bs) train-fits records-fit))
+  image-fits = and (countsFit bs) _ counts-fit (and (partsFit bs) _ parts-fit (and (trainFits w bs) (recordsFit bs) train-fits records-fit))
 
   -- 7
 
@@ -208,6 +213,17 @@ module _ (bs : List ℕ) (l : ℕ) (g : GoodImage bs) (a : Accepted l (decoded b
       (and (leb (leAt 2 bs 36) n) _ (le-leb (leAt 2 bs 36) n (omega (arith, path-long, a .free)))
       (and (ltb (leAt 2 bs 38) n) (ltb (leAt 2 bs 40) n) (lt-ltb (leAt 2 bs 38) n (omega (arith, path-long, a .front))) (lt-ltb (leAt 2 bs 40) n (omega (arith, path-long, a .back)))))))
 
+  -- 22
+
+  trains-clean : trainsFault bs ≡ noRefusal
+  unfolding trainsFault divergeTrainFits
+  trains-clean = go (isWide bs) refl
+    where
+      go : (v : Bool) → isWide bs ≡ v → cond v (firstUnfit 22 (divergeTrainFits bs) (divergeCount bs) 0) noRefusal ≡ noRefusal
+      go true e = none-unfit 22 (divergeTrainFits bs) (divergeCount bs) 0 (λ j x y. le-leb (divergeAt bs j .«train_idx» .0) (largestOf true)
+          (subst (λ (v : Bool). divergeAt bs j .«train_idx» .0 ≤ largestOf v) e (f .divs j (divergeAt bs j) (diverge-at j (omega arith)))))
+      go false e = refl
+
   values-clean : valueFault bs l ≡ noRefusal
   unfolding valueFault
   values-clean =
@@ -215,6 +231,7 @@ module _ (bs : List ℕ) (l : ℕ) (g : GoodImage bs) (a : Accepted l (decoded b
         none-unfit 7 (estFits bs l) (estCount bs) 0 (λ j x y. est-fits j (omega arith)),
         none-unfit 7 (nodeFits bs l) (pathCount bs) 0 (λ j x y. node-fits j (omega arith)),
         header-fits,
+        trains-clean,
       )
 
   -- 8
@@ -327,6 +344,6 @@ module _ (bs : List ℕ) (l : ℕ) (g : GoodImage bs) (a : Accepted l (decoded b
         none-unfit 9 (divergeFits bs) (divergeCount bs) 0 (λ j x y. diverge-fits j (omega arith)),
       )
 
-  pub good-clean : 2 ≤ l → l ≤ 4000 → imageFault bs l .number ≡ 0
-  unfolding imageFault
+  pub good-clean : 2 ≤ l → l ≤ 4000 → faultWith w noRefusal bs l .number ≡ 0
+  unfolding faultWith
   good-clean lo hi = rw (le-leb 2 l lo, le-leb l 4000 hi, image-fits, values-clean, cycle-clean, route-clean)

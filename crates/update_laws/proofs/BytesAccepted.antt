@@ -26,9 +26,12 @@ use Rattle.disp_structs.proofs.ListedLaws.{listed-length, listed-at, listed-map
 use Rattle.est_times.proofs.Counting.{clash}
 use Rattle.est_times.proofs.WalkLaws.{or-right}
 use Rattle.free_path.specs.Base.{ok, at}
-use Rattle.image.specs.Image.{estCount, pathCount, divergeCount, divergeRoom, pathHeader, estPlace, nodePlace, divergePlace, largestTrain, estFrom, nodeFrom, divergeFrom, estAt, nodeAt, divergeAt}
+use Rattle.image.specs.Fields.{divergeWords}
+use Rattle.image.specs.Image.{estCount, pathCount, divergeCount, divergeRoom, isWide, pathHeader, estPlace, nodePlace, divergePlace, largestOf, largestTrain, estFrom, nodeFrom, divergeFrom, estAt, nodeAt, divergeAt}
 use Rattle.image.specs.Codec.{decoded}
-use Rattle.image_fault.specs.ImageFault.{floatFits, timeFits, distFits, eventFits, estLinksFit, indicesFit, headerFits, imageFault}
+use Rattle.image_fault.specs.ImageFault.{floatFits, timeFits, distFits, eventFits, estLinksFit, indicesFit, headerFits, valueFault, faultWith}
+use Rattle.image_fault.specs.declared.Widths.{Widths}
+use Rattle.link_rules.specs.Refusals.{noRefusal}
 use Rattle.image_fault.specs.CodeFacts.{CountsFit}
 use Rattle.image_fault.proofs.ScanLaws.{both}
 use Rattle.image_fault.proofs.AcceptLaws as Clean
@@ -71,7 +74,7 @@ event-accepted l e h =
           clash (isArrive (e .«est_type») && eqb (e .«link_idx» .0) 0) (rw (t, eq-eqb (e .«link_idx» .0) 0 z)) n;
     }
 
-module _ (bs : List ℕ) (l : ℕ) (a : Clean.Accepted bs l) where
+module _ {w : Widths} (bs : List ℕ) (l : ℕ) (a : Clean.Accepted w bs l) where
   counts : CountsFit bs
   counts = Clean.fits-counts bs (a .fits)
 
@@ -249,8 +252,8 @@ module _ (bs : List ℕ) (l : ℕ) (a : Clean.Accepted bs l) where
         train = Clean.fits-train bs (a .fits);
       }
 
--- what bytes hold is within its fields, accepted or not
-module _ (bs : List ℕ) (b : Bytes bs) where
+-- what bytes hold that pass 7 and 22 is within its fields
+module _ (bs : List ℕ) (b : Bytes bs) (l : ℕ) (values : valueFault bs l .number ≡ 0) where
   node-fit : (i : ℕ) → NodeFits (nodeAt bs i)
   unfolding nodeFrom
   node-fit i = record {
@@ -263,9 +266,18 @@ module _ (bs : List ℕ) (b : Bytes bs) where
   unfolding estFrom
   est-fit i = real-fits (leAt 8 bs (estPlace i))
 
-  diverge-fit : (i : ℕ) → divergeAt bs i .«train_idx» .0 ≤ largestTrain bs
-  unfolding divergeFrom
-  diverge-fit i = omega (arith, le-lt 2 bs (divergePlace (estCount bs) i) b)
+  -- a narrow record holds no train above the largest, and 22 lets none pass in a wide one
+  narrow-fit : (v : Bool) → v ≡ false → (at : ℕ) → divergeFrom v bs at .«train_idx» .0 ≤ largestOf v
+  unfolding divergeFrom divergeWords largestOf
+  narrow-fit false e at = omega (arith, le-lt 2 bs at b)
+  narrow-fit true e at = clash true refl e
+
+  diverge-fit : (i : ℕ) → i < divergeCount bs → divergeAt bs i .«train_idx» .0 ≤ largestTrain bs
+  diverge-fit i h = go (isWide bs) refl
+    where
+      go : (v : Bool) → isWide bs ≡ v → divergeAt bs i .«train_idx» .0 ≤ largestTrain bs
+      go true e = Clean.clean-train bs l values e i h
+      go false e = narrow-fit (isWide bs) e (divergePlace (isWide bs) (estCount bs) i)
 
   pub bytes-fit : Fits (largestTrain bs) (decoded bs)
   unfolding decoded
@@ -273,7 +285,7 @@ module _ (bs : List ℕ) (b : Bytes bs) where
       record {
         ests = λ i x r. subst (λ (y : EstTime). T (fits binary64 (y .«dist_to_next» .0))) (listed-read (estCount bs) (estAt bs) i r .1) (est-fit i);
         nodes = λ i x r. subst NodeFits (listed-read (pathCount bs) (nodeAt bs) i r .1) (node-fit i);
-        divs = λ i x r. subst (λ (y : DivergeNode). y .«train_idx» .0 ≤ largestTrain bs) (listed-read (divergeCount bs) (divergeAt bs) i r .1) (diverge-fit i);
+        divs = λ i x r. subst (λ (y : DivergeNode). y .«train_idx» .0 ≤ largestTrain bs) (listed-read (divergeCount bs) (divergeAt bs) i r .1) (diverge-fit i (listed-read (divergeCount bs) (divergeAt bs) i r .0));
         train = le-lt 2 bs 32 b;
         search = real-fits (leAt 8 bs 48);
         fixedMax = real-fits (leAt 8 bs 56);
@@ -294,6 +306,19 @@ fits-higher a b h t f =
 pub within-higher : (a b : ℕ) → a ≤ b → (occ : List ℕ) (moved : ℕ) → TrainsWithin a occ moved → TrainsWithin b occ moved
 within-higher a b h occ moved w = record { entries = λ i. omega (arith, h, w .entries i); moved-low = omega (arith, h, w .moved-low) }
 
--- an image that is not refused by 6 to 9
-pub bytes-accepted : (bs : List ℕ) (l : ℕ) → Bytes bs → imageFault bs l .number ≡ 0 → Accepted l (decoded bs) × Fits (largestTrain bs) (decoded bs)
-bytes-accepted bs l b h = (train-accepted bs l (Clean.accepted bs l h), bytes-fit bs b)
+-- an image of either width holds what a narrow one holds
+least-held : (v : Bool) → 65535 ≤ largestOf v
+unfolding largestOf
+least-held true = omega arith
+least-held false = omega arith
+
+pub narrow-held : (img : List ℕ) → 65535 ≤ largestTrain img
+narrow-held img = least-held (isWide img)
+
+pub narrow-largest : (img : List ℕ) → isWide img ≡ false → largestTrain img ≡ 65535
+unfolding largestOf
+narrow-largest img e = rw e
+
+-- an image that is not refused by 6 to 9 and 22
+pub bytes-accepted : (w : Widths) (bs : List ℕ) (l : ℕ) → Bytes bs → faultWith w noRefusal bs l .number ≡ 0 → Accepted l (decoded bs) × Fits (largestTrain bs) (decoded bs)
+bytes-accepted w bs l b h = let a = Clean.accepted-in w bs l h in (train-accepted bs l a, bytes-fit bs b l (a .values))

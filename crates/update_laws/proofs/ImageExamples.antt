@@ -13,12 +13,13 @@ use Rattle.est_times.specs.Cycles.{follow, via, reach, firstAt}
 use Rattle.free_path.specs.Base.{at, walkFrom, stepsTo, count, any}
 use Rattle.free_path.specs.LinkOptType.{linksOnPath, contains, classWalk, linkOptType, calcIdxSentinels}
 use Rattle.free_path.specs.Validate.{isStray, strays, stepsNext, badStep, badSteps, inConflict, validateFreePath}
-use Rattle.image.specs.Image.{typeOf, pathHeader, estFrom, nodeFrom, divergeFrom, putNode, putDiverge, zeroWords, putPathHeader}
-use Rattle.image.specs.Codec.{decoded, putEach, putRecords, storedInto}
+use Rattle.image.specs.Fields.{divergeWords}
+use Rattle.image.specs.Image.{typeOf, isWide, largestOf, pathHeader, estFrom, nodeFrom, divergeFrom, putNode, putDiverge, zeroWords, putPathHeader}
+use Rattle.image.specs.Codec.{decoded, putEach, putRecords, putChanges}
 use Rattle.link_rules.specs.Refusals.{refused}
-use Rattle.image_fault.specs.ImageFault.{firstUnfit, countsFit, partsFit, trainFits, estTypeFits, nodeTypeFits, zeroWord, unusedZero, recordsFit, imageFits, floatFits, timeFits, distFits, eventFits, estLinksFit, estFits, nodeFits, indicesFit, headerFits, valueFault, cycleFault, stepsTo as steps, comesFrom, endsAt, arrivesOn, arrived, firstArrival, onRoute, innerFits, divergeFits, routeFault, imageFault}
+use Rattle.image_fault.specs.ImageFault.{firstUnfit, countsFit, partsFit, trainFits, estTypeFits, nodeTypeFits, divergeSpareFits, zeroWord, unusedZero, recordsFit, imageFits, floatFits, timeFits, distFits, eventFits, estLinksFit, estFits, nodeFits, indicesFit, headerFits, divergeTrainFits, trainsFault, valueFault, cycleFault, stepsTo as steps, comesFrom, endsAt, arrivesOn, arrived, firstArrival, onRoute, innerFits, divergeFits, routeFault, faultWith, imageFault}
 use Rattle.update_definition.specs.Update.{Success, Faulty, answerOf, splitPoint, roundMet, beginOf, roundOf, roundSteps, finish, afterRound, roundsFrom, adjustSentinel, updateFreePath}
-use Rattle.update_definition.specs.UpdateImage.{linksBelow, callFault, refusedAnswer, updateFault, updatedImage}
+use Rattle.update_definition.specs.UpdateImage.{linksBelow, callFault, refusedAnswer, updateFaultIn, updatedImageIn, updatedImage}
 
 -- numbers of 4 bytes
 unfoldable words : List ℕ → List ℕ
@@ -40,7 +41,7 @@ slot free end =
 
 -- what the examples compute with
 unfoldable everything : ℕ
-unfolding ofBits toBits add sub div neg lt le eq ne leAt putLe allBelow occupied realOf bitsOf inReach magnitude nearFloat listed follow via reach firstAt at walkFrom stepsTo count any linksOnPath contains classWalk linkOptType calcIdxSentinels isStray strays stepsNext badStep badSteps inConflict validateFreePath typeOf pathHeader estFrom nodeFrom divergeFrom putNode putDiverge zeroWords putPathHeader decoded putEach putRecords storedInto firstUnfit countsFit partsFit trainFits estTypeFits nodeTypeFits zeroWord unusedZero recordsFit imageFits floatFits timeFits distFits eventFits estLinksFit estFits nodeFits indicesFit headerFits valueFault cycleFault steps comesFrom endsAt arrivesOn arrived firstArrival onRoute innerFits divergeFits routeFault imageFault splitPoint roundMet beginOf roundOf roundSteps finish afterRound roundsFrom adjustSentinel updateFreePath words slot linksBelow callFault updateFault updatedImage
+unfolding ofBits toBits add sub div neg lt le eq ne leAt putLe allBelow occupied realOf bitsOf inReach magnitude nearFloat listed follow via reach firstAt at walkFrom stepsTo count any linksOnPath contains classWalk linkOptType calcIdxSentinels isStray strays stepsNext badStep badSteps inConflict validateFreePath typeOf pathHeader estFrom nodeFrom isWide divergeWords largestOf divergeFrom putNode putDiverge zeroWords putPathHeader decoded putEach putRecords putChanges firstUnfit countsFit partsFit trainFits estTypeFits nodeTypeFits divergeSpareFits zeroWord unusedZero recordsFit imageFits floatFits timeFits distFits eventFits estLinksFit estFits nodeFits indicesFit headerFits divergeTrainFits trainsFault valueFault cycleFault steps comesFrom endsAt arrivesOn arrived firstArrival onRoute innerFits divergeFits routeFault faultWith splitPoint roundMet beginOf roundOf roundSteps finish afterRound roundsFrom adjustSentinel updateFreePath words slot linksBelow callFault updateFaultIn updatedImageIn
 everything = 0
 
 -- the update of the sheet example: train 2 moved, nothing held, one round; the last diverge node gets train 2

@@ -20,15 +20,15 @@ use Rattle.est_times.proofs.WalkLaws.{or-cases}
 use Rattle.free_path.specs.Base.{any}
 use Rattle.free_path.specs.LinkOptType.{contains}
 use Rattle.free_path.specs.AnyOrder.{Perm, done, keep, swap, chain}
-use Rattle.image.specs.Image.{largestTrain}
+use Rattle.image.specs.Image.{largestOf, largestTrain}
 use Rattle.image.specs.Codec.{decoded}
 use Rattle.image.specs.ImageMatch.{ImagesMatch}
-use Rattle.image_fault.specs.ImageFault.{imageFault}
-use Rattle.link_rules.specs.Refusals.{noRefusal, refused}
+use Rattle.image_fault.specs.declared.Widths.{Widths}
+use Rattle.link_rules.specs.Refusals.{noRefusal, refused, orElse}
 use Rattle.link_rules.specs.declared.refusal.Refusal.{Refusal}
 use Rattle.image_fault.proofs.ScanLaws.{both}
-use Rattle.image_fault.proofs.AcceptLaws.{accepted, or-else-clean}
-use Rattle.image_fault.proofs.MatchLaws.{image-fault-match, state-match, stored-match}
+use Rattle.image_fault.proofs.AcceptLaws.{accepted-in, or-else-clean}
+use Rattle.image_fault.proofs.MatchLaws.{fault-match, state-match, stored-match}
 use Rattle.tally.specs.Tally.{started}
 use Rattle.update_definition.specs.Update.{Status, Success, Blocked, Faulty, Refused, Updated, updateFreePath}
 use Rattle.update_definition.specs.Fits.{TrainsWithin}
@@ -37,8 +37,9 @@ use Rattle.update_laws.proofs.UpdateRenumbering.{update-renumbered}
 use Rattle.update_laws.specs.AfterRound.{Leaves}
 use Rattle.update_laws.specs.FitsGood.{TrainFits}
 use Rattle.update_laws.proofs.Updates.{StaysFit}
-use Rattle.update_definition.specs.UpdateImage.{linksBelow, callFault, leftImage, storedAnswer, refusedAnswer, answerBy, linkIdxs, updateFault, updatedImage}
+use Rattle.update_definition.specs.UpdateImage.{linksBelow, callFault, leftImage, storedAnswer, refusedAnswer, answerBy, linkIdxs, givenFault, updateFaultIn, updatedImageIn}
 use Rattle.update_definition.specs.UpdateMatch.{GivenMatch, UpdatesMatch}
+use Rattle.update_laws.proofs.UpdateClean.{UpdateClean, update-clean}
 use Rattle.update_laws.proofs.UpdateLeaves.{keeps, fit-held, leaves}
 
 -- ---- lists in another order
@@ -98,10 +99,13 @@ module _ (top : ℕ) (p q : ℕ → ℕ) (occ occ′ blocking blocking′ : List
       let b : linksBelow (length occ) blocking′ ≡ linksBelow (length occ) blocking = sym (perm-below (length occ) (c .order)) ∙ map-below (length occ) p (c .links) blocking in
       rw (c .occupancies .long, n, b, eqb-renumbered-0 top q (c .trains) moved)
 
-  -- the same number and place
-  pub update-fault-match : (img img′ : List ℕ) → ImagesMatch p q img img′ → updateFault img′ occ′ blocking′ (q moved) limit ≡ updateFault img occ blocking moved limit
-  unfolding updateFault
-  update-fault-match img img′ m = rw (call-fault-match, c .occupancies .long, image-fault-match p q (length occ) top (c .links) (c .trains) img img′ m)
+  -- the same number and place, where 22 is the same; it is in calls that take narrow images alone
+  pub update-fault-match : (w : Widths) (img img′ : List ℕ) → ImagesMatch p q img img′ → givenFault w img′ occ′ (q moved) ≡ givenFault w img occ moved → top ≤ largestTrain img
+      → updateFaultIn w img′ occ′ blocking′ (q moved) limit ≡ updateFaultIn w img occ blocking moved limit
+  unfolding updateFaultIn
+  update-fault-match w img img′ m g low =
+      rw (call-fault-match, c .occupancies .long, g) (ap (orElse (callFault occ blocking moved limit))
+      (fault-match p q (length occ) top (c .links) (c .trains) img img′ m w (givenFault w img occ moved) (λ e v. subst (λ (x : Bool). top ≤ largestOf x) v low)))
 
 -- where a call is not refused by 4, the blocking links are below L
 call-below : (occ blocking : List ℕ) (moved limit : ℕ) → callFault occ blocking moved limit .number ≡ 0 → linksBelow (length occ) blocking ≡ true
@@ -132,15 +136,15 @@ module _ (p q : ℕ → ℕ) (zero-stays : q 0 ≡ 0) (img img′ : List ℕ) (m
   refusals-match (suc k) x u u′ h = refused-same x
 
 module _ (top : ℕ) (p q : ℕ → ℕ) (occ occ′ blocking blocking′ : List ℕ) (c : GivenMatch top p q occ occ′ blocking blocking′) (moved : ℕ) (local : Bool) (limit : ℕ)
-    (img img′ : List ℕ) (m : ImagesMatch p q img img′) where
+    (v : Widths) (img img′ : List ℕ) (m : ImagesMatch p q img img′) (given : givenFault v img′ occ′ (q moved) ≡ givenFault v img occ moved) (low : top ≤ largestTrain img) where
   abbrev L : ℕ
   L = length occ
 
   abbrev f : Refusal
-  f = updateFault img occ blocking moved limit
+  f = updateFaultIn v img occ blocking moved limit
 
   abbrev f′ : Refusal
-  f′ = updateFault img′ occ′ blocking′ (q moved) limit
+  f′ = updateFaultIn v img′ occ′ blocking′ (q moved) limit
 
   abbrev u : Updated
   u = updateFreePath occ (linkIdxs blocking) (record { 0 = moved }) local limit (decoded img)
@@ -149,21 +153,20 @@ module _ (top : ℕ) (p q : ℕ → ℕ) (occ occ′ blocking blocking′ : List
   u′ = updateFreePath occ′ (linkIdxs blocking′) (record { 0 = q moved }) local limit (decoded img′)
 
   same-fault : f′ ≡ f
-  same-fault = update-fault-match top p q occ occ′ blocking blocking′ c moved limit img img′ m
+  same-fault = update-fault-match top p q occ occ′ blocking blocking′ c moved limit v img img′ m given low
 
   -- refused by 2 to 9: the same refusal, and the images stay
-  pub refused-match : (f .number ≡ 0 → ⊥) → UpdatesMatch p q (updatedImage img occ blocking moved local limit) (updatedImage img′ occ′ blocking′ (q moved) local limit)
-  unfolding updatedImage
+  pub refused-match : (f .number ≡ 0 → ⊥) → UpdatesMatch p q (updatedImageIn v img occ blocking moved local limit) (updatedImageIn v img′ occ′ blocking′ (q moved) local limit)
+  unfolding updatedImageIn
   refused-match h =
       subst (λ (x : Refusal). UpdatesMatch p q (answerBy (f .number) f u img) (answerBy (x .number) x u′ img′)) (sym same-fault)
       (refusals-match p q (c .trains .zero-stays) img img′ m (f .number) f u u′ h)
 
   -- the largest train, and the trains of the call, are ones that the image holds
-  module _ (b : Bytes img) (b′ : Bytes img′) (low : top ≤ largestTrain img) (w : TrainsWithin (largestTrain img) occ moved) (z : occupied occ noLink ≡ false) where
+  module _ (b : Bytes img) (b′ : Bytes img′) (w : TrainsWithin (largestTrain img) occ moved) (z : occupied occ noLink ≡ false) where
     module _ (clean : f .number ≡ 0) where
-      passes : (callFault occ blocking moved limit .number ≡ 0) × (imageFault img L .number ≡ 0)
-      unfolding updateFault
-      passes = or-else-clean (callFault occ blocking moved limit) (imageFault img L) clean
+      passes : UpdateClean v img occ blocking moved limit
+      passes = update-clean v img occ blocking moved limit clean
 
       two : TwoNumberings top p q occ occ′ (linkIdxs blocking) (linkIdxs blocking′)
       two =
@@ -172,18 +175,18 @@ module _ (top : ℕ) (p q : ℕ → ℕ) (occ occ′ blocking blocking′ : List
             trains = c .trains;
             occupancies = c .occupancies;
             order = rw (links-map p blocking) (perm-map (λ (n : ℕ). record { 0 = n }) (c .order));
-            short = accepted img L (passes .1) .links .1;
-            below = links-below L blocking (call-below occ blocking moved limit (passes .0));
+            short = accepted-in v img L (passes .image) .links .1;
+            below = links-below L blocking (call-below occ blocking moved limit (passes .call));
             zero-empty = z;
           }
 
       renumbered : u .answer .tally .strays ≡ 0 → u′ ≡ rUpdated p q u
       renumbered s =
-          ap (updateFreePath occ′ (linkIdxs blocking′) (record { 0 = q moved }) local limit) (state-match p q L top (c .links) (c .trains) img img′ low m b b′ (passes .1))
+          ap (updateFreePath occ′ (linkIdxs blocking′) (record { 0 = q moved }) local limit) (state-match p q L top (c .links) (c .trains) img img′ low m b b′ v (passes .image))
           ∙ update-renumbered top p q occ occ′ (linkIdxs blocking) (linkIdxs blocking′) two (record { 0 = moved }) local limit (decoded img) s
 
       stored : (t : Train) → StaysFit L (largestTrain img) (decoded img) t → ImagesMatch p q (leftImage Success t img) (leftImage Success (rTrainDisp p q t) img′)
-      stored t k = stored-match p q L top (c .links) (c .trains) img img′ low m b b′ (passes .1) t (keeps img L b (passes .1) t (k .stays .same)) (fit-held img L b (passes .1) t k)
+      stored t k = stored-match p q L top (c .links) (c .trains) img img′ low m b b′ v (passes .image) t (keeps v img L b (passes .image) t (k .stays .same)) (fit-held v img L b (passes .image) t k)
 
       images-left : (s : Status) (t : Train) → Leaves (StaysFit L (largestTrain img) (decoded img)) (TrainFits (largestTrain img)) (decoded img) s t → ImagesMatch p q (leftImage s t img) (leftImage (rStatus q s) (rTrainDisp p q t) img′)
       images-left Success t k = stored t k
@@ -194,12 +197,12 @@ module _ (top : ℕ) (p q : ℕ → ℕ) (occ occ′ blocking blocking′ : List
       stored-answers : u .answer .tally .strays ≡ 0 → UpdatesMatch p q (storedAnswer u img) (storedAnswer u′ img′)
       stored-answers s =
           subst (λ (x : Updated). UpdatesMatch p q (storedAnswer u img) (storedAnswer x img′)) (sym (renumbered s))
-          (record { answer = refl; images = images-left (u .answer .status) (u .train) (leaves img L b (passes .1) occ blocking moved local limit (largestTrain img) (omega arith) w) })
+          (record { answer = refl; images = images-left (u .answer .status) (u .train) (leaves v img L b (passes .image) occ blocking moved local limit (largestTrain img) (omega arith) w) })
 
     -- the theorem: where the first update counts no stray and entry 0 of the occupancy is empty
-    pub update-match : updatedImage img occ blocking moved local limit .answer .tally .strays ≡ 0
-        → UpdatesMatch p q (updatedImage img occ blocking moved local limit) (updatedImage img′ occ′ blocking′ (q moved) local limit)
-    unfolding updatedImage
+    pub update-match : updatedImageIn v img occ blocking moved local limit .answer .tally .strays ≡ 0
+        → UpdatesMatch p q (updatedImageIn v img occ blocking moved local limit) (updatedImageIn v img′ occ′ blocking′ (q moved) local limit)
+    unfolding updatedImageIn
     update-match s =
         subst (λ (x : Refusal). UpdatesMatch p q (answerBy (f .number) f u img) (answerBy (x .number) x u′ img′)) (sym same-fault)
         (answers-match p q (c .trains .zero-stays) img img′ m (f .number) f u u′ (λ e r. stored-answers e (subst (λ (k : ℕ). answerBy k f u img .answer .tally .strays ≡ 0) e r)) s)

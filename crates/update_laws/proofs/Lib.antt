@@ -49,6 +49,7 @@ pub mod StoredGood
 pub mod AcceptedBytes
 pub mod TrainsMet
 pub mod UpdateAnswers
+pub mod UpdateClean
 pub mod UpdateLeaves
 pub mod UpdateCounts
 pub mod UpdateSteps

@@ -1,8 +1,9 @@
 -- What an update stores: bytes stay bytes, the length stays, and an image stays an image. Assumes nothing.
 use mathlib.Core.Path.{_≡_, sym, ap, ap₂, subst, _∙_}
 use mathlib.Core.Logic.{_⊎_, inl, inr, ⊎-elim}
+use mathlib.Core.Bool.{Bool}
 use mathlib.Core.List.{List, [], _∷_}
-use Prim.Native.Nat.{ℕ, zero, suc, _+_, _*_, _-_, _/_, _%_, _≤_, _<_}
+use Prim.Native.Nat.{ℕ, zero, suc, _+_, _*_, _-_, _/_, _%_, _^_, _≤_, _<_}
 use native.Mathlib.Nat.{eq-or-lt-of-le}
 use native.Mathlib.Omega.{arith}
 use lib.Dec.{lit<}
@@ -19,12 +20,14 @@ use Rattle.disp_structs.specs.declared.DivergeNode.{DivergeNode}
 use Rattle.disp_structs.proofs.FloatLaws.{bits-lt, bits-number}
 use Rattle.disp_structs.proofs.ListedLaws.{listed-length}
 use Rattle.est_times.proofs.Counting.{same-or-not}
-use Rattle.image.specs.Image.{typeNumber, estCount, pathCount, divergeCount, divergeRoom, estPlace, nodePlace, divergePlace, imageSize, nodeFrom, estAt, nodeAt, divergeAt, putNode, putDiverge, zeroWords, putPathHeader}
-use Rattle.image.specs.Codec.{decoded, putEach, pathHeaderOf, putRecords, storedInto}
+use Rattle.image.specs.Fields.{divergeWords, divergeSize}
+use Rattle.image.specs.Image.{typeNumber, estCount, pathCount, divergeCount, divergeRoom, isWide, estPlace, nodePlace, divergeOffset, divergePlace, imageSize, nodeFrom, estAt, nodeAt, divergeAt, putNode, putDiverge, zeroWords, putPathHeader}
+use Rattle.image.specs.Codec.{decoded, putEach, pathHeaderOf, putRecords, putChanges, storedInto, wideNumber}
+use Rattle.image.proofs.WidthLaws.{words-some, words-rise, words-next, words-left}
 use Rattle.image.proofs.Writers.{Writes, zero-writes, each-writes, le-outside, side}
-use Rattle.image.proofs.RecordLaws.{Number, NodeHeld, GoodNode, node-writes, diverge-writes}
+use Rattle.image.proofs.RecordLaws.{Number, NodeHeld, GoodNode, GoodDiverge, node-writes, diverge-writes}
 use Rattle.image.proofs.Parts.{putPath, clearPath, putDiverges, clearDiverges, putCounts, size, counts-writes, indices-writes, path-writes, no-path-writes, diverges-writes, no-diverges-writes, records-writes}
-use Rattle.image.proofs.CodecLaws.{GoodImage, Keeps, Held, stored-encoded, decoded-encoded}
+use Rattle.image.proofs.CodecLaws.{GoodImage, Keeps, Held, width-read, stored-encoded, decoded-encoded}
 
 -- ---- bytes stay bytes
 
@@ -58,26 +61,32 @@ bytes-node : (x : DispNode) (k : ℕ) (bs : List ℕ) → Bytes bs → Bytes (pu
 unfolding putNode
 bytes-node x k bs b = bytes-put 4 _ _ _ (bytes-put 2 _ _ _ (bytes-put 2 _ _ _ (bytes-put 4 _ _ _ (bytes-put 4 _ _ _ (bytes-put 8 _ _ _ (bytes-put 8 _ _ _ b))))))
 
-bytes-diverge : (x : DivergeNode) (k : ℕ) (bs : List ℕ) → Bytes bs → Bytes (putDiverge x k bs)
+bytes-diverge : (wide : Bool) (x : DivergeNode) (k : ℕ) (bs : List ℕ) → Bytes bs → Bytes (putDiverge wide x k bs)
 unfolding putDiverge
-bytes-diverge x k bs b = bytes-put 2 _ _ _ (bytes-put 2 _ _ _ b)
+bytes-diverge wide x k bs b = bytes-put _ _ _ _ (bytes-put 2 _ _ _ (bytes-put _ _ _ _ b))
 
 pub bytes-stored : (t : Train) (bs : List ℕ) → Bytes bs → Bytes (storedInto t bs)
-unfolding storedInto putPathHeader putRecords
+unfolding putChanges putPathHeader putRecords
 bytes-stored t bs b =
     bytes-put 2 _ _ _ (bytes-put 2 _ _ _ (bytes-put 2 _ _ _ (bytes-put 2 _ _ _ (bytes-put 4 _ _ _ (bytes-put 4 _ _ _
-    (bytes-zero _ _ _ (bytes-each putDiverge 4 bytes-diverge _ _ _ (bytes-zero _ _ _ (bytes-each putNode 32 bytes-node _ _ _ b)))))))))
+    (bytes-zero _ _ _ (bytes-each (putDiverge (isWide bs)) (divergeSize (isWide bs)) (bytes-diverge (isWide bs)) _ _ _ (bytes-zero _ _ _ (bytes-each putNode 32 bytes-node _ _ _ b)))))))))
 
 pub length-stored : (t : Train) (bs : List ℕ) → length (storedInto t bs) ≡ length bs
-unfolding storedInto putPathHeader putRecords
+unfolding putChanges putPathHeader putRecords
 length-stored t bs =
+    let w = isWide bs in
     let e = length (t .«est_times») in
     let n = length (t .«disp_path») in
     let m = length (t .«div_nodes») in
     rw (length-put, length-put, length-put, length-put, length-put, length-put)
-    (zero-writes (t .divergeRoom - m) (divergePlace e m) .long _
-    ∙ (each-writes putDiverge 4 diverge-writes (t .«div_nodes») (divergePlace e 0) .long _
+    (zero-writes (divergeWords w * (t .divergeRoom - m)) (divergePlace w e m) .long _
+    ∙ (each-writes (putDiverge w) (divergeSize w) (diverge-writes w) (t .«div_nodes») (divergePlace w e 0) .long _
     ∙ (zero-writes (8 * (e - n)) (nodePlace e n) .long _ ∙ each-writes putNode 32 node-writes (t .«disp_path») (nodePlace e 0) .long bs)))
+
+-- a number of w bytes can be 0
+pow-some : (w : ℕ) → 0 < 256 ^ w
+pow-some zero = lit< tt
+pow-some (suc w) = let h = pow-some w in omega arith
 
 -- ---- words that are cleared
 
@@ -163,7 +172,7 @@ each-good (x ∷ xs) k bs h l (suc i) m =
 
 -- ---- the image that is stored
 
-module _ (bs : List ℕ) (g : GoodImage bs) (t : Train) (keep : Keeps t (decoded bs)) (h : Held t) where
+module _ (bs : List ℕ) (g : GoodImage bs) (t : Train) (keep : Keeps t (decoded bs)) (h : Held (isWide bs) t) where
   abbrev E : ℕ
   E = length (t .«est_times»)
 
@@ -172,6 +181,9 @@ module _ (bs : List ℕ) (g : GoodImage bs) (t : Train) (keep : Keeps t (decoded
 
   abbrev M : ℕ
   M = length (t .«div_nodes»)
+
+  abbrev W : Bool
+  W = isWide bs
 
   abbrev S : List ℕ
   S = storedInto t bs
@@ -184,11 +196,11 @@ module _ (bs : List ℕ) (g : GoodImage bs) (t : Train) (keep : Keeps t (decoded
   unfolding decoded
   q-was = keep .room
 
-  long : length bs ≡ size t
-  long = g .long ∙ ap₂ imageSize (sym e-was) (sym q-was)
+  long : length bs ≡ size W t
+  long = g .long ∙ ap₂ (imageSize W) (sym e-was) (sym q-was)
 
   pub decoded-stored : decoded S ≡ t
-  decoded-stored = ap decoded (stored-encoded bs g t keep (h .room)) ∙ decoded-encoded t h
+  decoded-stored = ap decoded (stored-encoded bs g t keep (h .room)) ∙ decoded-encoded W t h
 
   n-is : pathCount S ≡ N
   unfolding decoded
@@ -200,13 +212,19 @@ module _ (bs : List ℕ) (g : GoodImage bs) (t : Train) (keep : Keeps t (decoded
 
   -- outside of what an update writes
   kept : (v j : ℕ) → (j + v ≤ 8) ⊎ (16 ≤ j) → (j + v ≤ 34) ⊎ (42 ≤ j) → j + v ≤ 64 + 32 * E → leAt v S j ≡ leAt v bs j
-  unfolding storedInto putPathHeader
+  unfolding putChanges putPathHeader
   kept v j o p l =
-      le-outside (indices-writes (pathHeaderOf t)) v j (putCounts (pathHeaderOf t) (putRecords t bs)) p
-      ∙ (le-outside (counts-writes (pathHeaderOf t)) v j (putRecords t bs) o ∙ le-outside (records-writes t (h .room)) v j bs (inl l))
+      le-outside (indices-writes (pathHeaderOf t)) v j (putCounts (pathHeaderOf t) (putRecords W t bs)) p
+      ∙ (le-outside (counts-writes (pathHeaderOf t)) v j (putRecords W t bs) o ∙ le-outside (records-writes W t (h .room)) v j bs (inl l))
 
   e-same : estCount S ≡ estCount bs
   e-same = kept 4 4 (inl (omega arith)) (inl (omega arith)) (omega arith)
+
+  pub width-same : leAt 2 S 42 ≡ leAt 2 bs 42
+  width-same = kept 2 42 (inr (omega arith)) (inr (omega arith)) (omega arith)
+
+  pub w-same : isWide S ≡ W
+  w-same = width-read W S (width-same ∙ g .spare)
 
   q-same : divergeRoom S ≡ divergeRoom bs
   q-same = kept 4 16 (inr (omega arith)) (inl (omega arith)) (omega arith)
@@ -219,26 +237,29 @@ module _ (bs : List ℕ) (g : GoodImage bs) (t : Train) (keep : Keeps t (decoded
   R1 = clearPath t R0
 
   abbrev R2 : List ℕ
-  R2 = putDiverges t R1
+  R2 = putDiverges W t R1
 
   abbrev R3 : List ℕ
-  R3 = clearDiverges t R2
+  R3 = clearDiverges W t R2
 
   long0 : length R0 ≡ length bs
   long0 = path-writes t (h .room) .long bs
 
+  long1 : length R1 ≡ length bs
+  long1 = no-path-writes t (h .room) .long R0 ∙ long0
+
   long2 : length R2 ≡ length bs
-  long2 = diverges-writes t (h .room) .long R1 ∙ (no-path-writes t (h .room) .long R0 ∙ long0)
+  long2 = diverges-writes W t (h .room) .long R1 ∙ long1
 
   -- a record behind the header
   behind : (v j : ℕ) → 64 ≤ j → leAt v S j ≡ leAt v R3 j
-  unfolding storedInto putPathHeader putRecords
+  unfolding putChanges putPathHeader putRecords
   behind v j l =
       le-outside (indices-writes (pathHeaderOf t)) v j (putCounts (pathHeaderOf t) R3) (inr (omega arith))
       ∙ le-outside (counts-writes (pathHeaderOf t)) v j R3 (inr (omega arith))
 
   nodes-good : (i : ℕ) → i < N → GoodNode S (nodePlace E i)
-  unfolding storedInto putPathHeader putRecords
+  unfolding putChanges putPathHeader putRecords
   nodes-good i l =
       let a = h .room .path in
       let k = nodePlace E i in
@@ -246,8 +267,8 @@ module _ (bs : List ℕ) (g : GoodImage bs) (t : Train) (keep : Keeps t (decoded
       let w : GoodNode R0 k = subst (λ (j : ℕ). GoodNode R0 j) e (each-good (t .«disp_path») (nodePlace E 0) bs (h .node) (omega (arith, long)) i l) in
       good-past (indices-writes (pathHeaderOf t)) (putCounts (pathHeaderOf t) R3) k (inr (omega arith))
       (good-past (counts-writes (pathHeaderOf t)) R3 k (inr (omega arith))
-      (good-past (no-diverges-writes t (h .room)) R2 k (inl (omega arith))
-      (good-past (diverges-writes t (h .room)) R1 k (inl (omega arith))
+      (good-past (no-diverges-writes W t (h .room)) R2 k (inl (omega arith))
+      (good-past (diverges-writes W t (h .room)) R1 k (inl (omega arith))
       (good-past (no-path-writes t (h .room)) R0 k (inl (omega arith)) w))))
 
   no-node : (j : ℕ) → j < 8 * (E - N) → leAt 4 S (nodePlace E N + 4 * j) ≡ 0
@@ -255,27 +276,62 @@ module _ (bs : List ℕ) (g : GoodImage bs) (t : Train) (keep : Keeps t (decoded
       let a = h .room .path in
       let k = nodePlace E N + 4 * j in
       behind 4 k (omega arith)
-      ∙ (le-outside (no-diverges-writes t (h .room)) 4 k R2 (inl (omega arith))
-      ∙ (le-outside (diverges-writes t (h .room)) 4 k R1 (inl (omega arith))
+      ∙ (le-outside (no-diverges-writes W t (h .room)) 4 k R2 (inl (omega arith))
+      ∙ (le-outside (diverges-writes W t (h .room)) 4 k R1 (inl (omega arith))
       ∙ zero-read (8 * (E - N)) (nodePlace E N) R0 (omega (arith, long, long0)) j l))
 
-  no-diverge : (j : ℕ) → j < t .divergeRoom - M → leAt 4 S (divergePlace E M + 4 * j) ≡ 0
+  -- the spare bytes of the diverge nodes
+  spare-read : (x : DivergeNode) (k : ℕ) (cs : List ℕ) → k + divergeSize W ≤ length cs → GoodDiverge W (putDiverge W x k cs) k
+  unfolding putDiverge
+  spare-read x k cs l =
+      let o = words-some W in
+      le-put-same (2 * divergeWords W - 2) 0 (k + (2 * divergeWords W + 2)) _ (rw (length-put, length-put) (omega arith)) (pow-some (2 * divergeWords W - 2))
+
+  spare-past : {a b : ℕ} {f : List ℕ → List ℕ} → Writes a b f → (cs : List ℕ) (k : ℕ) → (k + divergeSize W ≤ a) ⊎ (b ≤ k) → GoodDiverge W cs k → GoodDiverge W (f cs) k
+  spare-past {a} {b} {f} wf cs k o q =
+      let s = words-some W in
+      le-outside wf (2 * divergeWords W - 2) (k + (2 * divergeWords W + 2)) cs (⊎-elim (λ (c : k + divergeSize W ≤ a). inl (omega arith)) (λ (c : b ≤ k). inr (omega arith)) o) ∙ q
+
+  each-spare : (xs : List DivergeNode) (k : ℕ) (cs : List ℕ) → k + divergeSize W * length xs ≤ length cs → (i : ℕ) → i < length xs → GoodDiverge W (putEach (putDiverge W) (divergeSize W) xs k cs) (k + divergeSize W * i)
+  unfolding putEach
+  each-spare [] k cs l i m = absurd (omega arith)
+  each-spare (x ∷ xs) k cs l zero m =
+      let e : k + divergeSize W * 0 ≡ k = omega arith in
+      rw e (spare-past (each-writes (putDiverge W) (divergeSize W) (diverge-writes W) xs (k + divergeSize W)) (putDiverge W x k cs) k (inl (omega arith)) (spare-read x k cs (omega arith)))
+  each-spare (x ∷ xs) k cs l (suc i) m =
+      let e : k + divergeSize W * suc i ≡ k + divergeSize W + divergeSize W * i = omega arith in
+      rw e (each-spare xs (k + divergeSize W) (putDiverge W x k cs) (omega (arith, diverge-writes W x k .long cs)) i (omega arith))
+
+  diverges-good : (i : ℕ) → i < M → GoodDiverge W S (divergePlace W E i)
+  unfolding putChanges putPathHeader putRecords
+  diverges-good i l =
+      let a = words-rise W M (t .divergeRoom) (h .room .diverge) in
+      let n = words-next W i M l in
+      let k = divergePlace W E i in
+      let e : divergePlace W E 0 + divergeSize W * i ≡ k = omega arith in
+      let w : GoodDiverge W R2 k = subst (λ (j : ℕ). GoodDiverge W R2 j) e (each-spare (t .«div_nodes») (divergePlace W E 0) R1 (omega (arith, long, long1)) i l) in
+      spare-past (indices-writes (pathHeaderOf t)) (putCounts (pathHeaderOf t) R3) k (inr (omega arith))
+      (spare-past (counts-writes (pathHeaderOf t)) R3 k (inr (omega arith))
+      (spare-past (no-diverges-writes W t (h .room)) R2 k (inl (omega arith)) w))
+
+  no-diverge : (j : ℕ) → j < divergeWords W * (t .divergeRoom - M) → leAt 4 S (divergePlace W E M + 4 * j) ≡ 0
   no-diverge j l =
-      let a = h .room .diverge in
-      behind 4 (divergePlace E M + 4 * j) (omega arith) ∙ zero-read (t .divergeRoom - M) (divergePlace E M) R2 (omega (arith, long, long2)) j l
+      let a = words-left W M (t .divergeRoom) (h .room .diverge) in
+      behind 4 (divergePlace W E M + 4 * j) (omega arith) ∙ zero-read (divergeWords W * (t .divergeRoom - M)) (divergePlace W E M) R2 (omega (arith, long, long2)) j l
 
   pub stored-good : GoodImage S
   stored-good =
       let e : estCount S ≡ E = e-same ∙ sym e-was in
       let q : divergeRoom S ≡ t .divergeRoom = q-same ∙ sym q-was in
+      let same-size : imageSize W (estCount bs) (divergeRoom bs) ≡ imageSize (isWide S) (estCount S) (divergeRoom S) = rw (w-same, e-same, q-same) in
       record {
         bytes = bytes-stored t bs (g .bytes);
-        size-is = kept 4 0 (inl (omega arith)) (inl (omega arith)) (omega arith) ∙ (g .size-is ∙ ap₂ imageSize (sym e-same) (sym q-same));
-        long = length-stored t bs ∙ (g .long ∙ ap₂ imageSize (sym e-same) (sym q-same));
+        size-is = kept 4 0 (inl (omega arith)) (inl (omega arith)) (omega arith) ∙ (g .size-is ∙ same-size);
+        long = length-stored t bs ∙ (g .long ∙ same-size);
         est-offset = kept 4 20 (inr (omega arith)) (inl (omega arith)) (omega arith) ∙ g .est-offset;
         path-offset = kept 4 24 (inr (omega arith)) (inl (omega arith)) (omega arith) ∙ (g .path-offset ∙ ap (λ (x : ℕ). nodePlace x 0) (sym e-same));
-        diverge-offset = kept 4 28 (inr (omega arith)) (inl (omega arith)) (omega arith) ∙ (g .diverge-offset ∙ ap (λ (x : ℕ). divergePlace x 0) (sym e-same));
-        spare = kept 2 42 (inr (omega arith)) (inr (omega arith)) (omega arith) ∙ g .spare;
+        diverge-offset = kept 4 28 (inr (omega arith)) (inl (omega arith)) (omega arith) ∙ (g .diverge-offset ∙ ap divergeOffset (sym e-same));
+        spare = width-same ∙ (g .spare ∙ ap wideNumber (sym w-same));
         spare-rest = kept 4 44 (inr (omega arith)) (inr (omega arith)) (omega arith) ∙ g .spare-rest;
         few-path = omega (arith, n-is, e, h .room .path);
         few-diverge = omega (arith, m-is, q, h .room .diverge);
@@ -289,5 +345,6 @@ module _ (bs : List ℕ) (g : GoodImage bs) (t : Train) (keep : Keeps t (decoded
             };
         node = λ i l. subst (λ (x : ℕ). GoodNode S (nodePlace x i)) (sym e) (nodes-good i (omega (arith, n-is)));
         no-node = λ j l. ap₂ (λ (x y : ℕ). leAt 4 S (nodePlace x y + 4 * j)) e n-is ∙ no-node j (omega (arith, e, n-is));
-        no-diverge = λ j l. ap₂ (λ (x y : ℕ). leAt 4 S (divergePlace x y + 4 * j)) e m-is ∙ no-diverge j (omega (arith, q, m-is));
+        diverge = λ i l. rw (w-same, e) (diverges-good i (omega (arith, m-is)));
+        no-diverge = rw (w-same, e, m-is, q) no-diverge;
       }

@@ -12,11 +12,12 @@ use Rattle.link_rules.specs.declared.refusal.Refusal.{Refusal}
 use Rattle.disp_structs.specs.Train.{Train}
 use Rattle.disp_structs.specs.declared.DispNode.{DispNode}
 use Rattle.image.specs.Codec.{decoded}
+use Rattle.image_fault.specs.declared.Widths.{Widths}
 use Rattle.free_path.specs.Base.{Res, ok, no, at}
 use Rattle.free_path.specs.LinkOptType.{linkIdxPath, Sentinels, calcIdxSentinels, trainMet}
 use Rattle.update_definition.specs.Fits.{TrainsUpTo}
 use Rattle.update_definition.specs.Update.{Given, splitPoint, metBefore, roundMet, Status, Success, Blocked, Faulty, Refused, Updated, metIn, Between, due, roundsFrom, firstMet, givenOf, startOf, updateFrom, updateFreePath}
-use Rattle.update_definition.specs.UpdateImage.{answerBy, linkIdxs, updateFault, updatedImage}
+use Rattle.update_definition.specs.UpdateImage.{answerBy, linkIdxs, updateFaultIn, updatedImageIn}
 
 module _ (top : ℕ) (occ : List ℕ) (h : TrainsUpTo top occ) where
   there : (b : Bool) (l : LinkIdx) → cond b (entryAt occ l) noTrain .0 ≤ top
@@ -66,7 +67,7 @@ module _ (top : ℕ) (occ : List ℕ) (h : TrainsUpTo top occ) where
   by-answer (suc k) f u img l = omega arith
 
   -- of an update of an image
-  pub image-met : (img blocking : List ℕ) (moved : ℕ) (local : Bool) (limit : ℕ) → updatedImage img occ blocking moved local limit .answer .met .0 ≤ top
-  unfolding updatedImage
-  image-met img blocking moved local limit =
-      by-answer (updateFault img occ blocking moved limit .number) (updateFault img occ blocking moved limit) _ img (update-met (linkIdxs blocking) (record { 0 = moved }) local limit (decoded img))
+  pub image-met : (w : Widths) (img blocking : List ℕ) (moved : ℕ) (local : Bool) (limit : ℕ) → updatedImageIn w img occ blocking moved local limit .answer .met .0 ≤ top
+  unfolding updatedImageIn
+  image-met w img blocking moved local limit =
+      by-answer (updateFaultIn w img occ blocking moved limit .number) (updateFaultIn w img occ blocking moved limit) _ img (update-met (linkIdxs blocking) (record { 0 = moved }) local limit (decoded img))

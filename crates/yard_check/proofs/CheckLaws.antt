@@ -17,6 +17,8 @@ use Rattle.image_fault.proofs.AcceptLaws.{or-else-clean}
 use Rattle.image.specs.Image.{largestTrain}
 use Rattle.update_definition.specs.Fits.{TrainsUpTo, TrainsWithin}
 use Rattle.update_definition.specs.UpdateImage.{UpdatedImage, callFault, updatedImage}
+use Rattle.image_fault.specs.declared.Widths.the-variants.{Narrow}
+use Rattle.update_laws.proofs.BytesAccepted.{narrow-held}
 use Rattle.update_laws.proofs.UpdateLeaves.{left-accepted}
 use Rattle.yard_check.specs.Yard.{slotCount, partBegin, partEnd, partOf, withPart, yardFits, yardFault}
 use Rattle.yard_check.specs.YardMatch.{TrainsHeld}
@@ -187,11 +189,11 @@ module _ (yard occ : List ℕ) (a : CheckArgs) (f : Fits yard) where
   accepted-after b w ok t l m =
       rw (part-done yard f (slotImage yard occ a) (images-fit yard occ a) (slotCount yard) (omega arith) t l m m)
       (slot-keeps yard occ a t (λ (x : List ℕ). imageFault x (length occ) .number ≡ 0) (ok t l m)
-      (left-accepted (partOf yard t) occ (a .blocking) (a .moved) (a .local) (a .limit) (part-bytes yard f t l m b) (largestTrain (partOf yard t)) (omega arith) (w t l m) (ok t l m)))
+      (left-accepted Narrow (partOf yard t) occ (a .blocking) (a .moved) (a .local) (a .limit) (part-bytes yard f t l m b) (largestTrain (partOf yard t)) (omega arith) (w t l m) (ok t l m)))
 
 -- a slot's number is a train that every image holds
 slot-held : (img : List ℕ) → 63 ≤ largestTrain img
-slot-held img = omega arith
+slot-held img = omega (arith, narrow-held img)
 
 -- the trains of a check that is not refused, whose moved train is a slot, are ones that each image holds
 pub slots-within : (top : ℕ) (yard occ : List ℕ) (moved : ℕ) → Fits yard → moved ≤ slotCount yard → TrainsHeld top yard → TrainsUpTo top occ

@@ -19,8 +19,9 @@ use Rattle.update_definition.specs.Fits.{TrainsUpTo, TrainsWithin}
 use Rattle.update_definition.specs.Update.{Status, Success, Blocked, Faulty, Refused, holderIn}
 use Rattle.update_definition.specs.UpdateImage.{UpdatedImage, updatedImage}
 use Rattle.update_definition.specs.UpdateMatch.{GivenMatch}
+use Rattle.image_fault.specs.declared.Widths.the-variants.{Narrow}
 use Rattle.update_laws.proofs.UpdateCounts.{image-counts}
-use Rattle.update_laws.proofs.UpdateLeaves.{left-holder}
+use Rattle.update_laws.proofs.UpdateLeaves.{narrow-holder}
 use Rattle.update_laws.proofs.ImageRenumbering.{call-fault-match}
 use Rattle.yard_check.specs.Yard.{slotCount, partOf, yardFits}
 use Rattle.yard_check.specs.Check.{CheckArgs, rowSize, slotsFault, reportFault, checkFault, Row, rowAt, statusRow, isBlockedRow, isErredRow, isFinished, Visit, visitBy, visited, slotVisit, slotRow, slotImage, yardAfter, reportAfter, howMany, answerBy, answerOf, Checked, checkDone, checkedBy, checkedWith}
@@ -48,11 +49,11 @@ holder-by zero f true isMoved u img = omega arith
 holder-by zero f false true u img = omega arith
 holder-by zero f false false u img = holder-row (u .answer .status) (u .answer .tally .rounds) (u .answer .tally .strays) (u .answer .met .0)
 
-holder-few : (occ : List ℕ) (a : CheckArgs) (t : ℕ) (img : List ℕ) → Bytes img → TrainsWithin (largestTrain img) occ (a .moved) → visited occ a t img .row .holder ≤ largestTrain img
+holder-few : (occ : List ℕ) (a : CheckArgs) (t : ℕ) (img : List ℕ) → Bytes img → TrainsWithin (largestTrain img) occ (a .moved) → visited occ a t img .row .holder ≤ 65535
 unfolding visited
 holder-few occ a t img b w =
     let u = updatedImage img occ (a .blocking) (a .moved) (a .local) (a .limit) in
-    omega (arith, holder-by (imageFault img (length occ) .number) (imageFault img (length occ)) (isFinished img) (eqb t (a .moved)) u img, left-holder img occ (a .blocking) (a .moved) (a .local) (a .limit) b w)
+    omega (arith, holder-by (imageFault img (length occ) .number) (imageFault img (length occ)) (isFinished img) (eqb t (a .moved)) u img, narrow-holder img occ (a .blocking) (a .moved) (a .local) (a .limit) b w)
 
 -- trains up to a larger one are permuted too
 renumbers-more : (top more : ℕ) (q : ℕ → ℕ) → top ≤ more → Renumbering top q → Renumbering more q
@@ -75,7 +76,7 @@ strays-by zero f false false u img = strays-row (u .answer .status) (u .answer .
 strays-few : (occ : List ℕ) (a : CheckArgs) (t : ℕ) (img : List ℕ) → Bytes img → a .limit < 65536 → visited occ a t img .row .strays < 4294967296
 unfolding visited
 strays-few occ a t img b h =
-    omega (arith, image-counts img occ (a .blocking) (a .moved) (a .local) (a .limit) b .strays, strays-by (imageFault img (length occ) .number) (imageFault img (length occ)) (isFinished img) (eqb t (a .moved)) (updatedImage img occ (a .blocking) (a .moved) (a .local) (a .limit)) img)
+    omega (arith, image-counts Narrow img occ (a .blocking) (a .moved) (a .local) (a .limit) b .strays, strays-by (imageFault img (length occ) .number) (imageFault img (length occ)) (isFinished img) (eqb t (a .moved)) (updatedImage img occ (a .blocking) (a .moved) (a .local) (a .limit)) img)
 
 -- what the report keeps of a renumbered row
 kept-renumbered : (q : ℕ → ℕ) (r : Row) → r .holder < 65536 → q (r .holder) < 65536 → r .met < 65536 → q (r .met) < 65536 → keptRow (rRow q r) ≡ rRow q (keptRow r)
@@ -107,7 +108,7 @@ pub record ChecksMatch (p q : ℕ → ℕ) (slots : ℕ) (c c′ : Checked) : Ty
 module _ (top : ℕ) (p q : ℕ → ℕ) (yard yard′ occ occ′ : List ℕ) (a a′ : CheckArgs) (report report′ : List ℕ)
     (links : Renumbering (length occ - 1) p) (trains : Renumbering top q)
     (among : (t : ℕ) → t ≤ slotCount yard → q t ≤ slotCount yard) (ok : yardFits yard ≡ true) (ok′ : yardFits yard′ ≡ true) (m : YardsMatch p q yard yard′)
-    (o : OccupanciesMatch p q occ occ′) (b : Bytes yard) (b′ : Bytes yard′) (held : TrainsHeld top yard) (w : TrainsUpTo top occ) (g : ArgsMatch p q a a′) (long : length report′ ≡ length report) where
+    (o : OccupanciesMatch p q occ occ′) (b : Bytes yard) (b′ : Bytes yard′) (top-low : top ≤ 65535) (held : TrainsHeld top yard) (w : TrainsUpTo top occ) (g : ArgsMatch p q a a′) (long : length report′ ≡ length report) where
   abbrev S : ℕ
   S = slotCount yard
 
@@ -118,7 +119,7 @@ module _ (top : ℕ) (p q : ℕ → ℕ) (yard yard′ occ occ′ : List ℕ) (a
   calls = record { links = links; trains = trains; occupancies = o; order = g .blocking }
 
   -- the same refusal, or none in both
-  fault-same : checkFault yard′ occ′ a′ (length report′) ≡ f
+  pub fault-same : checkFault yard′ occ′ a′ (length report′) ≡ f
   unfolding checkFault slotsFault reportFault
   fault-same =
       rw (
@@ -186,7 +187,7 @@ module _ (top : ℕ) (p q : ℕ → ℕ) (yard yard′ occ occ′ : List ℕ) (a
             rows = λ t l k.
                 let low = holder-low t l k in
                 let few = met-low t l k in
-                let trains-65535 = renumbers-more top 65535 q (omega (arith, held t l k)) trains in
+                let trains-65535 = renumbers-more top 65535 q top-low trains in
                 report-row row′ report′ (slotCount yard′) (omega (arith, m .slots, long, report-long)) (q t) (slot t l k .0) (slot t l k .1)
                 ∙ (ap keptRow (slots-match t l k .row)
                 ∙ (kept-renumbered q (row t) low (below 65536 q trains-65535 (row t .holder) low) few (below 65536 q trains-65535 (row t .met) few)

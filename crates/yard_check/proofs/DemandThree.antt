@@ -9,13 +9,13 @@ use Rattle.link_rules.specs.declared.link_idx.LinkIdx.{LinkIdx}
 use Rattle.link_rules.specs.declared.link_idx.TrainIdx.{TrainIdx}
 use Rattle.link_rules.proofs.MarkLaws.{length-marked}
 use Rattle.link_rules.proofs.MarkRenumbering.{markOf-r}
-use Rattle.image.specs.Image.{largestTrain}
 use Rattle.yard_check.specs.Yard.{partOf}
 use Rattle.yard_check.specs.Check.{CheckArgs}
 use Rattle.yard_check.specs.YardMatch.{TrainsHeld, ArgsMatch}
 use Rattle.yard_check.specs.Calls.{World, Call, mark, check, run, runAll}
 use Rattle.yard_check.specs.DemandThree.{OneYard, OfTypes, CallsMatch, CallOfTypes, Premise, OutcomesMatch, DemandThreeUpTo, DemandThree}
 use Rattle.yard_check.proofs.CheckMatch.{check-match}
+use Rattle.update_laws.proofs.BytesAccepted.{narrow-held}
 use Rattle.yard_check.proofs.CheckLaws.{fits-kept, slots-kept, bytes-kept}
 use Rattle.yard_check.proofs.MarkedTrains.{upto-marked}
 
@@ -26,7 +26,7 @@ pub record Kept (top : ℕ) (p q : ℕ → ℕ) (w w′ : World) (c c′ : Call)
   pub types : OfTypes top (run w c .world) (run w′ c′ .world)
 
 -- every image of the yard holds trains up to top
-module _ (top : ℕ) (p q : ℕ → ℕ) (w w′ : World) (held : TrainsHeld top (w .yard)) (y : OneYard top p q w w′) (o : OfTypes top w w′) where
+module _ (top : ℕ) (p q : ℕ → ℕ) (w w′ : World) (few : top ≤ 65535) (held : TrainsHeld top (w .yard)) (y : OneYard top p q w w′) (o : OfTypes top w w′) where
   -- ---- mark and release
 
   mark-kept : (l : LinkIdx) (t : TrainIdx) → CallOfTypes top (mark l t) → Kept top p q w w′ (mark l t) (mark (rLink p l) (rTrain q t))
@@ -60,7 +60,7 @@ module _ (top : ℕ) (p q : ℕ → ℕ) (w w′ : World) (held : TrainsHeld top
   check-kept a a′ report report′ g long v h =
       let links : Renumbering (length (w .occupancy) - 1) p = rw (y .long) (y .links) in
       let m = check-match top p q (w .yard) (w′ .yard) (w .occupancy) (w′ .occupancy) a a′ report report′ links (y .trains) (y .slots) (y .yard) (y .yard′) (y .yards) (y .occupancies)
-      (o .bytes) (o .bytes′) held (o .entries) g long v h in
+      (o .bytes) (o .bytes′) few held (o .entries) g long v h in
       let same = slots-kept (w .yard) (w .occupancy) a report (y .yard) in
       record {
         outcomes = record { answers = (m .answer, rw same (m .report)); occupancies = y .occupancies; yards = m .yards };
@@ -96,15 +96,15 @@ module _ (top : ℕ) (p q : ℕ → ℕ) (w w′ : World) (held : TrainsHeld top
 
 -- ---- every list of calls
 
--- of every largest train that images hold
-pub up-to : (top : ℕ) → ((img : List ℕ) → top ≤ largestTrain img) → DemandThreeUpTo top
+-- of every largest train that narrow images hold
+pub up-to : (top : ℕ) → top ≤ 65535 → DemandThreeUpTo top
 unfolding runAll
 up-to top few p q w w′ [] [] y o e v h = tt
 up-to top few p q w w′ [] (c′ ∷ cs′) y o e v h = absurd e
 up-to top few p q w w′ (c ∷ cs) [] y o e v h = absurd e
 up-to top few p q w w′ (c ∷ cs) (c′ ∷ cs′) y o e v h =
-    let k = call-kept top p q w w′ (λ t l k. few (partOf (w .yard) t)) y o c c′ (e .0) (v .0) (h .0) in
+    let k = call-kept top p q w w′ few (λ t l k. omega (arith, few, narrow-held (partOf (w .yard) t))) y o c c′ (e .0) (v .0) (h .0) in
     (k .outcomes, up-to top few p q (run w c .world) (run w′ c′ .world) cs cs′ (k .worlds) (k .types) (e .1) (v .1) (h .1))
 
 pub demand-three : DemandThree
-demand-three = up-to 65535 (λ img. omega arith)
+demand-three = up-to 65535 (omega arith)

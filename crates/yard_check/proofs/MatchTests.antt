@@ -3,7 +3,7 @@ use mathlib.Core.Path.{_≡_}
 use mathlib.Core.Logic.{⊎-elim}
 use mathlib.Core.Bool.{Bool, true, _&&_}
 use mathlib.Core.List.{List}
-use Prim.Native.Nat.{ℕ, _+_, _-_, _≤_, _<_}
+use Prim.Native.Nat.{ℕ, _+_, _*_, _-_, _≤_, _<_}
 use native.Mathlib.Omega.{arith}
 use lib.Dec.{ltb, eqb}
 use lib.ListN.{length, getD, List·getD-eq-default}
@@ -11,7 +11,8 @@ use borrow.Author.Tests.{eqb-true, ltb-true}
 use Rattle.link_rules.specs.Octets.{leAt}
 use Rattle.link_rules.specs.Network.{allBelow}
 use Rattle.link_rules.proofs.TableLaws.{all-at}
-use Rattle.image.specs.Image.{estCount, divergeRoom, estPlace, nodePlace, divergePlace}
+use Rattle.image.specs.Fields.{divergeWords, divergeSize}
+use Rattle.image.specs.Image.{estCount, divergeRoom, isWide, estPlace, nodePlace, divergePlace}
 use Rattle.image.specs.ImageMatch.{SameBytes, Renumbered, ImagesMatch}
 use Rattle.image.proofs.Writers.{side}
 use Rattle.image_fault.proofs.ScanLaws.{both}
@@ -54,13 +55,13 @@ renumbered-is p bs bs′ a w k v h =
 
 -- where the records end
 abbrev recordsEnd : List ℕ → ℕ
-recordsEnd bs = divergePlace (estCount bs) (divergeRoom bs)
+recordsEnd bs = divergePlace (isWide bs) (estCount bs) (divergeRoom bs)
 
 unfoldable pub imagesMatch : (ℕ → ℕ) → (ℕ → ℕ) → List ℕ → List ℕ → Bool
 imagesMatch p q bs bs′ =
     eqb (length bs′) (length bs) && (renumbered q bs bs′ 0 64 32 2 && (allBelow (estCount bs) (λ i. renumbered p bs bs′ (estPlace i) 32 24 4)
     && (allBelow (estCount bs) (λ i. renumbered p bs bs′ (nodePlace (estCount bs) i) 32 16 4)
-    && (allBelow (divergeRoom bs) (λ i. renumbered q bs bs′ (divergePlace (estCount bs) i) 4 0 2) && sameBytes bs bs′ (recordsEnd bs) (length bs - recordsEnd bs)))))
+    && (allBelow (divergeRoom bs) (λ i. renumbered q bs bs′ (divergePlace (isWide bs) (estCount bs) i) (divergeSize (isWide bs)) 0 (2 * divergeWords (isWide bs))) && sameBytes bs bs′ (recordsEnd bs) (length bs - recordsEnd bs)))))
 
 pub images-match : (p q : ℕ → ℕ) (bs bs′ : List ℕ) → imagesMatch p q bs bs′ ≡ true → ImagesMatch p q bs bs′
 unfolding imagesMatch
@@ -69,12 +70,12 @@ images-match p q bs bs′ h =
     let b = both (renumbered q bs bs′ 0 64 32 2) _ (a .1) in
     let c = both (allBelow (estCount bs) (λ i. renumbered p bs bs′ (estPlace i) 32 24 4)) _ (b .1) in
     let d = both (allBelow (estCount bs) (λ i. renumbered p bs bs′ (nodePlace (estCount bs) i) 32 16 4)) _ (c .1) in
-    let e = both (allBelow (divergeRoom bs) (λ i. renumbered q bs bs′ (divergePlace (estCount bs) i) 4 0 2)) (sameBytes bs bs′ (recordsEnd bs) (length bs - recordsEnd bs)) (d .1) in
+    let e = both (allBelow (divergeRoom bs) (λ i. renumbered q bs bs′ (divergePlace (isWide bs) (estCount bs) i) (divergeSize (isWide bs)) 0 (2 * divergeWords (isWide bs)))) (sameBytes bs bs′ (recordsEnd bs) (length bs - recordsEnd bs)) (d .1) in
     record {
       long = eqb-true (length bs′) (length bs) (a .0);
       header = renumbered-is q bs bs′ 0 64 32 2 (b .0);
       est = λ i l. renumbered-is p bs bs′ (estPlace i) 32 24 4 (all-at (λ j. renumbered p bs bs′ (estPlace j) 32 24 4) (estCount bs) i (c .0) l);
       node = λ i l. renumbered-is p bs bs′ (nodePlace (estCount bs) i) 32 16 4 (all-at (λ j. renumbered p bs bs′ (nodePlace (estCount bs) j) 32 16 4) (estCount bs) i (d .0) l);
-      diverge = λ i l. renumbered-is q bs bs′ (divergePlace (estCount bs) i) 4 0 2 (all-at (λ j. renumbered q bs bs′ (divergePlace (estCount bs) j) 4 0 2) (divergeRoom bs) i (e .0) l);
+      diverge = λ i l. renumbered-is q bs bs′ (divergePlace (isWide bs) (estCount bs) i) (divergeSize (isWide bs)) 0 (2 * divergeWords (isWide bs)) (all-at (λ j. renumbered q bs bs′ (divergePlace (isWide bs) (estCount bs) j) (divergeSize (isWide bs)) 0 (2 * divergeWords (isWide bs))) (divergeRoom bs) i (e .0) l);
       rest = same-bytes bs bs′ (recordsEnd bs) (length bs - recordsEnd bs) (length bs) (omega arith) (e .1);
     }

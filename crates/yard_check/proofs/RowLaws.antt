@@ -13,6 +13,7 @@ use Rattle.update_definition.specs.Update.{Status, Success, Blocked, Faulty, Re
 use Rattle.update_definition.specs.UpdateImage.{UpdatedImage, callFault, updatedImage}
 use Rattle.update_definition.specs.Fits.{TrainsUpTo}
 use Rattle.update_laws.proofs.TallyBounds.{StatusFew}
+use Rattle.image_fault.specs.declared.Widths.the-variants.{Narrow}
 use Rattle.update_laws.proofs.TrainsMet.{image-met}
 use Rattle.update_laws.proofs.UpdateCounts.{image-counts}
 use Rattle.update_laws.proofs.RefusalNumbers.{update-low, refused-update}
@@ -34,7 +35,7 @@ module _ (img occ blocking : List ℕ) (moved : ℕ) (local : Bool) (limit : ℕ
   -- what an update counts and its refusal have room in the report
   pub columns-fit : Bytes img → limit < 65536 → ColumnsFit (u .answer .status) (u .answer .tally .strays)
   columns-fit b l =
-      let c = image-counts img occ blocking moved local limit b in
+      let c = image-counts Narrow img occ blocking moved local limit b in
       (fits-by (u .answer .status) (c .errors) (update-low img occ blocking moved local limit call), omega (arith, c .strays))
 
 -- ---- the train met in a row is one of the occupancy, or 0
@@ -56,7 +57,7 @@ module _ (top : ℕ) (occ : List ℕ) (h : TrainsUpTo top occ) (a : CheckArgs) (
   unfolding visited
   visit-met img =
       let u = updatedImage img occ (a .blocking) (a .moved) (a .local) (a .limit) in
-      omega (arith, met-by (imageFault img (length occ) .number) (imageFault img (length occ)) (isFinished img) (eqb t (a .moved)) u img, image-met top occ h img (a .blocking) (a .moved) (a .local) (a .limit))
+      omega (arith, met-by (imageFault img (length occ) .number) (imageFault img (length occ)) (isFinished img) (eqb t (a .moved)) u img, image-met top occ h Narrow img (a .blocking) (a .moved) (a .local) (a .limit))
 
   pub slot-met : (yard : List ℕ) → slotRow yard occ a t .met ≤ top
   unfolding slotVisit
@@ -103,4 +104,4 @@ module _ (occ : List ℕ) (a : CheckArgs) (t : ℕ) (img : List ℕ) where
       go zero e = visit-updated occ a t img e d m
       go (suc n) e =
           visit-refused occ a t img n e
-          ∙ ap (λ (x : UpdatedImage). visit (updatedRow (x .answer)) (x .image)) (sym (refused-update img occ (a .blocking) (a .moved) (a .local) (a .limit) c n e))
+          ∙ ap (λ (x : UpdatedImage). visit (updatedRow (x .answer)) (x .image)) (sym (refused-update Narrow img occ (a .blocking) (a .moved) (a .local) (a .limit) c n e))

@@ -19,10 +19,11 @@ use Rattle.update_definition.specs.Look.{lookFrom, blockBy, storedFrom, blockSt
 use Rattle.update_definition.specs.Moves.{shiftSave, rewindDivs, oneBack, rewind, alternate, changeDiverge, pushSaved, blockEmpty, advance}
 use Rattle.update_definition.specs.Join.{without, removeLinks, insertLinks, shiftOffsets, moveEnds, newEnds, updateFreePathHelpers, shiftDivs, updateDivNodes, freeIsCorrect, spliceAt, join}
 use Rattle.update_definition.specs.Update.{searchStep, searchFrom, stepsFrom, meeting, splitPoint, roundMet, beginAt, beginOf, roundOf, roundSteps, finish, afterRound, roundsFrom, adjustSentinel, updateFreePath}
-use Rattle.image.specs.Image.{typeOf, pathHeader, estFrom, nodeFrom, divergeFrom, putNode, putDiverge, zeroWords, putPathHeader}
-use Rattle.image.specs.Codec.{decoded, putEach, putRecords, storedInto}
-use Rattle.image_fault.specs.ImageFault.{firstUnfit, countsFit, partsFit, trainFits, estTypeFits, nodeTypeFits, zeroWord, unusedZero, recordsFit, imageFits, floatFits, timeFits, distFits, eventFits, estLinksFit, estFits, nodeFits, indicesFit, headerFits, valueFault, cycleFault, stepsTo as steps, comesFrom, endsAt, arrivesOn, arrived, firstArrival, onRoute, innerFits, divergeFits, routeFault, imageFault}
-use Rattle.update_definition.specs.UpdateImage.{linksBelow, callFault, updateFault, updatedImage}
+use Rattle.image.specs.Fields.{divergeWords}
+use Rattle.image.specs.Image.{typeOf, isWide, largestOf, pathHeader, estFrom, nodeFrom, divergeFrom, putNode, putDiverge, zeroWords, putPathHeader}
+use Rattle.image.specs.Codec.{decoded, putEach, putRecords, putChanges}
+use Rattle.image_fault.specs.ImageFault.{firstUnfit, countsFit, partsFit, trainFits, estTypeFits, nodeTypeFits, divergeSpareFits, zeroWord, unusedZero, recordsFit, imageFits, floatFits, timeFits, distFits, eventFits, estLinksFit, estFits, nodeFits, indicesFit, headerFits, divergeTrainFits, trainsFault, valueFault, cycleFault, stepsTo as steps, comesFrom, endsAt, arrivesOn, arrived, firstArrival, onRoute, innerFits, divergeFits, routeFault, faultWith}
+use Rattle.update_definition.specs.UpdateImage.{linksBelow, callFault, updateFaultIn, updateFault, updatedImageIn, updatedImage}
 use Rattle.yard_check.specs.Yard.{partEnd, partOf, withPart, partFits, yardFits}
 use Rattle.yard_check.specs.Check.{slotsFault, reportFault, checkFault, putRow, isFinished, visited, slotVisit, yardAfter, reportAfter, howMany, firstNot, answerOf, checkedWith}
 
@@ -82,5 +83,5 @@ twoSlots n x y = words (616 ∷ 2 ∷ 16 ∷ (16 + n) ∷ []) ++ (x ++ y)
 
 -- what computed examples unfold
 unfoldable pub everything : ℕ
-unfolding ofBits toBits add sub div neg lt le eq ne isNan leAt putLe allBelow occupied realOf bitsOf inReach magnitude nearFloat sameEvent arriving listed follow via reach firstAt at slice stepsTo walkFrom walkBack passes count any linksOnPath contains classWalk linkOptType calcIdxSentinels findTrainIntersect poolPush addOne addFrom closed addBlockingTrains addAllBlockingTrains concatTrainIdxViews maximumNumber isStray strays stepsNext stepsAlt badStep onPath badSteps inConflict validateFreePath pushTrains pushNode pushDivs diverging lookFrom blockBy storedFrom blockStored takeStored storedTrains occupiedNext moveOf shiftSave rewindDivs oneBack rewind alternate changeDiverge pushSaved blockEmpty advance without removeLinks insertLinks shiftOffsets moveEnds newEnds updateFreePathHelpers shiftDivs updateDivNodes freeIsCorrect spliceAt join searchStep searchFrom stepsFrom meeting splitPoint roundMet beginAt beginOf roundOf roundSteps finish afterRound roundsFrom adjustSentinel updateFreePath typeOf pathHeader estFrom nodeFrom divergeFrom putNode putDiverge zeroWords putPathHeader decoded putEach putRecords storedInto firstUnfit countsFit partsFit trainFits estTypeFits nodeTypeFits zeroWord unusedZero recordsFit imageFits floatFits timeFits distFits eventFits estLinksFit estFits nodeFits indicesFit headerFits valueFault cycleFault steps comesFrom endsAt arrivesOn arrived firstArrival onRoute innerFits divergeFits routeFault imageFault linksBelow callFault updateFault updatedImage partEnd partOf withPart partFits yardFits slotsFault reportFault checkFault putRow isFinished visited slotVisit yardAfter reportAfter howMany firstNot answerOf checkedWith words siding diverted plain
+unfolding ofBits toBits add sub div neg lt le eq ne isNan leAt putLe allBelow occupied realOf bitsOf inReach magnitude nearFloat sameEvent arriving listed follow via reach firstAt at slice stepsTo walkFrom walkBack passes count any linksOnPath contains classWalk linkOptType calcIdxSentinels findTrainIntersect poolPush addOne addFrom closed addBlockingTrains addAllBlockingTrains concatTrainIdxViews maximumNumber isStray strays stepsNext stepsAlt badStep onPath badSteps inConflict validateFreePath pushTrains pushNode pushDivs diverging lookFrom blockBy storedFrom blockStored takeStored storedTrains occupiedNext moveOf shiftSave rewindDivs oneBack rewind alternate changeDiverge pushSaved blockEmpty advance without removeLinks insertLinks shiftOffsets moveEnds newEnds updateFreePathHelpers shiftDivs updateDivNodes freeIsCorrect spliceAt join searchStep searchFrom stepsFrom meeting splitPoint roundMet beginAt beginOf roundOf roundSteps finish afterRound roundsFrom adjustSentinel updateFreePath typeOf pathHeader estFrom nodeFrom isWide divergeWords largestOf divergeFrom putNode putDiverge zeroWords putPathHeader decoded putEach putRecords putChanges firstUnfit countsFit partsFit trainFits estTypeFits nodeTypeFits divergeSpareFits zeroWord unusedZero recordsFit imageFits floatFits timeFits distFits eventFits estLinksFit estFits nodeFits indicesFit headerFits divergeTrainFits trainsFault valueFault cycleFault steps comesFrom endsAt arrivesOn arrived firstArrival onRoute innerFits divergeFits routeFault faultWith linksBelow callFault updateFaultIn updatedImageIn partEnd partOf withPart partFits yardFits slotsFault reportFault checkFault putRow isFinished visited slotVisit yardAfter reportAfter howMany firstNot answerOf checkedWith words siding diverted plain
 everything = 0

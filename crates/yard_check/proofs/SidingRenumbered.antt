@@ -23,7 +23,7 @@ use Rattle.yard_check.proofs.DemandThree.{demand-three}
 
 -- ---- the renumbering of links and of trains: 1 and 2 change places
 
-unfoldable swapped : ℕ → ℕ
+unfoldable pub swapped : ℕ → ℕ
 swapped zero = 0
 swapped (suc zero) = 2
 swapped (suc (suc zero)) = 1
@@ -49,14 +49,14 @@ swaps top h = record { one-to-one = λ a b e. sym (twice a) ∙ (ap swapped e �
 -- ---- the two worlds
 
 -- four links, each its own flip; link 3 locks out link a
-unfoldable table : ℕ → List ℕ
+unfoldable pub table : ℕ → List ℕ
 table a = words (68 ∷ 4 ∷ 1 ∷ 64 ∷ 0 ∷ 0 ∷ 0 ∷ 1 ∷ 0 ∷ 0 ∷ 2 ∷ 0 ∷ 0 ∷ 3 ∷ 0 ∷ 1 ∷ a ∷ [])
 
 -- train 1 goes over link 1, or by the siding over link 2; train 2 over link 3
-abbrev first : World
+abbrev pub first : World
 first = record { table = table 1; occupancy = 0 ∷ 0 ∷ 0 ∷ 0 ∷ []; yard = twoSlots 400 (siding 1 2 1 2) (plain 2 1 3) }
 
-abbrev second : World
+abbrev pub second : World
 second = record { table = table 2; occupancy = 0 ∷ 0 ∷ 0 ∷ 0 ∷ []; yard = twoSlots 200 (plain 1 2 3) (siding 2 1 2 1) }
 
 -- train 2 marks link 3, the yard is checked, link 3 is released
@@ -76,7 +76,7 @@ calls′ =
     ∷ []
 
 -- what the examples compute with
-unfoldable world : ℕ
+unfoldable pub world : ℕ
 unfolding everything swapped table holdAll refilled resetLinkTrainIdx resetAll updateLinksBlocked isLink markRefusal markOf lockouts tableHeaderFits recordFits lockoutFits tableFits rowFrom run runAll entriesBelow sameBytes renumbered imagesMatch
 world = 0
 
@@ -103,7 +103,7 @@ diverts′ = refl
 
 -- ---- the premises
 
-two-cases : (P : ℕ → Type 0) → P 1 → P 2 → (t : ℕ) → 1 ≤ t → t ≤ 2 → P t
+pub two-cases : (P : ℕ → Type 0) → P 1 → P 2 → (t : ℕ) → 1 ≤ t → t ≤ 2 → P t
 two-cases P a b zero l m = absurd (omega arith)
 two-cases P a b (suc zero) l m = a
 two-cases P a b (suc (suc zero)) l m = b
@@ -123,7 +123,7 @@ among (suc zero) h = omega arith
 among (suc (suc zero)) h = omega arith
 among (suc (suc (suc t))) h = h
 
-one-yard : OneYard 65535 swapped swapped first second
+pub one-yard : OneYard 65535 swapped swapped first second
 unfolding world
 one-yard =
     record {
@@ -140,7 +140,7 @@ one-yard =
       yards = record { slots = refl; images = two-cases _ (images-match swapped swapped (partOf (first .yard) 1) (partOf (second .yard) 2) refl) (images-match swapped swapped (partOf (first .yard) 2) (partOf (second .yard) 1) refl) };
     }
 
-of-types : OfTypes 65535 first second
+pub of-types : OfTypes 65535 first second
 unfolding world
 of-types =
     record {

@@ -10,15 +10,17 @@ use lib.ListN.{length}
 use Rattle.link_rules.specs.Octets.{leAt}
 use Rattle.link_rules.proofs.OctetLaws.{Bytes}
 use Rattle.disp_structs.specs.Train.{Train}
-use Rattle.image.specs.Image.{nodePlace, divergePlace, putNode, putDiverge, putPathHeader}
-use Rattle.image.specs.Codec.{pathHeaderOf, putRecords, storedInto}
+use Rattle.image.specs.Fields.{divergeWords, divergeSize}
+use Rattle.image.specs.Image.{isWide, nodePlace, divergePlace, putNode, putDiverge, putPathHeader}
+use Rattle.image.specs.Codec.{pathHeaderOf, putRecords, putChanges, storedInto}
 use Rattle.image.proofs.Writers.{zero-writes, each-writes, le-outside}
 use Rattle.image.proofs.RecordLaws.{node-writes, diverge-writes}
 use Rattle.image.proofs.Parts.{putPath, clearPath, putDiverges, putCounts, counts-writes, indices-writes}
 use Rattle.image_fault.specs.ImageFault.{imageFault}
 use Rattle.link_rules.specs.declared.refusal.Refusal.{Refusal}
 use Rattle.update_definition.specs.Update.{Status, Success, Blocked, Faulty, Refused, Updated}
-use Rattle.update_definition.specs.UpdateImage.{UpdatedImage, leftImage, answerBy, updateFault, updatedImage}
+use Rattle.update_definition.specs.UpdateImage.{UpdatedImage, leftImage, answerBy, updateFault, updatedImageIn, updatedImage}
+use Rattle.image_fault.specs.declared.Widths.the-variants.{Narrow}
 use Rattle.update_laws.proofs.UpdateLeaves.{length-kept, bytes-kept, refused-leaves}
 use Rattle.yard_check.specs.Yard.{slotCount, partOf}
 use Rattle.yard_check.specs.Check.{CheckArgs, Row, unvisitedRow, finishedRow, movedRow, refusedRow, statusRow, updatedRow, visit, visitBy, visited, isFinished, slotVisit, slotRow, slotImage}
@@ -27,19 +29,20 @@ use Rattle.yard_check.proofs.YardLaws.{Fits, ImagesFit, TrainsStay, par
 -- ---- the train in the header of an image stays
 
 stored-train : (t : Train) (bs : List ℕ) → leAt 2 (storedInto t bs) 32 ≡ leAt 2 bs 32
-unfolding storedInto putPathHeader putRecords
+unfolding putChanges putPathHeader putRecords
 stored-train t bs =
+    let w = isWide bs in
     let e = length (t .«est_times») in
     let n = length (t .«disp_path») in
     let m = length (t .«div_nodes») in
     let b1 = putPath t bs in
     let b2 = clearPath t b1 in
-    let b3 = putDiverges t b2 in
-    let b4 = putRecords t bs in
+    let b3 = putDiverges w t b2 in
+    let b4 = putRecords w t bs in
     le-outside (indices-writes (pathHeaderOf t)) 2 32 (putCounts (pathHeaderOf t) b4) (inl (omega arith))
     ∙ (le-outside (counts-writes (pathHeaderOf t)) 2 32 b4 (inr (omega arith))
-    ∙ (le-outside (zero-writes (t .divergeRoom - m) (divergePlace e m)) 2 32 b3 (inl (omega arith))
-    ∙ (le-outside (each-writes putDiverge 4 diverge-writes (t .«div_nodes») (divergePlace e 0)) 2 32 b2 (inl (omega arith))
+    ∙ (le-outside (zero-writes (divergeWords w * (t .divergeRoom - m)) (divergePlace w e m)) 2 32 b3 (inl (omega arith))
+    ∙ (le-outside (each-writes (putDiverge w) (divergeSize w) (diverge-writes w) (t .«div_nodes») (divergePlace w e 0)) 2 32 b2 (inl (omega arith))
     ∙ (le-outside (zero-writes (8 * (e - n)) (nodePlace e n)) 2 32 b1 (inl (omega arith))
     ∙ le-outside (each-writes putNode 32 node-writes (t .«disp_path») (nodePlace e 0)) 2 32 bs (inl (omega arith))))))
 
@@ -55,7 +58,7 @@ answer-train (suc k) f u img = refl
 
 module _ (occ blocking : List ℕ) (moved : ℕ) (local : Bool) (limit : ℕ) (img : List ℕ) where
   train-kept : leAt 2 (updatedImage img occ blocking moved local limit .image) 32 ≡ leAt 2 img 32
-  unfolding updatedImage
+  unfolding updatedImageIn
   train-kept = answer-train (updateFault img occ blocking moved limit .number) (updateFault img occ blocking moved limit) _ img
 
 -- ---- by what the visit does
@@ -89,10 +92,10 @@ module _ (occ : List ℕ) (a : CheckArgs) (t : ℕ) (img : List ℕ) where
   visit-keeps P same after = by (λ r x. P x) (λ r. same) after
 
   pub visit-length : length (visited occ a t img .image) ≡ length img
-  visit-length = visit-keeps (λ (x : List ℕ). length x ≡ length img) refl (length-kept img occ (a .blocking) (a .moved) (a .local) (a .limit))
+  visit-length = visit-keeps (λ (x : List ℕ). length x ≡ length img) refl (length-kept Narrow img occ (a .blocking) (a .moved) (a .local) (a .limit))
 
   pub visit-bytes : Bytes img → Bytes (visited occ a t img .image)
-  visit-bytes b = visit-keeps (λ (x : List ℕ). Bytes x) b (bytes-kept img occ (a .blocking) (a .moved) (a .local) (a .limit) b)
+  visit-bytes b = visit-keeps (λ (x : List ℕ). Bytes x) b (bytes-kept Narrow img occ (a .blocking) (a .moved) (a .local) (a .limit) b)
 
   pub visit-train : leAt 2 (visited occ a t img .image) 32 ≡ leAt 2 img 32
   visit-train = visit-keeps (λ (x : List ℕ). leAt 2 x 32 ≡ leAt 2 img 32) refl (train-kept occ (a .blocking) (a .moved) (a .local) (a .limit) img)
@@ -101,7 +104,7 @@ module _ (occ : List ℕ) (a : CheckArgs) (t : ℕ) (img : List ℕ) where
   visit-refused : 16 ≤ visited occ a t img .row .code → visited occ a t img .image ≡ img
   visit-refused =
       by (λ r x. 16 ≤ r .code → x ≡ img) (λ r h. refl)
-      (refused-row (u .image ≡ img) (u .answer .status) (u .answer .tally .rounds) (u .answer .tally .strays) (u .answer .met .0) (refused-leaves img occ (a .blocking) (a .moved) (a .local) (a .limit)))
+      (refused-row (u .image ≡ img) (u .answer .status) (u .answer .tally .rounds) (u .answer .tally .strays) (u .answer .met .0) (refused-leaves Narrow img occ (a .blocking) (a .moved) (a .local) (a .limit)))
 
 -- ---- of a slot, visited or not
 

@@ -21,6 +21,7 @@ use Rattle.update_definition.specs.Update.{Status, Success, Blocked, Faulty, Re
 use Rattle.update_definition.specs.UpdateImage.{UpdatedImage, updatedImage}
 use Rattle.update_definition.specs.Renumbered.{rStatus}
 use Rattle.update_definition.specs.UpdateMatch.{GivenMatch, UpdatesMatch}
+use Rattle.image_fault.specs.declared.Widths.the-variants.{Narrow}
 use Rattle.update_laws.proofs.ImageRenumbering.{update-match}
 use Rattle.yard_check.specs.Yard.{partOf}
 use Rattle.yard_check.specs.Check.{CheckArgs, Row, unvisitedRow, statusRow, isFinished, Visit, visit, visitBy, visited, slotVisit}
@@ -95,7 +96,7 @@ module _ (top : ℕ) (p q : ℕ → ℕ) (occ occ′ : List ℕ) (a a′ : Check
     visit-match s =
         subst (λ (v : Visit). VisitsMatch p q (visited occ a t img) v) (sym second)
         (visit-by p q (c .trains .zero-stays) img img′ m u u′ (f .number) f (isFinished img) (eqb t (a .moved))
-        (update-match top p q occ occ′ (a .blocking) (a′ .blocking) c (a .moved) (a .local) (a .limit) img img′ m b b′ low w empty) s)
+        (update-match top p q occ occ′ (a .blocking) (a′ .blocking) c (a .moved) (a .local) (a .limit) Narrow img img′ m refl low b b′ w empty) s)
 
 -- from slot 1 on every slot is visited
 pub visited-slot : (yard occ : List ℕ) (a : CheckArgs) (t : ℕ) → a .begin ≡ 1 → 1 ≤ t → slotVisit yard occ a t ≡ visited occ a t (partOf yard t)

@@ -61,11 +61,11 @@ module _ (yard : List ℕ) (f : Fits yard) where
   unfolding partFits
   part-train t l m = eqb-true (leAt 2 yard (partBegin yard t + 32)) t (both (leb (partBegin yard t + 64) (partEnd yard t)) _ (f .part t l m) .1)
 
-  end-next : (t : ℕ) → t < S → partEnd yard t ≡ partBegin yard (t + 1)
+  pub end-next : (t : ℕ) → t < S → partEnd yard t ≡ partBegin yard (t + 1)
   unfolding partEnd
   end-next t h = ap (λ (b : Bool). cond b (partBegin yard (t + 1)) (length yard)) (lt-ltb t S h)
 
-  end-last : partEnd yard S ≡ length yard
+  pub end-last : partEnd yard S ≡ length yard
   unfolding partEnd
   end-last = ap (λ (b : Bool). cond b (partBegin yard (S + 1)) (length yard)) (le-ltb S S (omega arith))
 

@@ -34,7 +34,7 @@ pub enum Answer {
 }
 
 // What a check is given beside the slices.
-pub(crate) struct Args {
+pub struct Args {
     pub moved: TrainIdx,
     pub begin: u16,
     pub local: bool,
@@ -105,8 +105,8 @@ fn slots_or_report_fault(slots: u32, a: Args, long: usize) -> Refusal
     refusal::or_else(s, f)
 }
 
-// Of the occupancy only the length is asked.
-fn check_fault(yard: &[u8], l: usize, blocking: &[u32], a: Args, long: usize) -> Refusal
+// The refusal of a check, number 0 where there is none. Of the occupancy only the length is asked; long is the length of the report.
+pub fn check_fault(yard: &[u8], l: usize, blocking: &[u32], a: Args, long: usize) -> Refusal
     ensures { λ r. ⌜ ((occ : List ℕ) → length occ ≡ l → r ≡ Check.checkFault (now (yard .entry)) occ (argsOf (now (blocking .entry)) a) long) ⌝ }
 {
     let f = call::call_fault(l, blocking, a.moved, a.limit);

@@ -5,15 +5,16 @@ use denote.Ref.{now}
 use lib.ListN.{length}
 use Rattle.disp_structs.specs.Listed.{listed}
 use Rattle.free_path.specs.Columns.{divAt, tr}
-use Rattle.image.specs.Image.{estCount, divergePlace, putDiverge}
+use Rattle.image.specs.Image.{isWide}
 use Rattle.image.specs.Codec.{putEach}
+use Rattle.image_store.specs.Stored.{divergesInto}
 use Rattle.image_store.proofs.StoreLaws.{diverges-long, diverges-next}
 use borrow.Author.Needs.{needs}
 use Rattle.image_store.proofs.put_diverges.Statement.{statement}
 use Rattle.image_store.proofs.put_diverges.Tie as tie
 
 abbrev Inv-loop : tie.InvT-loop
-Inv-loop image₀ dt dn m i₀ image i = (i ≤ m) × (image ≡ putEach putDiverge 4 (listed i (divAt dt dn)) (divergePlace (estCount image₀) 0) image₀)
+Inv-loop image₀ dt dn m i₀ image i = (i ≤ m) × (image ≡ divergesInto (isWide image₀) (listed i (divAt dt dn)) image₀)
 
 abbrev μ-loop : tie.MeasureT-loop
 μ-loop image₀ dt dn m i₀ image i = m - i
@@ -64,7 +65,7 @@ returns c =
     let l = c .before .loop in
     let a = c .before .before .before .before .before .args in
     let e : l .i ≡ a .m = omega arith in
-    l .inv .1 ∙ ap (λ (i : ℕ). putEach putDiverge 4 (listed i (divAt (now (a .dt)) (now (a .dn)))) (divergePlace (estCount (now (a .image))) 0) (now (a .image))) e
+    l .inv .1 ∙ ap (λ (i : ℕ). divergesInto (isWide (now (a .image))) (listed i (divAt (now (a .dt)) (now (a .dn)))) (now (a .image))) e
 
 pub put-diverges-spec : {M : Type 1} → statement M
 put-diverges-spec =

@@ -1,3 +1,4 @@
+use Rattle.image.specs.Fields.{divergeWords}
 use Rattle.train_disp.specs.TrainDisp.{withEnds}
 use borrow.Author.Needs.{needs}
 use Rattle.train_disp.proofs.put_ends.Statement.{statement}
@@ -22,7 +23,7 @@ same-length : tie.Need-same-length
 same-length c = search needs
 
 returns : tie.Need-returns
-unfolding withEnds
+unfolding withEnds divergeWords
 returns c = cc
 
 pub put-ends-spec : {M : Type 1} → statement M

@@ -1,3 +1,4 @@
+use Rattle.train_disp.proofs.LayOutLaws.{narrow-size}
 use Prim.Native.Nat.{_/_, _%_}
 use native.Mathlib.Omega.{arith}
 use borrow.Author.Tests.{le-leb, lt-leb, eq-eqb, ne-eqb}
@@ -67,7 +68,7 @@ returns-8 : tie.Need-returns-8
 unfolding sizesFit
 returns-8 c =
     let a = c .before .before .before .before .before .before .before .before .before .before .args in
-    rw (eq-eqb (a .n % 32) 0 (omega arith), le-leb 1 (a .n / 32) (omega arith), le-leb (a .n / 32) 512 (omega arith), le-leb 2 (a .settings .«diverge_room») (omega arith), le-leb (a .settings .«diverge_room») 1024 (omega arith), le-leb 2 (a .settings .links) (omega arith), le-leb (a .settings .links) 4000 (omega arith))
+    rw (eq-eqb (a .n % 32) 0 (omega arith), le-leb 1 (a .n / 32) (omega arith), le-leb (a .n / 32) 512 (omega arith), le-leb 2 (a .settings .«diverge_room») (omega arith), le-leb (a .settings .«diverge_room») 1024 (omega arith), le-leb 2 (a .settings .links) (omega arith), le-leb (a .settings .links) 4000 (omega arith), narrow-size (a .n / 32) (a .settings .«diverge_room»))
 
 pub sizes-fit-spec : {M : Type 1} → statement M
 sizes-fit-spec =

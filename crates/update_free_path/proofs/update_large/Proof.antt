@@ -14,14 +14,14 @@ array-borrow-prefix-scratch c =
     let a = c .before .before .before .before .args in
     let p = c .before .before .before .before .pre in
     let z = begin-long (now (a .image)) (now (a .occ)) (a .h) p (λ i. omega (arith, c .before .before .before .slice-known .given i)) in
-    omega (arith, z .0, z .1, z .2, length-replicate {A = ℕ} 36928 0)
+    omega (arith, z .0, z .1, z .2, length-replicate {A = ℕ} 41024 0)
 
 slice-aggregate-update-in : tie.Need-slice-aggregate-update-in
 slice-aggregate-update-in c =
     let a = c .before .before .before .before .before .args in
     let p = c .before .before .before .before .before .pre in
     let z = begin-long (now (a .image)) (now (a .occ)) (a .h) p (λ i. omega (arith, c .before .before .before .before .slice-known .given i)) in
-    sym (length-take-le (length (now (a .image))) (replicate 36928 0) (omega (arith, z .0, z .1, z .2, length-replicate {A = ℕ} 36928 0)))
+    sym (length-take-le (length (now (a .image))) (replicate 41024 0) (omega (arith, z .0, z .1, z .2, length-replicate {A = ℕ} 41024 0)))
 
 slice-aggregate-update-in-2 : tie.Need-slice-aggregate-update-in-2
 slice-aggregate-update-in-2 c = search needs
@@ -47,7 +47,7 @@ update-in-requires c κs =
     let p = c .before .before .before .before .before .before .before .before .before .before .before .pre in
     let z = begin-long (now (a .image)) (now (a .occ)) (a .h) p (λ i. omega (arith, c .before .before .before .before .before .before .before .before .before .before .slice-known .given i)) in (
       p,
-      length-take-le (length (now (a .image))) (replicate 36928 0) (omega (arith, z .0, z .1, z .2, length-replicate {A = ℕ} 36928 0)),
+      length-take-le (length (now (a .image))) (replicate 41024 0) (omega (arith, z .0, z .1, z .2, length-replicate {A = ℕ} 41024 0)),
       record {
         sizes = record {
           column = omega (arith, z .1, z .2, length-replicate {A = ℕ} 512 0);

@@ -5,6 +5,9 @@ use borrow.Author.Needs.{needs}
 use Rattle.update_free_path.proofs.update_over.Statement.{statement}
 use Rattle.update_free_path.proofs.update_over.Tie as tie
 
+no-refusal-requires : tie.Need-no-refusal-requires
+no-refusal-requires c κs = search needs
+
 start-fault-requires : tie.Need-start-fault-requires
 start-fault-requires c κs = search needs
 
@@ -16,29 +19,30 @@ same-length c = search needs
 
 returns : tie.Need-returns
 returns c =
-    let a = c .before .before .before .before .before .before .before .before .args in
-    c .refused .ensures (now (a .image)) ∙ c .before .before .before .start-fault .ensures (now (a .occ)) refl .refused (c .before .if1 .taken)
+    let a = c .before .before .before .before .before .before .before .before .before .args in
+    c .refused .ensures (now (a .image)) ∙ c .before .before .before .start-fault .ensures (now (a .occ)) refl (c .before .before .before .before .no-refusal .ensures) .refused (c .before .if1 .taken)
 
 path-header-requires : tie.Need-path-header-requires
 path-header-requires c κs = search needs
 
 update-begun-requires : tie.Need-update-begun-requires
 update-begun-requires c κs =
-    let a = c .before .before .before .before .before .before .before .before .before .before .args in
-    subst (UpdateBegins (now (a .image)) (now (a .occ))) (sym (c .before .path-header .ensures)) (c .before .before .before .before .before .start-fault .ensures (now (a .occ)) refl .begins (c .before .before .before .if1 .left))
+    let a = c .before .before .before .before .before .before .before .before .before .before .before .args in
+    subst (UpdateBegins (now (a .image)) (now (a .occ))) (sym (c .before .path-header .ensures)) (c .before .before .before .before .before .start-fault .ensures (now (a .occ)) refl (c .before .before .before .before .before .before .no-refusal .ensures) .begins (c .before .before .before .if1 .left))
 
 same-length-2 : tie.Need-same-length-2
 same-length-2 c = search needs
 
 returns-2 : tie.Need-returns-2
 returns-2 c =
-    let a = c .before .before .before .before .before .before .before .before .before .before .before .before .before .args in
-    c .before .before .update-begun .ensures ∙ c .before .before .before .before .before .before .before .before .start-fault .ensures (now (a .occ)) refl .goes (c .before .before .before .before .before .before .if1 .left)
+    let a = c .before .before .before .before .before .before .before .before .before .before .before .before .before .before .args in
+    c .before .before .update-begun .ensures ∙ c .before .before .before .before .before .before .before .before .start-fault .ensures (now (a .occ)) refl (c .before .before .before .before .before .before .before .before .before .no-refusal .ensures) .goes (c .before .before .before .before .before .before .if1 .left)
 
 pub update-over-spec : {M : Type 1} → statement M
 update-over-spec =
     tie.close
     (tie.spec
+    no-refusal-requires
     start-fault-requires
     refused-requires
     same-length

@@ -18,7 +18,7 @@ head-passes-requires : tie.Need-head-passes-requires
 head-passes-requires c κs = search needs
 
 records-pass-requires : tie.Need-records-pass-requires
-records-pass-requires c κs = let k = head-few _ (sym (c .before .head-passes .ensures) ∙ c .if3 .taken) in search needs
+records-pass-requires c κs = let k = head-few _ _ (sym (c .before .head-passes .ensures) ∙ c .if3 .taken) in search needs
 
 returns-3 : tie.Need-returns-3
 unfolding allFit

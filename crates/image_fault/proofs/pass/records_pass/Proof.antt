@@ -21,12 +21,12 @@ path-passes-requires c κs = search needs
 diverge-count-requires : tie.Need-diverge-count-requires
 diverge-count-requires c κs = search needs
 
-diverges-fit-requires : tie.Need-diverges-fit-requires
-diverges-fit-requires c κs = search needs
+diverges-pass-requires : tie.Need-diverges-pass-requires
+diverges-pass-requires c κs = search needs
 
 returns : tie.Need-returns
 unfolding recordsPass
-returns c = rw (← c .before .before .before .before .before .before .before .before .before .est-count .ensures, ← c .before .before .before .before .before .before .before .before .ests-pass .ensures, c .before .before .before .before .before .before .before .if1 .taken, ← c .before .before .before .before .before .before .is-acyclic .ensures, c .before .before .before .before .before .if2 .taken, ← c .before .before .before .before .path-count .ensures, ← c .before .before .before .path-passes .ensures, c .before .before .if3 .taken, ← c .before .diverge-count .ensures, ← c .diverges-fit .ensures)
+returns c = rw (← c .before .before .before .before .before .before .before .before .before .est-count .ensures, ← c .before .before .before .before .before .before .before .before .ests-pass .ensures, c .before .before .before .before .before .before .before .if1 .taken, ← c .before .before .before .before .before .before .is-acyclic .ensures, c .before .before .before .before .before .if2 .taken, ← c .before .before .before .before .path-count .ensures, ← c .before .before .before .path-passes .ensures, c .before .before .if3 .taken, ← c .diverges-pass .ensures)
 
 returns-2 : tie.Need-returns-2
 unfolding recordsPass
@@ -50,7 +50,7 @@ records-pass-spec =
     path-count-requires
     path-passes-requires
     diverge-count-requires
-    diverges-fit-requires
+    diverges-pass-requires
     returns
     returns-2
     returns-3

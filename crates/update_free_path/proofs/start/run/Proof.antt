@@ -1,3 +1,4 @@
+use Rattle.update_free_path.proofs.StartLaws.{largest-low}
 use mathlib.Core.Path.{sym, ap, subst, _∙_}
 use Prim.Native.Nat.{ℕ, _<_}
 use native.Mathlib.Omega.{arith}
@@ -71,7 +72,7 @@ rounds-requires c κs =
         nodes = omega (arith, c .before .before .before .before .before .before .before .before .before .before .before .before .before .before .before .before .before .before .before .before .before .before .before .before .before .before .before .before .before .before .before .before .before .dn .given, p .1 .sizes .nodes);
       },
       subst (λ (w : Between). Top (now (a .occ)) (now (a .img)) (u .last .1 .1 .0) (u .last .1 .1 .1 .0) (v .last .1 .1 .1 .0) (v .last .1 .1 .1 .1 .0) w) (sym (c .before .before .before .before .before .before .start-of .ensures))
-          (begin-top (now (a .img)) (now (a .occ)) (a .h) (p .0) bytes (a .o) (v .last .1 .1 .1 .0) (v .last .1 .1 .1 .1 .0) (v .ensures) (u .last .1 .1 .0) (u .ensures .0) columnTop (omega arith) within (u .last .1 .1 .1 .0) (u .ensures .1) (s .result) low),
+          (begin-top (now (a .img)) (now (a .occ)) (a .h) (p .0) bytes (a .o) (v .last .1 .1 .1 .0) (v .last .1 .1 .1 .1 .0) (v .ensures) (u .last .1 .1 .0) (u .ensures .0) columnTop (omega (arith, largest-low (now (a .img)))) within (u .last .1 .1 .1 .0) (u .ensures .1) (s .result) low),
     )
 
 same-length : tie.Need-same-length
