@@ -1,0 +1,4 @@
+pub mod ConvertedBytes
+pub mod ConversionLaws
+pub mod RoundTrips
+pub mod Agreement
