@@ -1,0 +1,4 @@
+pub mod TrainLaws
+pub mod WideMarkLaws
+pub mod Onto
+pub mod WideMarkRenumbering
