@@ -1,0 +1,3 @@
+pub mod Undo
+pub mod UndoCalls
+pub mod DemandThreeUndo
