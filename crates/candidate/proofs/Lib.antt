@@ -1,0 +1,4 @@
+pub mod CandidateLaws
+pub mod ActLaws
+pub mod LearnsLaws
+pub mod ReleaseTells
