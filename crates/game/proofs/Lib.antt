@@ -1,0 +1,10 @@
+pub mod Bounded
+pub mod SetLaws
+pub mod TableLaws
+pub mod Choices
+pub mod Forcing
+pub mod PositionLaws
+pub mod PlaceLaws
+pub mod FaultLaws
+pub mod VerdictLaws
+pub mod SidingGame
