@@ -106,7 +106,7 @@ fn steps_fit(recording: &[u8], n: u32, links: u32) -> bool
 }
 
 // Whether the recording is as document 02 lays it out.
-pub fn recording_fits(recording: &[u8]) -> bool
+fn recording_fits(recording: &[u8]) -> bool
     ensures { λ r. ⌜ r ≡ recordingFits (now (recording .entry)) ⌝ }
 {
     let n = octets::u32_at(recording, 4);
