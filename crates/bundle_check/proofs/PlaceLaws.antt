@@ -26,7 +26,7 @@ report-empty = refl
 
 -- the yard of a bundle whose yard begins past its end is empty
 pub report-none : (b : List ℕ) → length b < yardOffset b → reportLength b ≡ 0
-report-none b h = let e : bundleYard b ≡ [] = drop-of-length-le b {i = yardOffset b} (omega arith) in ap (λ (y : List ℕ). rowSize * reportSlots y) e ∙ ap (λ (n : ℕ). rowSize * n) report-empty
+report-none b h = let e : bundleYard b ≡ [] = drop-of-length-le b {i = yardOffset b} (omega arith) in ap (λ (y : List ℕ). rowSize false * reportSlots y) e ∙ ap (λ (n : ℕ). rowSize false * n) report-empty
 
 pub report-from : (b : List ℕ) (at : ℕ) → at ≡ yardOffset b → reportSlots (take (length b - at) (drop at b)) ≡ reportSlots (bundleYard b)
 report-from b at e = ap reportSlots (take-all (length b - at) (drop at b) (omega (arith, length-drop at b)) ∙ ap (λ (n : ℕ). drop n b) e)

@@ -20,7 +20,7 @@ pub record BundleChecked : Type 0 where
 
 -- how long the report of a bundle's yard is; 0 for a yard that 14 refuses
 abbrev pub reportLength : List ℕ → ℕ
-reportLength b = rowSize * reportSlots (bundleYard b)
+reportLength b = rowSize false * reportSlots (bundleYard b)
 
 abbrev pub numbersOf : List ℕ → Numbers
 numbersOf b = record { moved = record { 0 = leAt 2 b 24 }; begin = leAt 2 b 26; local = eqb (leAt 2 b 30) 1; limit = leAt 2 b 28 }

@@ -19,10 +19,13 @@ use Rattle.disp_structs.specs.Listed.{listed}
 use Rattle.disp_structs.proofs.ListedLaws.{listed-length}
 use Rattle.image_fault.proofs.ScanLaws.{both}
 use Rattle.update_definition.specs.UpdateImage.{linksBelow, callFault}
+use Rattle.image_fault.specs.declared.Widths.{Widths}
+use Rattle.image_fault.specs.declared.Widths.the-variants.{Narrow}
 use Rattle.yard_check.specs.Yard.{slotCount, yardFits}
 use Rattle.yard_check.specs.Check.{CheckArgs, rowSize, slotsFault, reportFault, checkFault, howMany, answerBy, answerOf, slotRow, isErredRow, checkDone, checkedBy, checkedWith}
 use Rattle.yard_check.specs.Sheet.{reportSlots}
-use Rattle.yard_check.specs.Calls.{World, Call, mark, check, run, runAll}
+use Rattle.yard_check.specs.Calls.{World, Call, mark, check, markIn, run, runAll}
+use Rattle.yard_check.proofs.MarkedTrains.{mark-long}
 use Rattle.yard_check.proofs.CheckLaws.{taken, yard-length, fits-kept, slots-kept}
 use Rattle.sitting.specs.Replay.{stepCount, stepAt, checkArgs, callOf, callsOf, recordingFits, replayFits, reportLength, markNumber, checkNumber, stepNumber, lastWorld, worldOf, Replayed, played, outcomesOf, replayOf}
 use Rattle.sitting.specs.Steps.{replayedOf}
@@ -45,10 +48,10 @@ every-listed P (suc n) f h = every-more P (listed n f) (f n) (every-listed P n f
 
 -- ---- 16 cannot occur: the report of a recorded check has a record for each slot of the yard, before each step
 
--- a call's report is so long
+-- a call over u16 entries, whose report is so long
 abbrev Reports : ℕ → Call → Type 0
-Reports rows (mark l t) = Unit {0}
-Reports rows (check a report) = length report ≡ rows
+Reports rows (mark v l t) = v ≡ Narrow
+Reports rows (check a report) = (a .widths ≡ Narrow) × (length report ≡ rows)
 
 -- a number that is not 16
 abbrev Not16 : ℕ → Type 0
@@ -69,24 +72,24 @@ call-not occ blocking moved limit =
     (cond-not (leb (length blocking) 4000 && linksBelow (length occ) blocking) noRefusal (refused 4 0) (λ e. omega arith) (λ e. omega arith))
     (cond-not (eqb moved 0 || eqb limit 0) (refused 5 0) noRefusal (λ e. omega arith) (λ e. omega arith)))
 
-fault-not : (yard occ : List ℕ) (a : CheckArgs) (long : ℕ) → long ≡ reportLength yard → Not16 (checkFault yard occ a long .number)
+fault-not : (yard occ : List ℕ) (a : CheckArgs) (long : ℕ) → a .widths ≡ Narrow → long ≡ reportLength yard → Not16 (checkFault yard occ a long .number)
 unfolding checkFault slotsFault reportFault reportSlots
-fault-not yard occ a long e =
-    chain-not (callFault occ (a .blocking) (a .moved) (a .limit)) _ (call-not occ (a .blocking) (a .moved) (a .limit)) (go (yardFits yard) e)
+fault-not yard occ a long v e =
+    rw v (chain-not (callFault occ (a .blocking) (a .moved) (a .limit)) _ (call-not occ (a .blocking) (a .moved) (a .limit)) (go (yardFits yard) e))
   where
     S : ℕ
     S = slotCount yard
 
-    go : (t : Bool) → long ≡ rowSize * cond t S 0
-        → Not16 (orElse (cond t noRefusal (refused 14 0)) (orElse (cond (leb (a .moved) S && (leb 1 (a .begin) && leb (a .begin) (S + 1))) noRefusal (refused 15 0)) (cond (eqb long (rowSize * S)) noRefusal (refused 16 0))) .number)
+    go : (t : Bool) → long ≡ rowSize false * cond t S 0
+        → Not16 (orElse (cond t noRefusal (refused 14 0)) (orElse (cond (leb (a .moved) S && (leb 1 (a .begin) && leb (a .begin) (S + 1))) noRefusal (refused 15 0)) (cond (eqb long (rowSize false * S)) noRefusal (refused 16 0))) .number)
     go true k =
-        rw (eq-eqb long (rowSize * S) k)
+        rw (eq-eqb long (rowSize false * S) k)
         (chain-not (cond (leb (a .moved) S && (leb 1 (a .begin) && leb (a .begin) (S + 1))) noRefusal (refused 15 0)) noRefusal (cond-not (leb (a .moved) S && (leb 1 (a .begin) && leb (a .begin) (S + 1))) noRefusal (refused 15 0) (λ z. omega arith) (λ z. omega arith)) (λ z. omega arith))
     go false k = λ z. omega arith
 
-check-not : (yard occ : List ℕ) (a : CheckArgs) (report : List ℕ) → length report ≡ reportLength yard → Not16 (checkNumber (checkedWith yard occ a report .answer))
+check-not : (yard occ : List ℕ) (a : CheckArgs) (report : List ℕ) → a .widths ≡ Narrow → length report ≡ reportLength yard → Not16 (checkNumber (checkedWith yard occ a report .answer))
 unfolding checkedWith answerOf
-check-not yard occ a report e = go (checkFault yard occ a (length report) .number) refl
+check-not yard occ a report v e = go (checkFault yard occ a (length report) .number) refl
   where
     never : (k : ℕ) (d : Bool) (m : ℕ) → Not16 (checkNumber (answerBy k d m))
     never zero d m z = omega arith
@@ -94,7 +97,7 @@ check-not yard occ a report e = go (checkFault yard occ a (length report) .numbe
 
     go : (n : ℕ) → checkFault yard occ a (length report) .number ≡ n → Not16 (checkNumber (checkedBy n (checkFault yard occ a (length report)) (checkDone yard occ a report) yard report .answer))
     go zero k = never (howMany (λ t. isErredRow (slotRow yard occ a t)) (slotCount yard)) _ _
-    go (suc n) k = fault-not yard occ a (length report) e
+    go (suc n) k = fault-not yard occ a (length report) v e
 
 mark-not : (table occ : List ℕ) (l : LinkIdx) (t : TrainIdx) → Not16 (markNumber (markOf table occ l t .answer))
 unfolding markOf
@@ -122,7 +125,7 @@ stays yard occ a report k = go (checkFault yard occ a (length report) .number) r
 -- a step keeps the slots that a report has records for
 slots-stay : (w : World) (c : Call) → reportSlots (run w c .world .yard) ≡ reportSlots (w .yard)
 unfolding run reportSlots
-slots-stay w (mark l t) = refl
+slots-stay w (mark v l t) = refl
 slots-stay w (check a report) = go (yardFits (w .yard)) refl
   where
     go : (t : Bool) → yardFits (w .yard) ≡ t → reportSlots (checkedWith (w .yard) (w .occupancy) a report .yard) ≡ reportSlots (w .yard)
@@ -132,17 +135,17 @@ slots-stay w (check a report) = go (yardFits (w .yard)) refl
 never-16 : (cs : List Call) (w : World) → Every (Reports (reportLength (w .yard))) cs → (i : ℕ) → Not16 (getD (map stepNumber (runAll w cs)) i 0)
 unfolding runAll run
 never-16 [] w e i h = omega arith
-never-16 (mark l t ∷ cs) w e zero h = mark-not (w .table) (w .occupancy) l t h
-never-16 (check a report ∷ cs) w e zero h = check-not (w .yard) (w .occupancy) a report (e .0) h
-never-16 (mark l t ∷ cs) w e (suc i) h = never-16 cs (run w (mark l t) .world) (e .1) i h
-never-16 (check a report ∷ cs) w e (suc i) h = never-16 cs (run w (check a report) .world) (subst (λ (n : ℕ). Every (Reports (rowSize * n)) cs) (sym (slots-stay w (check a report))) (e .1)) i h
+never-16 (mark v l t ∷ cs) w e zero h = subst (λ (u : Widths). Not16 (markNumber (markIn u (w .table) (w .occupancy) l t .answer))) (sym (e .0)) (mark-not (w .table) (w .occupancy) l t) h
+never-16 (check a report ∷ cs) w e zero h = check-not (w .yard) (w .occupancy) a report (e .0 .0) (e .0 .1) h
+never-16 (mark v l t ∷ cs) w e (suc i) h = never-16 cs (run w (mark v l t) .world) (e .1) i h
+never-16 (check a report ∷ cs) w e (suc i) h = never-16 cs (run w (check a report) .world) (subst (λ (n : ℕ). Every (Reports (rowSize false * n)) cs) (sym (slots-stay w (check a report))) (e .1)) i h
 
 recorded-reports : (r : List ℕ) (rows i : ℕ) → Reports rows (callOf r rows (stepAt r i))
 recorded-reports r rows i = go (eqb (stepAt r i .kind) 0)
   where
-    go : (t : Bool) → Reports rows (cond t (mark (record { 0 = stepAt r i .first }) (record { 0 = stepAt r i .train })) (check (checkArgs r (stepAt r i) (stepAt r i .count)) (replicate rows 0)))
-    go true = tt
-    go false = length-replicate rows 0
+    go : (t : Bool) → Reports rows (cond t (mark Narrow (record { 0 = stepAt r i .first }) (record { 0 = stepAt r i .train })) (check (checkArgs r (stepAt r i) (stepAt r i .count)) (replicate rows 0)))
+    go true = refl
+    go false = (refl, length-replicate rows 0)
 
 -- ---- what every call keeps
 
@@ -153,17 +156,17 @@ kept P h (c ∷ cs) w k = kept P h cs (run w c .world) (h w c k)
 
 yard-long : (w : World) (c : Call) → length (run w c .world .yard) ≡ length (w .yard)
 unfolding run
-yard-long w (mark l t) = refl
+yard-long w (mark v l t) = refl
 yard-long w (check a report) = yard-length (w .yard) (w .occupancy) a report
 
 occupancy-long : (w : World) (c : Call) → length (run w c .world .occupancy) ≡ length (w .occupancy)
 unfolding run
-occupancy-long w (mark l t) = length-marked (w .table) (w .occupancy) l t
+occupancy-long w (mark v l t) = mark-long v (w .table) (w .occupancy) l t
 occupancy-long w (check a report) = refl
 
 yard-fits : (w : World) (c : Call) → yardFits (w .yard) ≡ true → yardFits (run w c .world .yard) ≡ true
 unfolding run
-yard-fits w (mark l t) h = h
+yard-fits w (mark v l t) h = h
 yard-fits w (check a report) h = fits-kept (w .yard) (w .occupancy) a report h
 
 numbers-long : (cs : List Call) (w : World) → length (map stepNumber (runAll w cs)) ≡ length cs

@@ -20,8 +20,9 @@ use Rattle.disp_structs.proofs.ListedLaws.{listed-length}
 use Rattle.image_fault.specs.ImageFault.{lengthFault}
 use Rattle.image_fault.proofs.AcceptLaws.{or-else-clean}
 use Rattle.update_definition.specs.UpdateImage.{linksBelow, blockingFault, orderFault, callFault}
+use Rattle.image_fault.specs.declared.Widths.the-variants.{Narrow}
 use Rattle.yard_check.specs.Yard.{slotCount, yardFault}
-use Rattle.yard_check.specs.Check.{CheckArgs, slotsFault, reportFault, checkFault, Answer, Refused, Checked, check, checkDone, checkedBy, checkedWith}
+use Rattle.yard_check.specs.Check.{CheckArgs, wideRows, heldFault, slotsFault, reportFault, checkFault, Answer, Refused, Checked, check, checkDone, checkedBy, checkedWith}
 use Rattle.yard_check.specs.Checks.{answeredOf, checkedOf}
 use Rattle.yard_check.specs.declared.check.Answer as Code
 use Rattle.yard_check.specs.Calls.{World, Call, Outcome, run, runAll}
@@ -54,7 +55,7 @@ call-refused : (yard occ : List ℕ) (a : CheckArgs) (r : List ℕ) → (callFau
 unfolding checkedWith checkFault
 call-refused yard occ a r h =
     let g = callFault occ (a .blocking) (a .moved) (a .limit) in
-    let rest = orElse (yardFault yard) (orElse (slotsFault (slotCount yard) a) (reportFault (slotCount yard) (length r))) in
+    let rest = orElse (yardFault yard) (orElse (heldFault (a .widths) yard occ) (orElse (slotsFault (slotCount yard) a) (reportFault (wideRows (a .widths) yard) (slotCount yard) (length r)))) in
     let e : checkFault yard occ a (length r) ≡ g = ap (λ (t : Bool). cond t rest g) (ne-eqb (g .number) 0 h) in
     ap (λ (f : Refusal). checkedBy (f .number) f (checkDone yard occ a r) yard r) e ∙ go (g .number) g h
   where
@@ -94,11 +95,11 @@ module _ (r : List ℕ) (s : Step) (yard occ : List ℕ) where
           ∙ sym (call-refused yard occ (checkArgs r s (s .count)) report (many-refused occ ys (s .train) (s .limit) k)))
 
   pub check-made : (n rows : ℕ) (report : List ℕ) (x : ℕ) (yard′ report′ blocking : List ℕ) (a : Code.Answer) → rows ≡ length report → blocking ≡ linksFrom r (s .first) n
-      → checkedOf a yard′ report′ ≡ checkedWith yard occ (record { blocking = blocking; moved = s .train; begin = s .begin; local = eqb (s .local) 1; limit = s .limit }) report
+      → checkedOf a yard′ report′ ≡ checkedWith yard occ (record { widths = Narrow; blocking = blocking; moved = s .train; begin = s .begin; local = eqb (s .local) 1; limit = s .limit }) report
       → x ≡ checkNumber (answeredOf a) → CheckMade r s n rows yard occ x yard′
   check-made n rows report x yard′ report′ blocking a l b e m =
       let same = report-unread yard occ (checkArgs r s n) report (replicate rows 0) (length-replicate rows 0 ∙ l) in
-      let k : checkedOf a yard′ report′ ≡ checkedWith yard occ (checkArgs r s n) report = e ∙ ap (λ (xs : List ℕ). checkedWith yard occ (record { blocking = xs; moved = s .train; begin = s .begin; local = eqb (s .local) 1; limit = s .limit }) report) b in
+      let k : checkedOf a yard′ report′ ≡ checkedWith yard occ (checkArgs r s n) report = e ∙ ap (λ (xs : List ℕ). checkedWith yard occ (record { widths = Narrow; blocking = xs; moved = s .train; begin = s .begin; local = eqb (s .local) 1; limit = s .limit }) report) b in
       record {
         number = m ∙ (ap (λ (c : Checked). checkNumber (c .answer)) k ∙ ap checkNumber (sym (same .0)));
         yard-left = ap (λ (c : Checked). c .yard) k ∙ sym (same .1);

@@ -8,6 +8,8 @@ use lib.Dec.{eqb}
 use lib.ListN.{replicate}
 use Rattle.link_rules.specs.Matching.{OccupanciesMatch}
 use Rattle.link_rules.proofs.OctetLaws.{Bytes, le-lt}
+use Rattle.image_fault.specs.declared.Widths.{Widths}
+use Rattle.image_fault.specs.declared.Widths.the-variants.{Narrow}
 use Rattle.yard_check.specs.Check.{Answer, Refused, Erred, Done}
 use Rattle.yard_check.specs.YardMatch.{YardsMatch, AnswersMatch}
 use Rattle.yard_check.specs.Calls.{World, Call, mark, check, Answered, marked, checked, Outcome}
@@ -20,17 +22,17 @@ use Rattle.sitting.proofs.StepLaws.{replay-played}
 
 -- ---- what the types say of the recorded calls
 
-call-of-types : (r : List ℕ) (rows i : ℕ) → Bytes r → CallOfTypes 65535 (callOf r rows (stepAt r i))
+call-of-types : (r : List ℕ) (rows i : ℕ) → Bytes r → CallOfTypes Narrow (callOf r rows (stepAt r i))
 unfolding stepAt
 call-of-types r rows i b = go (eqb (stepAt r i .kind) 0)
   where
-    go : (t : Bool) → CallOfTypes 65535 (cond t (mark (record { 0 = stepAt r i .first }) (record { 0 = stepAt r i .train })) (check (checkArgs r (stepAt r i) (stepAt r i .count)) (replicate rows 0)))
-    go true = omega (arith, le-lt 2 r (12 + 20 * i + 12) b)
-    go false = le-lt 2 r (12 + 20 * i + 16) b
+    go : (t : Bool) → CallOfTypes Narrow (cond t (mark Narrow (record { 0 = stepAt r i .first }) (record { 0 = stepAt r i .train })) (check (checkArgs r (stepAt r i) (stepAt r i .count)) (replicate rows 0)))
+    go true = (refl, omega (arith, le-lt 2 r (12 + 20 * i + 12) b))
+    go false = (refl, le-lt 2 r (12 + 20 * i + 16) b)
 
-all-of-types : (top : ℕ) (cs : List Call) → Every (CallOfTypes top) cs → CallsOfTypes top cs
-all-of-types top [] e = tt
-all-of-types top (c ∷ cs) e = (e .0, all-of-types top cs (e .1))
+all-of-types : (v : Widths) (cs : List Call) → Every (CallOfTypes v) cs → CallsOfTypes v cs
+all-of-types v [] e = tt
+all-of-types v (c ∷ cs) e = (e .0, all-of-types v cs (e .1))
 
 -- ---- the numbers of matching answers are the same
 
@@ -47,9 +49,9 @@ check-number (Done d k) (Done d′ k′) e = refl
 
 number-match : (q : ℕ → ℕ) (slots : ℕ) (a b : Answered) → AnsweredMatch q slots a b → numberOf b ≡ numberOf a
 number-match q slots (marked a) (marked b) e = ap markNumber e
-number-match q slots (marked a) (checked b r) e = absurd e
-number-match q slots (checked a r) (marked b) e = absurd e
-number-match q slots (checked a r) (checked b s) e = check-number a b (e .0)
+number-match q slots (marked a) (checked u b r) e = absurd e
+number-match q slots (checked u a r) (marked b) e = absurd e
+number-match q slots (checked u a r) (checked u′ b s) e = check-number a b (e .1)
 
 module _ (p q : ℕ → ℕ) where
   numbers-match : (os os′ : List Outcome) → Each (OutcomesMatch p q) os os′ → map stepNumber os′ ≡ map stepNumber os
@@ -71,7 +73,7 @@ module _ (p q : ℕ → ℕ) where
 pub twin-replays : TwinReplays
 twin-replays p q r r′ w w′ list list′ y o b h h′ k f =
     let rows = reportLength (w .yard) in
-    let steps = demand-three p q w w′ (callsOf r rows) (callsOf r′ (reportLength (w′ .yard))) y o k (all-of-types 65535 (callsOf r rows) (every-listed (CallOfTypes 65535) _ (λ i. callOf r rows (stepAt r i)) (λ i. call-of-types r rows i b))) f in
+    let steps = demand-three Narrow 65535 p q w w′ (callsOf r rows) (callsOf r′ (reportLength (w′ .yard))) (omega arith) y o k (all-of-types Narrow (callsOf r rows) (every-listed (CallOfTypes Narrow) _ (λ i. callOf r rows (stepAt r i)) (λ i. call-of-types r rows i b))) f in
     let e = replay-played r (w .table) (w .yard) (w .occupancy) list h in
     let e′ = replay-played r′ (w′ .table) (w′ .yard) (w′ .occupancy) list′ h′ in
     let last = last-match p q (outcomesOf r w) (outcomesOf r′ w′) w w′ (y .occupancies) (y .yards) steps in

@@ -10,6 +10,7 @@ use Rattle.link_rules.specs.Refusals.{refused}
 use Rattle.link_rules.specs.declared.refusal.Answer as Mark
 use Rattle.link_rules.specs.declared.refusal.Answer.the-variants as Marks
 use Rattle.disp_structs.specs.Listed.{listed}
+use Rattle.image_fault.specs.declared.Widths.the-variants.{Narrow}
 use Rattle.yard_check.specs.Check.{CheckArgs, rowSize, Answer, Refused, Erred, Done}
 use Rattle.yard_check.specs.Sheet.{reportSlots}
 use Rattle.yard_check.specs.Calls.{World, Call, mark, check, Answered, marked, checked, Outcome, runAll}
@@ -70,11 +71,11 @@ replayFits r long = eqb long (stepCount r) && recordingFits r
 
 -- what a check is given, with so many of its blocking links
 abbrev pub checkArgs : List ℕ → Step → ℕ → CheckArgs
-checkArgs r s n = record { blocking = linksFrom r (s .first) n; moved = s .train; begin = s .begin; local = eqb (s .local) 1; limit = s .limit }
+checkArgs r s n = record { widths = Narrow; blocking = linksFrom r (s .first) n; moved = s .train; begin = s .begin; local = eqb (s .local) 1; limit = s .limit }
 
 -- a check's report is its own; rows is its length
 abbrev pub callOf : List ℕ → ℕ → Step → Call
-callOf r rows s = cond (eqb (s .kind) 0) (mark (record { 0 = s .first }) (record { 0 = s .train })) (check (checkArgs r s (s .count)) (replicate rows 0))
+callOf r rows s = cond (eqb (s .kind) 0) (mark Narrow (record { 0 = s .first }) (record { 0 = s .train })) (check (checkArgs r s (s .count)) (replicate rows 0))
 
 -- of the steps 0 to n - 1
 abbrev pub firstCalls : List ℕ → ℕ → ℕ → List Call
@@ -85,7 +86,7 @@ callsOf r rows = firstCalls r rows (stepCount r)
 
 -- a record for each slot of the yard; none where 14 refuses it, which is before 16
 abbrev pub reportLength : List ℕ → ℕ
-reportLength yard = rowSize * reportSlots yard
+reportLength yard = rowSize false * reportSlots yard
 
 -- ---- what is left
 
@@ -101,7 +102,7 @@ checkNumber (Done deadlock next) = 0
 -- the number of a call's refusal, 0 if there is none
 abbrev pub numberOf : Answered → ℕ
 numberOf (marked a) = markNumber a
-numberOf (checked a report) = checkNumber a
+numberOf (checked wide a report) = checkNumber a
 
 abbrev pub stepNumber : Outcome → ℕ
 stepNumber o = numberOf (o .answer)

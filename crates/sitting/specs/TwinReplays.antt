@@ -5,6 +5,7 @@ use mathlib.Core.List.{List}
 use Prim.Native.Nat.{ℕ, _<_}
 use lib.ListN.{length, getD}
 use Rattle.link_rules.specs.Matching.{OccupanciesMatch}
+use Rattle.image_fault.specs.declared.Widths.the-variants.{Narrow}
 use Rattle.yard_check.specs.YardMatch.{YardsMatch}
 use Rattle.yard_check.specs.Calls.{World}
 use Rattle.yard_check.specs.DemandThree.{OneYard, OfTypes, CallsMatch, Each, Premises, OutcomesMatch}
@@ -29,7 +30,7 @@ pub record ReplaysMatch (p q : ℕ → ℕ) (r r′ : List ℕ) (w w′ : World)
 abbrev pub TwinReplays : Type 0
 TwinReplays =
     (p q : ℕ → ℕ) (r r′ : List ℕ) (w w′ : World) (list list′ : List ℕ)
-    → OneYard 65535 p q w w′ → OfTypes 65535 w w′ → ((i : ℕ) → getD r i 0 < 256)
+    → OneYard 65535 p q w w′ → OfTypes Narrow w w′ → ((i : ℕ) → getD r i 0 < 256)
     → replayFits r (length list) ≡ true → replayFits r′ (length list′) ≡ true → RecordedMatch p q r r′ w w′
     → Premises w (callsOf r (reportLength (w .yard)))
     → ReplaysMatch p q r r′ w w′ list list′

@@ -10,6 +10,7 @@ use lib.ListN.{replicate}
 use Rattle.link_rules.specs.Refusals.{refused}
 use Rattle.link_rules.specs.declared.refusal.Answer.the-variants as TakenBack
 use Rattle.free_path.specs.AnyOrder.{swap}
+use Rattle.image_fault.specs.declared.Widths.the-variants.{Narrow}
 use Rattle.yard_check.specs.Check.{rowSize}
 use Rattle.yard_check.specs.Calls.{mark, Answered, marked, Outcome}
 use Rattle.yard_check.specs.DemandThree.{Each, OutcomesMatch}
@@ -23,16 +24,16 @@ use Rattle.undo.proofs.DemandThreeUndo.{demand-three-undo}
 -- train 2 marks link 3, the yard is checked with a record, and the check is taken back, twice
 abbrev calls : List UndoCall
 calls =
-    call (mark (record { 0 = 3 }) (record { 0 = 2 }))
-    ∷ recorded (record { blocking = 1 ∷ 3 ∷ []; moved = 2; begin = 1; local = false; limit = 5 }) (replicate (rowSize * 2) 255) (replicate 1250 7)
+    call (mark Narrow (record { 0 = 3 }) (record { 0 = 2 }))
+    ∷ recorded (record { widths = Narrow; blocking = 1 ∷ 3 ∷ []; moved = 2; begin = 1; local = false; limit = 5 }) (replicate (rowSize false * 2) 255) (replicate 1250 7)
     ∷ undo 1
     ∷ undo 1
     ∷ []
 
 abbrev calls′ : List UndoCall
 calls′ =
-    call (mark (record { 0 = 3 }) (record { 0 = 1 }))
-    ∷ recorded (record { blocking = 3 ∷ 2 ∷ []; moved = 1; begin = 1; local = false; limit = 5 }) (replicate (rowSize * 2) 0) (replicate 1250 9)
+    call (mark Narrow (record { 0 = 3 }) (record { 0 = 1 }))
+    ∷ recorded (record { widths = Narrow; blocking = 3 ∷ 2 ∷ []; moved = 1; begin = 1; local = false; limit = 5 }) (replicate (rowSize false * 2) 0) (replicate 1250 9)
     ∷ undo 1
     ∷ undo 1
     ∷ []
@@ -67,14 +68,14 @@ undone-once = refl
 
 same-calls : Each (UndoCallsMatch swapped swapped) calls calls′
 unfolding swapped
-same-calls = ((refl, refl), ((record { blocking = swap 2 3 []; moved = refl; begin = refl; local = refl; limit = refl }, refl, refl), (refl, (refl, tt))))
+same-calls = ((refl, refl, refl), ((record { widths = refl; blocking = swap 2 3 []; moved = refl; begin = refl; local = refl; limit = refl }, refl, refl), (refl, (refl, tt))))
 
-calls-of-types : UndoCallsOfTypes 65535 calls
-calls-of-types = (omega arith, (lit< tt, (tt, (tt, tt))))
+calls-of-types : UndoCallsOfTypes Narrow calls
+calls-of-types = ((refl, omega arith), ((refl, lit< tt), (tt, (tt, tt))))
 
 premises : UndoPremises first [] calls
 unfolding undoing
 premises = (tt, ((λ h. record { begin = refl; zero-empty = refl; strays = two-cases _ refl refl }), (tt, (tt, tt))))
 
 matched : Each (OutcomesMatch swapped swapped) (runAllWith first [] calls) (runAllWith second [] calls′)
-matched = demand-three-undo swapped swapped first second calls calls′ one-yard of-types same-calls calls-of-types premises
+matched = demand-three-undo Narrow 65535 swapped swapped first second calls calls′ (omega arith) one-yard of-types same-calls calls-of-types premises

@@ -1,12 +1,13 @@
 -- Demand 3 over lists with undo in them (change request Q-5): they match under renumbering as well. Stated here, proved in proofs/DemandThreeUndo.antt, where
--- document 01's demand 3 follows from it as the lists without a record. Assumes nothing.
+-- demand 3 follows from it as the lists without a record. Assumes nothing.
 use mathlib.Core.Path.{_≡_}
 use mathlib.Core.List.{List, [], _∷_, _++_}
-use Prim.Native.Nat.{ℕ, _<_}
+use Prim.Native.Nat.{ℕ, _≤_, _<_}
 use lib.ListN.{length}
+use Rattle.image_fault.specs.declared.Widths.{Widths}
 use Rattle.yard_check.specs.YardMatch.{ArgsMatch}
 use Rattle.yard_check.specs.Calls.{World}
-use Rattle.yard_check.specs.DemandThree.{OneYard, OfTypes, CallsMatch, CallOfTypes, Plain, Premise, Each, OutcomesMatch}
+use Rattle.yard_check.specs.DemandThree.{OneYard, largestIn, OfTypes, CallsMatch, CallOfTypes, Plain, Premise, Each, OutcomesMatch}
 use Rattle.undo.specs.Undo.{recordedFault}
 use Rattle.undo.specs.UndoCalls.{UndoCall, call, recorded, undo, runWith, runAllWith}
 
@@ -22,15 +23,15 @@ UndoCallsMatch p q (undo k) (call c) = ⊥
 UndoCallsMatch p q (undo k) (recorded a s r) = ⊥
 UndoCallsMatch p q (undo k) (undo k′) = k′ ≡ k
 
--- what the types say
-abbrev pub UndoCallOfTypes : ℕ → UndoCall → Type 0
-UndoCallOfTypes top (call c) = CallOfTypes top c
-UndoCallOfTypes top (recorded a report r) = a .limit < 65536
-UndoCallOfTypes top (undo k) = Unit {0}
+-- what the types say, of a recorded check as of a check
+abbrev pub UndoCallOfTypes : Widths → UndoCall → Type 0
+UndoCallOfTypes v (call c) = CallOfTypes v c
+UndoCallOfTypes v (recorded a report r) = (a .widths ≡ v) × (a .limit < 65536)
+UndoCallOfTypes v (undo k) = Unit {0}
 
-abbrev pub UndoCallsOfTypes : ℕ → List UndoCall → Type 0
-UndoCallsOfTypes top [] = Unit {0}
-UndoCallsOfTypes top (c ∷ cs) = UndoCallOfTypes top c × UndoCallsOfTypes top cs
+abbrev pub UndoCallsOfTypes : Widths → List UndoCall → Type 0
+UndoCallsOfTypes v [] = Unit {0}
+UndoCallsOfTypes v (c ∷ cs) = UndoCallOfTypes v c × UndoCallsOfTypes v cs
 
 -- ---- the premises over the first yard: of each check that is not refused, as without a record; none of an undo
 
@@ -46,13 +47,9 @@ UndoPremises w rs (c ∷ cs) = UndoPremise w c × UndoPremises (runWith w rs c .
 
 -- ---- the claim: answers, reports, occupancies and yards match after each call
 
--- for trains up to top
-abbrev pub DemandThreeUndoUpTo : ℕ → Type 0
-DemandThreeUndoUpTo top =
-    (p q : ℕ → ℕ) (w w′ : World) (calls calls′ : List UndoCall)
-    → OneYard top p q w w′ → OfTypes top w w′ → Each (UndoCallsMatch p q) calls calls′ → UndoCallsOfTypes top calls → UndoPremises w [] calls
-    → Each (OutcomesMatch p q) (runAllWith w [] calls) (runAllWith w′ [] calls′)
-
--- what is promised, of trains of u16
+-- what is promised: for every largest train that the calls and all images hold
 abbrev pub DemandThreeUndo : Type 0
-DemandThreeUndo = DemandThreeUndoUpTo 65535
+DemandThreeUndo =
+    (v : Widths) (top : ℕ) (p q : ℕ → ℕ) (w w′ : World) (calls calls′ : List UndoCall)
+    → top ≤ largestIn v (w .yard) → OneYard top p q w w′ → OfTypes v w w′ → Each (UndoCallsMatch p q) calls calls′ → UndoCallsOfTypes v calls → UndoPremises w [] calls
+    → Each (OutcomesMatch p q) (runAllWith w [] calls) (runAllWith w′ [] calls′)

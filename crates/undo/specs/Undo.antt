@@ -10,6 +10,8 @@ use Rattle.link_rules.specs.Refusals.{refused, orElse, refusedUnless}
 use Rattle.link_rules.specs.declared.refusal.Refusal.{Refusal}
 use Rattle.link_rules.specs.declared.refusal.Answer as Taken
 use Rattle.link_rules.specs.declared.refusal.Answer.the-variants as TakenBack
+use Rattle.image_fault.specs.declared.Widths.{Widths}
+use Rattle.image_fault.specs.declared.Widths.the-variants.{Narrow, Either}
 use Rattle.yard_check.specs.Yard.{slotCount, yardFits}
 use Rattle.yard_check.specs.Check.{CheckArgs, Answer, Refused, Checked, checkFault, checkedWith}
 use Rattle.yard_check.specs.Checks.{answeredOf}
@@ -88,10 +90,17 @@ recordedWith yard occ a report r =
     let done = recordedDone yard r (checkedWith yard occ a report) in
     recordedBy (f .number) f done yard report r
 
--- the yard, the occupancy, the blocking list, the moved train, begin, local, the round limit, the report, the record
+-- the widths, the yard, the occupancy, the blocking list, the moved train, begin, local, the round limit, the report, the record
+abbrev pub recordedIn : Widths → List ℕ → List ℕ → List ℕ → ℕ → ℕ → Bool → ℕ → List ℕ → List ℕ → Recorded
+recordedIn w yard occ blocking moved begin local limit report r =
+    recordedWith yard occ (record { widths = w; blocking = blocking; moved = moved; begin = begin; local = local; limit = limit }) report r
+
+-- over an occupancy of u16 entries, and over one of u32 entries (document 02, Q-6)
 abbrev pub recorded : List ℕ → List ℕ → List ℕ → ℕ → ℕ → Bool → ℕ → List ℕ → List ℕ → Recorded
-recorded yard occ blocking moved begin local limit report r =
-    recordedWith yard occ (record { blocking = blocking; moved = moved; begin = begin; local = local; limit = limit }) report r
+recorded yard occ blocking moved begin local limit report r = recordedIn Narrow yard occ blocking moved begin local limit report r
+
+abbrev pub recordedWide : List ℕ → List ℕ → List ℕ → ℕ → ℕ → Bool → ℕ → List ℕ → List ℕ → Recorded
+recordedWide yard occ blocking moved begin local limit report r = recordedIn Either yard occ blocking moved begin local limit report r
 
 -- what the code gives
 abbrev pub recordedOf : Code.Answer → List ℕ → List ℕ → List ℕ → Recorded

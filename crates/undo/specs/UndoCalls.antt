@@ -3,7 +3,7 @@
 use mathlib.Core.List.{List, [], _∷_, _++_}
 use Prim.Native.Nat.{ℕ, zero, suc}
 use lib.ListN.{length, getD}
-use Rattle.yard_check.specs.Check.{CheckArgs}
+use Rattle.yard_check.specs.Check.{CheckArgs, wideRows}
 use Rattle.yard_check.specs.Calls.{World, Call, Outcome, marked, checked, run}
 use Rattle.undo.specs.Undo.{recordedFault, recordedWith, undone}
 
@@ -32,7 +32,7 @@ runWith w rs (call c) = record { outcome = run w c; filled = [] }
 runWith w rs (recorded a report r) =
     let c = recordedWith (w .yard) (w .occupancy) a report r in
     let f = recordedFault (w .yard) (w .occupancy) a (length report) (length r) in
-    record { outcome = record { answer = checked (c .answer) (c .report); world = withYard w (c .yard) }; filled = filledBy (f .number) (c .undoRecord) }
+    record { outcome = record { answer = checked (wideRows (a .widths) (w .yard)) (c .answer) (c .report); world = withYard w (c .yard) }; filled = filledBy (f .number) (c .undoRecord) }
 runWith w rs (undo k) =
     let u = undone (w .yard) (getD rs k []) in
     record { outcome = record { answer = marked (u .answer); world = withYard w (u .yard) }; filled = [] }

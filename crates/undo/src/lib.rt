@@ -13,6 +13,7 @@ ghost use mathlib.Core.Path.{_≡_};
 ghost use mathlib.Core.List.{List};
 ghost use Prim.Native.Nat.{ℕ};
 ghost use lib.ListN.{length};
+ghost use Rattle.image_fault.specs.declared.Widths.the-variants.{Narrow};
 ghost use Rattle.yard_check.specs.Checks.{argsOf};
 ghost use Rattle.undo.specs.Undo.{recordedFault, recorded, recordedOf, undoing, undone};
 
@@ -25,7 +26,7 @@ fn recorded_fault(
     long: usize,
     room: usize,
 ) -> Refusal
-    ensures { λ r. ⌜ ((occ : List ℕ) → length occ ≡ l → r ≡ recordedFault (now (yard .entry)) occ (argsOf (now (blocking .entry)) a) long room) ⌝ }
+    ensures { λ r. ⌜ ((occ : List ℕ) → length occ ≡ l → r ≡ recordedFault (now (yard .entry)) occ (argsOf Narrow (now (blocking .entry)) a) long room) ⌝ }
 {
     let f = records::room_fault(yard.len(), room);
     let g = check::check_fault(yard, l, blocking, a, long);

@@ -80,7 +80,7 @@ take-blank (suc m) (suc n) h = ap (λ (xs : List ℕ). 0 ∷ xs) (take-blank m n
 
 pub lends : (b occ blocking yard report : List ℕ) (links count at slots : ℕ) → Parts b → 32752 ≡ length occ → 16376 ≡ length blocking → 65504 ≡ length yard
     → report ≡ replicate 1260 0 → links ≡ occupancyCount b → count ≡ blockingCount b → at ≡ yardOffset b → slots ≡ reportSlots (take (length b - at) (drop at b))
-    → Lent b (take links occ) (take count blocking) (take (length b - at) yard) (take (rowSize * slots) report)
+    → Lent b (take links occ) (take count blocking) (take (length b - at) yard) (take (rowSize false * slots) report)
 lends b occ blocking yard report links count at slots p lo lb ly blank el ec ea es =
     let all : take (length b - at) (drop at b) ≡ drop at b = take-all (length b - at) (drop at b) (omega (arith, length-drop at b)) in
     let few = report-few (take (length b - at) (drop at b)) in
@@ -89,5 +89,5 @@ lends b occ blocking yard report links count at slots p lo lb ly blank el ec ea 
       occupancy = length-take-le links occ (omega (arith, p .blocking-begins, p .yard-begins, p .yard-within, p .short)) ∙ el;
       blocking-links = length-take-le count blocking (omega (arith, p .blocking-begins, p .yard-begins, p .yard-within, p .short)) ∙ ec;
       yard-end = rw (length-take-le (length b - at) yard (omega (arith, p .blocking-begins, p .yard-begins, p .yard-within, p .short))) (omega (arith, p .yard-within));
-      blank = ap (take (rowSize * slots)) blank ∙ (take-blank (rowSize * slots) 1260 (omega arith) ∙ ap (λ (n : ℕ). replicate (rowSize * n) 0) same);
+      blank = ap (take (rowSize false * slots)) blank ∙ (take-blank (rowSize false * slots) 1260 (omega arith) ∙ ap (λ (n : ℕ). replicate (rowSize false * n) 0) same);
     }

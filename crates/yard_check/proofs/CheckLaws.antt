@@ -9,34 +9,34 @@ use lib.ListN.{length, drop, take-append-drop}
 use lib.Seq.{drop-drop}
 use borrow.Author.Tests.{eqb-true, leb-true, eq-eqb, ne-eqb, lt-ltb, le-ltb}
 use Rattle.link_rules.proofs.OctetLaws.{Bytes}
-use Rattle.image_fault.specs.ImageFault.{imageFault}
+use Rattle.image_fault.specs.ImageFault.{faultWith}
 use Rattle.link_rules.specs.Refusals.{noRefusal, refused}
 use Rattle.link_rules.specs.declared.refusal.Refusal.{Refusal}
 use Rattle.image_fault.proofs.ScanLaws.{both}
 use Rattle.image_fault.proofs.AcceptLaws.{or-else-clean}
 use Rattle.image.specs.Image.{largestTrain}
 use Rattle.update_definition.specs.Fits.{TrainsUpTo, TrainsWithin}
-use Rattle.update_definition.specs.UpdateImage.{UpdatedImage, callFault, updatedImage}
-use Rattle.image_fault.specs.declared.Widths.the-variants.{Narrow}
+use Rattle.update_definition.specs.UpdateImage.{UpdatedImage, callFault, updatedImageIn}
 use Rattle.update_laws.proofs.BytesAccepted.{narrow-held}
 use Rattle.update_laws.proofs.UpdateLeaves.{left-accepted}
 use Rattle.yard_check.specs.Yard.{slotCount, partBegin, partEnd, partOf, withPart, yardFits, yardFault}
 use Rattle.yard_check.specs.YardMatch.{TrainsHeld}
-use Rattle.yard_check.specs.Check.{CheckArgs, rowSize, slotsFault, reportFault, checkFault, Row, unvisitedRow, refusedRow, finishedRow, movedRow, updatedRow, isErredRow, rowAt, isFinished, visit, visitBy, visited, slotVisit, slotRow, slotImage, yardAfter, howMany, firstNot, Refused, answerBy, answerOf, Checked, check, checkDone, checkedBy, checkedWith}
+use Rattle.yard_check.specs.Check.{CheckArgs, wideRows, rowSize, heldFault, slotsFault, reportFault, checkFault, Row, unvisitedRow, refusedRow, finishedRow, movedRow, updatedRow, isErredRow, rowAt, isFinished, visit, visitBy, visited, slotVisit, slotRow, slotImage, yardAfter, howMany, firstNot, Refused, answerBy, answerOf, Checked, check, checkDone, checkedBy, checkedWith}
 use Rattle.yard_check.proofs.VisitLaws.{slot-keeps, slot-refused, images-fit, trains-stay, images-bytes}
 use Rattle.yard_check.proofs.YardLaws.{Fits, fits, part-long, part-bytes, left, slots-after, part-done, part-later, after-fits, after-bytes}
 use Rattle.yard_check.proofs.ReportLaws.{report-length, report-row}
 
 -- ---- refusals
 
--- a check that is not refused: the yard passes 14, moved is a slot, begin is one or S + 1, the report has room
+-- a check that is not refused: the yard passes 14, every image holds the trains, moved is a slot, begin is one or S + 1, the report has room
 pub record Taken (yard occ : List ℕ) (a : CheckArgs) (long : ℕ) : Type 0 where
   pub call : callFault occ (a .blocking) (a .moved) (a .limit) .number ≡ 0
   pub yard-fits : yardFits yard ≡ true
+  pub held : heldFault (a .widths) yard occ .number ≡ 0
   pub moved : a .moved ≤ slotCount yard
   pub begin-low : 1 ≤ a .begin
   pub begin-high : a .begin ≤ slotCount yard + 1
-  pub report-long : long ≡ rowSize * slotCount yard
+  pub report-long : long ≡ rowSize (wideRows (a .widths) yard) * slotCount yard
 
 clean-test : (n : ℕ) (x : Bool) → cond x noRefusal (refused (suc n) 0) .number ≡ 0 → x ≡ true
 clean-test n true k = refl
@@ -48,16 +48,19 @@ taken yard occ a long h =
     let S = slotCount yard in
     let x = or-else-clean (callFault occ (a .blocking) (a .moved) (a .limit)) _ h in
     let y = or-else-clean (yardFault yard) _ (x .1) in
-    let z = or-else-clean (slotsFault S a) (reportFault S long) (y .1) in
+    let k = or-else-clean (heldFault (a .widths) yard occ) _ (y .1) in
+    let wide = wideRows (a .widths) yard in
+    let z = or-else-clean (slotsFault S a) (reportFault wide S long) (k .1) in
     let s = both (leb (a .moved) S) _ (clean-test 14 (leb (a .moved) S && (leb 1 (a .begin) && leb (a .begin) (S + 1))) (z .0)) in
     let b = both (leb 1 (a .begin)) (leb (a .begin) (S + 1)) (s .1) in
     record {
       call = x .0;
       yard-fits = clean-test 13 (yardFits yard) (y .0);
+      held = k .0;
       moved = leb-true (a .moved) S (s .0);
       begin-low = leb-true 1 (a .begin) (b .0);
       begin-high = leb-true (a .begin) (S + 1) (b .1);
-      report-long = eqb-true long (rowSize * S) (clean-test 15 (eqb long (rowSize * S)) (z .1));
+      report-long = eqb-true long (rowSize wide * S) (clean-test 15 (eqb long (rowSize wide * S)) (z .1));
     }
 
 -- the answer of a check that is not refused
@@ -79,7 +82,7 @@ module _ (yard occ : List ℕ) (a : CheckArgs) (report : List ℕ) where
   abbrev done : Checked
   done = checkDone yard occ a report
 
-  by : (P : Checked → Type 0) → ((n : ℕ) → f .number ≡ suc n → P (check (Refused f) yard report)) → (f .number ≡ 0 → P done) → P after
+  pub by : (P : Checked → Type 0) → ((n : ℕ) → f .number ≡ suc n → P (check (Refused f) yard report)) → (f .number ≡ 0 → P done) → P after
   unfolding checkedWith
   by P halt ok = go (f .number) refl
     where
@@ -106,7 +109,7 @@ module _ (yard occ : List ℕ) (a : CheckArgs) (report : List ℕ) where
       (λ e. left yard (fits yard (taken yard occ a (length report) e .yard-fits)) (slotImage yard occ a) (images-fit yard occ a) (slotCount yard) (omega arith) .long)
 
   pub report-kept : length (after .report) ≡ length report
-  report-kept = by (λ (c : Checked). length (c .report) ≡ length report) (λ k e. refl) (λ e. report-length (slotRow yard occ a) report (slotCount yard))
+  report-kept = by (λ (c : Checked). length (c .report) ≡ length report) (λ k e. refl) (λ e. report-length (wideRows (a .widths) yard) (slotRow yard occ a) report (slotCount yard))
 
   -- a yard past 14 stays past it, with as many slots, and of bytes
   module _ (ok : yardFits yard ≡ true) where
@@ -132,10 +135,10 @@ module _ (yard occ : List ℕ) (a : CheckArgs) (report : List ℕ) where
 
 module _ (occ : List ℕ) (a : CheckArgs) (t : ℕ) (img : List ℕ) where
   abbrev fault : Refusal
-  fault = imageFault img (length occ)
+  fault = faultWith (a .widths) noRefusal img (length occ)
 
   abbrev u : UpdatedImage
-  u = updatedImage img occ (a .blocking) (a .moved) (a .local) (a .limit)
+  u = updatedImageIn (a .widths) img occ (a .blocking) (a .moved) (a .local) (a .limit)
 
   pub visit-refused : (n : ℕ) → fault .number ≡ suc n → visited occ a t img ≡ visit (refusedRow fault 0 0) img
   unfolding visited
@@ -183,13 +186,13 @@ module _ (yard occ : List ℕ) (a : CheckArgs) (f : Fits yard) where
   yard-before zero h l = refl
   yard-before (suc n) h l = rw (yard-before n (omega arith) (omega arith), slotImage, slot-unvisited (suc n) h) (part-back (suc n) (omega arith) l)
 
-  -- an image that passes 6 to 9 passes them again
-  pub accepted-after : Bytes yard → ((t : ℕ) → 1 ≤ t → t ≤ slotCount yard → TrainsWithin (largestTrain (partOf yard t)) occ (a .moved)) → ((t : ℕ) → 1 ≤ t → t ≤ slotCount yard → imageFault (partOf yard t) (length occ) .number ≡ 0)
-      → (t : ℕ) → 1 ≤ t → t ≤ slotCount yard → imageFault (partOf (yardAfter yard (slotImage yard occ a) (slotCount yard)) t) (length occ) .number ≡ 0
+  -- an image that passes 6 to 9 and 22 passes them again
+  pub accepted-after : Bytes yard → ((t : ℕ) → 1 ≤ t → t ≤ slotCount yard → TrainsWithin (largestTrain (partOf yard t)) occ (a .moved)) → ((t : ℕ) → 1 ≤ t → t ≤ slotCount yard → faultWith (a .widths) noRefusal (partOf yard t) (length occ) .number ≡ 0)
+      → (t : ℕ) → 1 ≤ t → t ≤ slotCount yard → faultWith (a .widths) noRefusal (partOf (yardAfter yard (slotImage yard occ a) (slotCount yard)) t) (length occ) .number ≡ 0
   accepted-after b w ok t l m =
       rw (part-done yard f (slotImage yard occ a) (images-fit yard occ a) (slotCount yard) (omega arith) t l m m)
-      (slot-keeps yard occ a t (λ (x : List ℕ). imageFault x (length occ) .number ≡ 0) (ok t l m)
-      (left-accepted Narrow (partOf yard t) occ (a .blocking) (a .moved) (a .local) (a .limit) (part-bytes yard f t l m b) (largestTrain (partOf yard t)) (omega arith) (w t l m) (ok t l m)))
+      (slot-keeps yard occ a t (λ (x : List ℕ). faultWith (a .widths) noRefusal x (length occ) .number ≡ 0) (ok t l m)
+      (left-accepted (a .widths) (partOf yard t) occ (a .blocking) (a .moved) (a .local) (a .limit) (part-bytes yard f t l m b) (largestTrain (partOf yard t)) (omega arith) (w t l m) (ok t l m)))
 
 -- a slot's number is a train that every image holds
 slot-held : (img : List ℕ) → 63 ≤ largestTrain img
@@ -203,20 +206,20 @@ slots-within top yard occ moved f h k w t l m =
 
 -- top is the largest train, which every image holds
 pub accepted-kept : (top : ℕ) (yard occ : List ℕ) (a : CheckArgs) (report : List ℕ) → yardFits yard ≡ true → Bytes yard → TrainsHeld top yard → TrainsUpTo top occ
-    → ((t : ℕ) → 1 ≤ t → t ≤ slotCount yard → imageFault (partOf yard t) (length occ) .number ≡ 0)
-    → (t : ℕ) → 1 ≤ t → t ≤ slotCount yard → imageFault (partOf (checkedWith yard occ a report .yard) t) (length occ) .number ≡ 0
+    → ((t : ℕ) → 1 ≤ t → t ≤ slotCount yard → faultWith (a .widths) noRefusal (partOf yard t) (length occ) .number ≡ 0)
+    → (t : ℕ) → 1 ≤ t → t ≤ slotCount yard → faultWith (a .widths) noRefusal (partOf (checkedWith yard occ a report .yard) t) (length occ) .number ≡ 0
 accepted-kept top yard occ a report ok b k w h =
-    by yard occ a report (λ (c : Checked). (t : ℕ) → 1 ≤ t → t ≤ slotCount yard → imageFault (partOf (c .yard) t) (length occ) .number ≡ 0) (λ k e. h)
+    by yard occ a report (λ (c : Checked). (t : ℕ) → 1 ≤ t → t ≤ slotCount yard → faultWith (a .widths) noRefusal (partOf (c .yard) t) (length occ) .number ≡ 0) (λ k e. h)
     (λ e. accepted-after yard occ a (fits yard ok) b (slots-within top yard occ (a .moved) (fits yard ok) (taken yard occ a (length report) e .moved) k w) h)
 
 -- a train refused within a check keeps its image: a slot whose record says refused has the part that it had, after a refused check too
 pub refused-slot-keeps : (yard occ : List ℕ) (a : CheckArgs) (report : List ℕ) (t : ℕ) → 1 ≤ t → t ≤ slotCount yard
-    → 16 ≤ rowAt (checkedWith yard occ a report .report) t .code → partOf (checkedWith yard occ a report .yard) t ≡ partOf yard t
+    → 16 ≤ rowAt (wideRows (a .widths) yard) (checkedWith yard occ a report .report) t .code → partOf (checkedWith yard occ a report .yard) t ≡ partOf yard t
 refused-slot-keeps yard occ a report t l m =
-    by yard occ a report (λ (c : Checked). 16 ≤ rowAt (c .report) t .code → partOf (c .yard) t ≡ partOf yard t) (λ k e h. refl)
+    by yard occ a report (λ (c : Checked). 16 ≤ rowAt (wideRows (a .widths) yard) (c .report) t .code → partOf (c .yard) t ≡ partOf yard t) (λ k e h. refl)
     (λ e h.
     let k = taken yard occ a (length report) e in
-    let row = report-row (slotRow yard occ a) report (slotCount yard) (omega (arith, k .report-long)) t l m in
+    let row = report-row (wideRows (a .widths) yard) (slotRow yard occ a) report (slotCount yard) (omega (arith, k .report-long)) t l m in
     let low : 16 ≤ slotRow yard occ a t .code = omega (arith, h, ap (λ (r : Row). r .code) row) in
     part-done yard (fits yard (k .yard-fits)) (slotImage yard occ a) (images-fit yard occ a) (slotCount yard) (omega arith) t l m m ∙ slot-refused yard occ a t low)
 

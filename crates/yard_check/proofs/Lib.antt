@@ -8,6 +8,7 @@ pub mod PartLaws
 pub mod ReportLaws
 pub mod CheckLaws
 pub mod RowLaws
+pub mod WidthLaws
 pub mod TurnLaws
 pub mod VisitMatch
 pub mod CheckMatch
@@ -15,6 +16,7 @@ pub mod MarkedTrains
 pub mod DemandThree
 pub mod MatchTests
 pub mod SidingRenumbered
+pub mod SidingWide
 pub mod SheetLaws
 pub mod BundleLaws
 pub mod SheetRoom

@@ -1,4 +1,4 @@
--- Mark and release keep an occupancy of trains up to a largest one. Assumes nothing.
+-- Mark and release keep an occupancy of trains up to a largest one, and its length. Assumes nothing.
 use mathlib.Core.Path.{_≡_}
 use mathlib.Core.Logic.{⊎-elim}
 use mathlib.Core.Bool.{Bool, true, false, cond}
@@ -15,6 +15,11 @@ use Rattle.link_rules.specs.declared.link_idx.LinkIdx.{LinkIdx}
 use Rattle.link_rules.specs.declared.link_idx.TrainIdx.{TrainIdx}
 use Rattle.est_times.proofs.Counting.{same-or-not}
 use Rattle.image.proofs.Writers.{side}
+use Rattle.link_rules.proofs.MarkLaws.{length-marked}
+use Rattle.wide_occupancy.proofs.WideMarkLaws.{length-marked-wide}
+use Rattle.image_fault.specs.declared.Widths.{Widths}
+use Rattle.image_fault.specs.declared.Widths.the-variants.{Narrow, Either}
+use Rattle.yard_check.specs.Calls.{markIn}
 use Rattle.update_definition.specs.Fits.{TrainsUpTo}
 
 module _ (top : ℕ) where
@@ -63,3 +68,8 @@ module _ (top : ℕ) where
       go : (n : ℕ) → TrainsUpTo top (markedBy n occ (updateLinksBlocked tbl occ l t) .occupancy)
       go zero = upto-updated tbl occ l t h b
       go (suc n) = b
+
+-- over entries of either type
+pub mark-long : (v : Widths) (tbl occ : List ℕ) (l : LinkIdx) (t : TrainIdx) → length (markIn v tbl occ l t .occupancy) ≡ length occ
+mark-long Narrow tbl occ l t = length-marked tbl occ l t
+mark-long Either tbl occ l t = length-marked-wide tbl occ l t

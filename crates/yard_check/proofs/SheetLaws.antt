@@ -47,12 +47,12 @@ module _ (yard report : List ℕ) (links : ℕ) where
   lines-none = nothing
 
   one-more : (i free : ℕ) → free ≡ freeColumn (partOf yard (i + 1)) links
-      → slotLines yard report links (i + 1) ≡ slotLines yard report links i ++ slotLine (i + 1) (rowFrom report (rowSize * i)) free
+      → slotLines yard report links (i + 1) ≡ slotLines yard report links i ++ slotLine (i + 1) (rowFrom false report (rowSize false * i)) free
   unfolding slotLines
   one-more i free e = let k : suc i - 1 ≡ i = omega arith in rw (e, add-one i, slotLines, k)
 
   pub lines-turn : (i free : ℕ) {t u v : Text} → free ≡ freeColumn (partOf yard (i + 1)) links → Put (slotLines yard report links i) t u
-      → Put (slotLine (i + 1) (rowFrom report (rowSize * i)) free) u v → Put (slotLines yard report links (i + 1)) t v
+      → Put (slotLine (i + 1) (rowFrom false report (rowSize false * i)) free) u v → Put (slotLines yard report links (i + 1)) t v
   lines-turn i free e p q = put-is (one-more i free e) (then p q)
 
 -- ---- the lines of a check
@@ -120,7 +120,7 @@ module _ (yard occ : List ℕ) (a : CheckArgs) (report : List ℕ) where
 
 module _ (b occ blocking yard report : List ℕ) where
   pub bundle-checked : (moved begin limit flag : ℕ) → occ ≡ bundleOccupancy b → blocking ≡ bundleBlocking b → yard ≡ bundleYard b → moved ≡ leAt 2 b 24 → begin ≡ leAt 2 b 26
-      → flag ≡ leAt 2 b 30 → limit ≡ leAt 2 b 28 → report ≡ replicate (rowSize * reportSlots (bundleYard b)) 0
+      → flag ≡ leAt 2 b 30 → limit ≡ leAt 2 b 28 → report ≡ replicate (rowSize false * reportSlots (bundleYard b)) 0
       → checked yard occ blocking moved begin (eqb flag 1) limit report ≡ checkedBundle b
   unfolding checkedBundle
   bundle-checked moved begin limit flag e1 e2 e3 e4 e5 e6 e7 e8 = rw (e1, e2, e3, e4, e5, e6, e7, e8)

@@ -2,7 +2,7 @@
 use mathlib.Core.Path.{_≡_, refl, sym, ap, subst⁻¹, _∙_}
 use mathlib.Core.Bool.{Bool, true, false, cond, not, _&&_, _||_}
 use mathlib.Core.List.{List}
-use Prim.Native.Nat.{ℕ, zero, suc, _+_, _*_, _-_, _^_, _≤_, _<_}
+use Prim.Native.Nat.{ℕ, zero, suc, _+_, _*_, _-_, _^_, max, _≤_, _<_}
 use native.Mathlib.Omega.{arith}
 use lib.Dec.{ltb, leb, eqb}
 use lib.ListN.{length, getD, length-append}
@@ -19,12 +19,16 @@ use Rattle.link_rules.specs.Refusals.{noRefusal, refused, orElse}
 use Rattle.link_rules.specs.declared.refusal.Refusal.{Refusal}
 use Rattle.image_fault.proofs.ScanLaws.{both}
 use Rattle.image_fault.proofs.AcceptLaws.{accepted, fits-counts, clean-header}
+use Rattle.image_fault.specs.declared.Widths.{Widths}
+use Rattle.image_fault.specs.declared.Widths.the-variants.{Narrow, Either}
+use Rattle.wide_occupancy.specs.WideOccupancy.{largest}
 use Rattle.update_definition.specs.Fits.{TrainsUpTo}
 use Rattle.update_definition.specs.UpdateImage.{linksBelow, callFault}
 use Rattle.yard_check.specs.Yard.{slotCount, partOf, yardFits, yardFault}
-use Rattle.yard_check.specs.Check.{CheckArgs, rowSize, slotsFault, reportFault, checkFault, Row, isFinishedRow, isBlockedRow, isErredRow, rowAt, slotRow, howMany, firstNot, answerBy, answerOf, Checked, checkDone, checkedBy, checkedWith}
+use Rattle.yard_check.specs.Check.{CheckArgs, largestHeld, wideRows, rowSize, heldFault, slotsFault, reportFault, reportAfter, checkFault, Row, isFinishedRow, isBlockedRow, isErredRow, rowAt, slotRow, howMany, firstNot, answerBy, answerOf, Checked, checkDone, checkedBy, checkedWith}
 use Rattle.yard_check.specs.Sheet.{bundleFits, checkedBundle, bundleOccupancy, occupancyCount, codeWord, refusedWord, refusedLine, firstLine, freeColumn, slotLine, slotLines, checkText, checkLines, sheetText}
 use Rattle.text.specs.Ascii.{ascii, column}
+use Rattle.yard_check.proofs.SlotLaws.{many-few}
 use Rattle.yard_check.proofs.YardLaws.{fits}
 use Rattle.yard_check.proofs.RowLaws.{slot-met}
 use Rattle.yard_check.proofs.ReportLaws.{report-row}
@@ -95,24 +99,15 @@ free-few img links = go (eqb (imageFault img links .number) 0) refl
     go true e = free-within img links (eqb-true (imageFault img links .number) 0 e)
     go false e = omega arith
 
-lines-long : (yard report : List ℕ) (links n : ℕ) → n ≤ 63 → ((t : ℕ) → 1 ≤ t → t ≤ n → Small (rowAt report t)) → length (slotLines yard report links n) ≤ 61 * n
+lines-long : (yard report : List ℕ) (links n : ℕ) → n ≤ 63 → ((t : ℕ) → 1 ≤ t → t ≤ n → Small (rowAt false report t)) → length (slotLines yard report links n) ≤ 61 * n
 unfolding slotLines
 lines-long yard report links zero h s = omega arith
 lines-long yard report links (suc n) h s =
     let r = lines-long yard report links n (omega arith) (λ t l k. s t l (omega arith)) in
-    let q = line-long (suc n) (freeColumn (partOf yard (suc n)) links) (rowAt report (suc n)) h (free-few (partOf yard (suc n)) links) (s (suc n) (omega arith) (omega arith)) in
+    let q = line-long (suc n) (freeColumn (partOf yard (suc n)) links) (rowAt false report (suc n)) h (free-few (partOf yard (suc n)) links) (s (suc n) (omega arith) (omega arith)) in
     simp length-append (omega arith)
 
 -- ---- the first line
-
-many-few : (test : ℕ → Bool) (n : ℕ) → howMany test n ≤ n
-unfolding howMany
-many-few test zero = omega arith
-many-few test (suc n) = go (test (suc n)) (many-few test n)
-  where
-    go : (t : Bool) → howMany test n ≤ n → cond t 1 0 + howMany test n ≤ suc n
-    go true h = omega arith
-    go false h = omega arith
 
 first-near : (test : ℕ → Bool) (k t : ℕ) → firstNot test k t ≤ t + k
 unfolding firstNot
@@ -139,18 +134,18 @@ first-long rows slots begin lines h l k =
 
 -- ---- a check: the numbers that refuse it, and its rows
 
-refused-long : (n : ℕ) → n ≤ 17 → length (refusedLine n) ≤ 4096
+refused-long : (n : ℕ) → n ≤ 22 → length (refusedLine n) ≤ 4096
 unfolding ascii listed
 refused-long n h = let a = column-long 1 n (omega arith) in simp length-append (omega arith)
 
-one-of : (t : Bool) (a b : Refusal) → a .number ≤ 17 → b .number ≤ 17 → cond t a b .number ≤ 17
+one-of : (t : Bool) (a b : Refusal) → a .number ≤ 22 → b .number ≤ 22 → cond t a b .number ≤ 22
 one-of true a b h k = h
 one-of false a b h k = k
 
-or-few : (a b : Refusal) → a .number ≤ 17 → b .number ≤ 17 → orElse a b .number ≤ 17
+or-few : (a b : Refusal) → a .number ≤ 22 → b .number ≤ 22 → orElse a b .number ≤ 22
 or-few a b h k = one-of (eqb (a .number) 0) b a k h
 
-call-few : (occ blocking : List ℕ) (moved limit : ℕ) → callFault occ blocking moved limit .number ≤ 17
+call-few : (occ blocking : List ℕ) (moved limit : ℕ) → callFault occ blocking moved limit .number ≤ 22
 unfolding callFault
 call-few occ blocking moved limit =
     or-few (cond (leb 2 (length occ) && leb (length occ) 4000) noRefusal (refused 2 0)) _ (one-of (leb 2 (length occ) && leb (length occ) 4000) noRefusal (refused 2 0) (omega arith) (omega arith))
@@ -158,16 +153,22 @@ call-few occ blocking moved limit =
     (one-of (leb (length blocking) 4000 && linksBelow (length occ) blocking) noRefusal (refused 4 0) (omega arith) (omega arith))
     (one-of (eqb moved 0 || eqb limit 0) (refused 5 0) noRefusal (omega arith) (omega arith)))
 
-fault-few : (yard occ : List ℕ) (a : CheckArgs) (long : ℕ) → checkFault yard occ a long .number ≤ 17
+held-few : (w : Widths) (yard occ : List ℕ) → heldFault w yard occ .number ≤ 22
+held-few Narrow yard occ = omega arith
+held-few Either yard occ = one-of (leb (max 0 (largest occ)) (largestHeld yard)) noRefusal (refused 22 0) (omega arith) (omega arith)
+
+fault-few : (yard occ : List ℕ) (a : CheckArgs) (long : ℕ) → checkFault yard occ a long .number ≤ 22
 unfolding checkFault slotsFault reportFault
 fault-few yard occ a long =
     let S = slotCount yard in
     or-few (callFault occ (a .blocking) (a .moved) (a .limit)) _ (call-few occ (a .blocking) (a .moved) (a .limit))
     (or-few (yardFault yard) _ (one-of (yardFits yard) noRefusal (refused 14 0) (omega arith) (omega arith))
-    (or-few (slotsFault S a) (reportFault S long) (one-of (leb (a .moved) S && (leb 1 (a .begin) && leb (a .begin) (S + 1))) noRefusal (refused 15 0) (omega arith) (omega arith))
-    (one-of (eqb long (rowSize * S)) noRefusal (refused 16 0) (omega arith) (omega arith))))
+    (or-few (heldFault (a .widths) yard occ) _ (held-few (a .widths) yard occ)
+    (or-few (slotsFault S a) (reportFault (wideRows (a .widths) yard) S long) (one-of (leb (a .moved) S && (leb 1 (a .begin) && leb (a .begin) (S + 1))) noRefusal (refused 15 0) (omega arith) (omega arith))
+    (one-of (eqb long (rowSize (wideRows (a .widths) yard) * S)) noRefusal (refused 16 0) (omega arith) (omega arith)))))
 
-module _ (yard occ : List ℕ) (u : TrainsUpTo 65535 occ) (a : CheckArgs) (report : List ℕ) (links : ℕ) where
+-- over u16 entries
+module _ (yard occ : List ℕ) (u : TrainsUpTo 65535 occ) (a : CheckArgs) (narrow : a .widths ≡ Narrow) (report : List ℕ) (links : ℕ) where
   abbrev f : Refusal
   f = checkFault yard occ a (length report)
 
@@ -177,10 +178,14 @@ module _ (yard occ : List ℕ) (u : TrainsUpTo 65535 occ) (a : CheckArgs) (repor
   abbrev done : Checked
   done = checkDone yard occ a report
 
-  row-small : (t : ℕ) → rowSize * slotCount yard ≤ length report → 1 ≤ t → t ≤ slotCount yard → Small (rowAt (done .report) t)
+  few-columns : wideRows (a .widths) yard ≡ false
+  few-columns = ap (λ (w : Widths). wideRows w yard) narrow
+
+  row-small : (t : ℕ) → rowSize false * slotCount yard ≤ length report → 1 ≤ t → t ≤ slotCount yard → Small (rowAt false (done .report) t)
   row-small t h l k =
-      subst⁻¹ Small (report-row rows report (slotCount yard) h t l k)
-      (record { code = omega arith; rounds = omega arith; holder = omega arith; strays = omega arith; faults = omega arith; met = omega (arith, slot-met 65535 occ u a t yard) })
+      subst⁻¹ (λ (w : Bool). Small (rowAt false (reportAfter w rows report (slotCount yard)) t)) few-columns
+      (subst⁻¹ Small (report-row false rows report (slotCount yard) h t l k)
+      (record { code = omega arith; rounds = omega arith; holder = omega arith; strays = omega arith; faults = omega arith; met = omega (arith, slot-met 65535 occ u a t yard) }))
 
   done-long : f .number ≡ 0 → length (checkLines done links) ≤ 4096
   unfolding checkLines
@@ -188,7 +193,7 @@ module _ (yard occ : List ℕ) (u : TrainsUpTo 65535 occ) (a : CheckArgs) (repor
       let k = taken yard occ a (length report) e in
       let few = fits yard (k .yard-fits) .few in
       let same : slotCount (done .yard) ≡ slotCount yard = ap (λ (c : Checked). slotCount (c .yard)) (sym (taken-done yard occ a report e)) ∙ slots-kept yard occ a report (k .yard-fits) in
-      let long = lines-long (done .yard) (done .report) links (slotCount yard) few (λ t l m. row-small t (omega (arith, k .report-long)) l m) in
+      let long = lines-long (done .yard) (done .report) links (slotCount yard) few (λ t l m. row-small t (omega (arith, k .report-long, ap (λ (w : Bool). rowSize w * slotCount yard) few-columns)) l m) in
       rw same (first-long rows (slotCount yard) (a .begin) (slotLines (done .yard) (done .report) links (slotCount yard)) few (omega (arith, k .begin-high)) (omega arith))
 
   check-long : length (checkLines (checkedWith yard occ a report) links) ≤ 4096
@@ -216,5 +221,5 @@ unfolding sheetText checkedBundle
 sheet-room b h = go (bundleFits b)
   where
     go : (t : Bool) → length {A = ℕ} (elim t [ true ↦ checkLines (checkedBundle b) (occupancyCount b) | false ↦ refusedLine 17 ]) ≤ 4096
-    go true = check-long _ _ (occupancy-low b h) _ _ (occupancyCount b)
+    go true = check-long _ _ (occupancy-low b h) _ refl _ (occupancyCount b)
     go false = refused-long 17 (omega arith)

@@ -13,6 +13,7 @@ use Rattle.link_rules.specs.Renumbering.{Renumbering, rTrain}
 use Rattle.link_rules.specs.Matching.{rRecord}
 use Rattle.link_rules.specs.declared.refusal.Answer.the-variants.{Done as Marked}
 use Rattle.free_path.specs.AnyOrder.{swap}
+use Rattle.image_fault.specs.declared.Widths.the-variants.{Narrow}
 use Rattle.yard_check.specs.Yard.{partOf}
 use Rattle.yard_check.specs.Check.{rowFrom, Done}
 use Rattle.yard_check.specs.Calls.{World, Call, mark, check, marked, checked, run, runAll}
@@ -36,7 +37,7 @@ twice (suc zero) = refl
 twice (suc (suc zero)) = refl
 twice (suc (suc (suc n))) = refl
 
-swaps : (top : ℕ) → 2 ≤ top → Renumbering top swapped
+pub swaps : (top : ℕ) → 2 ≤ top → Renumbering top swapped
 unfolding swapped
 swaps top h = record { one-to-one = λ a b e. sym (twice a) ∙ (ap swapped e ∙ twice b); zero-stays = refl; above-stays = above }
   where
@@ -62,17 +63,17 @@ second = record { table = table 2; occupancy = 0 ∷ 0 ∷ 0 ∷ 0 ∷ []; yard 
 -- train 2 marks link 3, the yard is checked, link 3 is released
 abbrev calls : List Call
 calls =
-    mark (record { 0 = 3 }) (record { 0 = 2 })
-    ∷ check (record { blocking = 1 ∷ 3 ∷ []; moved = 2; begin = 1; local = false; limit = 5 }) (replicate 40 255)
-    ∷ mark (record { 0 = 3 }) (record { 0 = 0 })
+    mark Narrow (record { 0 = 3 }) (record { 0 = 2 })
+    ∷ check (record { widths = Narrow; blocking = 1 ∷ 3 ∷ []; moved = 2; begin = 1; local = false; limit = 5 }) (replicate 40 255)
+    ∷ mark Narrow (record { 0 = 3 }) (record { 0 = 0 })
     ∷ []
 
 -- the blocking links in another order, and another report
 abbrev calls′ : List Call
 calls′ =
-    mark (record { 0 = 3 }) (record { 0 = 1 })
-    ∷ check (record { blocking = 3 ∷ 2 ∷ []; moved = 1; begin = 1; local = false; limit = 5 }) (replicate 40 0)
-    ∷ mark (record { 0 = 3 }) (record { 0 = 0 })
+    mark Narrow (record { 0 = 3 }) (record { 0 = 1 })
+    ∷ check (record { widths = Narrow; blocking = 3 ∷ 2 ∷ []; moved = 1; begin = 1; local = false; limit = 5 }) (replicate 40 0)
+    ∷ mark Narrow (record { 0 = 3 }) (record { 0 = 0 })
     ∷ []
 
 -- what the examples compute with
@@ -86,7 +87,7 @@ world = 0
 diverts :
     runAll first calls
     ≡ record { answer = marked Marked; world = record { table = table 1; occupancy = 0 ∷ 2 ∷ 0 ∷ 2 ∷ []; yard = twoSlots 400 (siding 1 2 1 2) (plain 2 1 3) } }
-    ∷ record { answer = checked (Done false 1) (words (3 ∷ 2 ∷ 0 ∷ 0 ∷ 2 ∷ 2 ∷ 0 ∷ 0 ∷ 0 ∷ 0 ∷ [])); world = record { table = table 1; occupancy = 0 ∷ 2 ∷ 0 ∷ 2 ∷ []; yard = twoSlots 400 (diverted 1 2 1 2) (plain 2 1 3) } }
+    ∷ record { answer = checked false (Done false 1) (words (3 ∷ 2 ∷ 0 ∷ 0 ∷ 2 ∷ 2 ∷ 0 ∷ 0 ∷ 0 ∷ 0 ∷ [])); world = record { table = table 1; occupancy = 0 ∷ 2 ∷ 0 ∷ 2 ∷ []; yard = twoSlots 400 (diverted 1 2 1 2) (plain 2 1 3) } }
     ∷ record { answer = marked Marked; world = record { table = table 1; occupancy = 0 ∷ 0 ∷ 0 ∷ 0 ∷ []; yard = twoSlots 400 (diverted 1 2 1 2) (plain 2 1 3) } }
     ∷ []
 unfolding world
@@ -95,7 +96,7 @@ diverts = refl
 diverts′ :
     runAll second calls′
     ≡ record { answer = marked Marked; world = record { table = table 2; occupancy = 0 ∷ 0 ∷ 1 ∷ 1 ∷ []; yard = twoSlots 200 (plain 1 2 3) (siding 2 1 2 1) } }
-    ∷ record { answer = checked (Done false 1) (words (2 ∷ 0 ∷ 0 ∷ 0 ∷ 0 ∷ 3 ∷ 2 ∷ 0 ∷ 0 ∷ 1 ∷ [])); world = record { table = table 2; occupancy = 0 ∷ 0 ∷ 1 ∷ 1 ∷ []; yard = twoSlots 200 (plain 1 2 3) (diverted 2 1 2 1) } }
+    ∷ record { answer = checked false (Done false 1) (words (2 ∷ 0 ∷ 0 ∷ 0 ∷ 0 ∷ 3 ∷ 2 ∷ 0 ∷ 0 ∷ 1 ∷ [])); world = record { table = table 2; occupancy = 0 ∷ 0 ∷ 1 ∷ 1 ∷ []; yard = twoSlots 200 (plain 1 2 3) (diverted 2 1 2 1) } }
     ∷ record { answer = marked Marked; world = record { table = table 2; occupancy = 0 ∷ 0 ∷ 0 ∷ 0 ∷ []; yard = twoSlots 200 (plain 1 2 3) (diverted 2 1 2 1) } }
     ∷ []
 unfolding world
@@ -109,14 +110,14 @@ two-cases P a b (suc zero) l m = a
 two-cases P a b (suc (suc zero)) l m = b
 two-cases P a b (suc (suc (suc t))) l m = absurd (omega arith)
 
-four-cases : (P : ℕ → Type 0) → P 0 → P 1 → P 2 → P 3 → (l : ℕ) → l < 4 → P l
+pub four-cases : (P : ℕ → Type 0) → P 0 → P 1 → P 2 → P 3 → (l : ℕ) → l < 4 → P l
 four-cases P a b c d zero h = a
 four-cases P a b c d (suc zero) h = b
 four-cases P a b c d (suc (suc zero)) h = c
 four-cases P a b c d (suc (suc (suc zero))) h = d
 four-cases P a b c d (suc (suc (suc (suc l)))) h = absurd (omega arith)
 
-among : (t : ℕ) → t ≤ 2 → swapped t ≤ 2
+pub among : (t : ℕ) → t ≤ 2 → swapped t ≤ 2
 unfolding swapped
 among zero h = omega arith
 among (suc zero) h = omega arith
@@ -140,7 +141,7 @@ one-yard =
       yards = record { slots = refl; images = two-cases _ (images-match swapped swapped (partOf (first .yard) 1) (partOf (second .yard) 2) refl) (images-match swapped swapped (partOf (first .yard) 2) (partOf (second .yard) 1) refl) };
     }
 
-pub of-types : OfTypes 65535 first second
+pub of-types : OfTypes Narrow first second
 unfolding world
 of-types =
     record {
@@ -151,14 +152,14 @@ of-types =
 
 same-calls : Each (CallsMatch swapped swapped) calls calls′
 unfolding swapped
-same-calls = ((refl, refl), ((record { blocking = swap 2 3 []; moved = refl; begin = refl; local = refl; limit = refl }, refl), ((refl, refl), tt)))
+same-calls = ((refl, refl, refl), ((record { widths = refl; blocking = swap 2 3 []; moved = refl; begin = refl; local = refl; limit = refl }, refl), ((refl, refl, refl), tt)))
 
-calls-of-types : CallsOfTypes 65535 calls
-calls-of-types = (omega arith, (lit< tt, (omega arith, tt)))
+calls-of-types : CallsOfTypes Narrow calls
+calls-of-types = ((refl, omega arith), ((refl, lit< tt), ((refl, omega arith), tt)))
 
 premises : Premises first calls
 unfolding world
 premises = (tt, ((λ h. record { begin = refl; zero-empty = refl; strays = two-cases _ refl refl }), (tt, tt)))
 
 matched : Each (OutcomesMatch swapped swapped) (runAll first calls) (runAll second calls′)
-matched = demand-three swapped swapped first second calls calls′ one-yard of-types same-calls calls-of-types premises
+matched = demand-three Narrow 65535 swapped swapped first second calls calls′ (omega arith) one-yard of-types same-calls calls-of-types premises

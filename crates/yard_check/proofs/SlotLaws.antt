@@ -4,18 +4,56 @@ use mathlib.Core.Logic.{⊎-elim}
 use mathlib.Core.Bool.{Bool, true, false, cond, not}
 use Prim.Native.Nat.{ℕ, zero, suc, _+_, _≤_, _<_}
 use native.Mathlib.Nat.{eq-or-lt-of-le}
+use native.Mathlib.Numerals.{add-one}
 use native.Mathlib.Omega.{arith}
 use lib.Dec.{leb, eqb}
 use borrow.Author.Tests.{eq-eqb, ne-eqb, leb-true, leb-false, le-leb, lt-leb}
 use Rattle.link_rules.specs.Renumbering.{Renumbering}
 use Rattle.yard_check.specs.Check.{howMany}
 
-abbrev bit : Bool → ℕ
+abbrev pub bit : Bool → ℕ
 bit t = cond t 1 0
 
 bit-not : (t : Bool) → bit t + bit (not t) ≡ 1
 bit-not true = refl
 bit-not false = refl
+
+pub bit-few : (t : Bool) → bit t ≤ 1
+bit-few true = omega arith
+bit-few false = omega arith
+
+pub many-few : (f : ℕ → Bool) (n : ℕ) → howMany f n ≤ n
+unfolding howMany
+many-few f zero = omega arith
+many-few f (suc n) = omega (arith, many-few f n, bit-few (f (suc n)))
+
+-- one slot more
+pub many-more : (f : ℕ → Bool) (n : ℕ) → howMany f (n + 1) ≡ bit (f (n + 1)) + howMany f n
+unfolding howMany
+many-more f n = rw (add-one n, howMany)
+
+pub many-start : (f : ℕ → Bool) → howMany f 0 ≡ 0
+unfolding howMany
+many-start f = refl
+
+-- all pass, and none
+pub many-all : (f : ℕ → Bool) (n : ℕ) → howMany f n ≡ n → (t : ℕ) → 1 ≤ t → t ≤ n → f t ≡ true
+unfolding howMany
+many-all f zero e t l m = absurd (omega arith)
+many-all f (suc n) e t l m = go (f (suc n)) refl (λ k x. many-all f n k t l x)
+  where
+    go : (b : Bool) → f (suc n) ≡ b → (howMany f n ≡ n → t ≤ n → f t ≡ true) → f t ≡ true
+    go false k lower = absurd (omega (arith, e, ap bit k, many-few f n))
+    go true k lower = ⊎-elim (λ (x : t ≡ suc n). rw x k) (λ (x : t < suc n). lower (omega (arith, e, ap bit k)) (omega arith)) (eq-or-lt-of-le m)
+
+pub many-none : (f : ℕ → Bool) (n : ℕ) → howMany f n ≡ 0 → (t : ℕ) → 1 ≤ t → t ≤ n → f t ≡ false
+unfolding howMany
+many-none f zero e t l m = absurd (omega arith)
+many-none f (suc n) e t l m = go (f (suc n)) refl (λ k x. many-none f n k t l x)
+  where
+    go : (b : Bool) → f (suc n) ≡ b → (howMany f n ≡ 0 → t ≤ n → f t ≡ false) → f t ≡ false
+    go true k lower = absurd (omega (arith, e, ap bit k))
+    go false k lower = ⊎-elim (λ (x : t ≡ suc n). rw x k) (λ (x : t < suc n). lower (omega (arith, e)) (omega arith)) (eq-or-lt-of-le m)
 
 -- the same test
 pub many-same : (f g : ℕ → Bool) (n : ℕ) → ((t : ℕ) → 1 ≤ t → t ≤ n → f t ≡ g t) → howMany f n ≡ howMany g n

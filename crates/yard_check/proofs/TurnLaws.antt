@@ -14,14 +14,16 @@ use Rattle.image.proofs.Writers.{side}
 use Rattle.link_rules.specs.declared.refusal.Refusal.{Refusal}
 use Rattle.update_free_path.proofs.FaultLaws.{call-links}
 use Rattle.yard_check.specs.Yard.{slotCount, partFrom, partUntil, partOf, withPart}
-use Rattle.yard_check.specs.Check.{CheckArgs, rowSize, checkFault, Row, unvisitedRow, isFinishedRow, isBlockedRow, isErredRow, putRow, Visit, visit, visited, slotVisit, slotRow, slotImage, yardAfter, reportAfter, howMany, firstNot, Refused, Erred, answerBy, answerOf, check, checkDone, checkedBy, checkedWith}
+use Rattle.yard_check.specs.Check.{CheckArgs, wideRows, rowSize, checkFault, Row, unvisitedRow, isFinishedRow, isBlockedRow, isErredRow, putRow, Visit, visit, visited, slotVisit, slotRow, slotImage, yardAfter, reportAfter, howMany, firstNot, Refused, Erred, answerBy, answerOf, check, checkDone, checkedBy, checkedWith}
 use Rattle.yard_check.specs.Checks.{rowOf, talliedOf, tallyAfter, NextTurn, Visits, SlotVisited, AllVisited}
 use Rattle.yard_check.specs.declared.check.Row as Columns
 use Rattle.yard_check.specs.declared.check.Counts.{Counts}
+use Rattle.yard_check.proofs.SlotLaws.{many-few}
 use Rattle.yard_check.proofs.YardLaws.{Fits, fits, left, slots-after, part-later, after-fits}
 use Rattle.yard_check.proofs.VisitLaws.{images-fit, trains-stay}
 use Rattle.yard_check.proofs.ReportLaws.{next-place}
 use Rattle.yard_check.proofs.PartLaws.{from-until, until-inside, part-span, fits-from, fits-until}
+use Rattle.yard_check.proofs.WidthLaws.{given-none}
 use Rattle.yard_check.proofs.CheckLaws.{Taken, taken, taken-done, part-back, slot-unvisited, next-turn}
 
 -- a check that is not refused has at most 4,000 links
@@ -69,15 +71,6 @@ module _ (yard occ : List ℕ) (a : CheckArgs) (t : ℕ) (v : Visits yard occ a 
 
 -- ---- the tally
 
-pub bit-few : (b : Bool) → cond b 1 0 ≤ 1
-bit-few true = omega arith
-bit-few false = omega arith
-
-many-few : (test : ℕ → Bool) (n : ℕ) → howMany test n ≤ n
-unfolding howMany
-many-few test zero = omega arith
-many-few test (suc n) = omega (arith, many-few test n, bit-few (test (suc n)))
-
 module _ (rows : ℕ → Row) (begin : ℕ) where
   abbrev done : ℕ → Bool
   done t = isFinishedRow (rows t)
@@ -119,6 +112,9 @@ module _ (yard occ : List ℕ) (a : CheckArgs) (report : List ℕ) (clean : chec
   abbrev row : ℕ → Row
   row t = slotRow yard occ a t
 
+  abbrev wide : Bool
+  wide = wideRows (a .widths) yard
+
   T : Taken yard occ a (length report)
   T = taken yard occ a (length report) clean
 
@@ -146,6 +142,7 @@ module _ (yard occ : List ℕ) (a : CheckArgs) (report : List ℕ) (clean : chec
           low = omega arith;
           high = omega (arith, slots-after yard F (slotImage yard occ a) (images-fit yard occ a) n (omega arith));
           call = T .call;
+          given = rw (part-later yard F (slotImage yard occ a) (images-fit yard occ a) n (omega arith) (n + 1) (omega arith) (omega arith) (omega arith)) (given-none yard occ a (length report) clean (n + 1) (omega arith) (omega arith));
         }
 
     -- each slot is visited as the visits before it left it
@@ -164,11 +161,11 @@ module _ (yard occ : List ℕ) (a : CheckArgs) (report : List ℕ) (clean : chec
       unfolding yardAfter
       turn-yard = rw (add-one n) (s′ .yard-left ∙ ap (λ (x : Visit). withPart (z n) (suc n) (x .image)) same-visit)
 
-      pub turn-report : putRow (rowOf r) (rowSize * n) (reportAfter row report n) ≡ reportAfter row report (n + 1)
+      pub turn-report : putRow wide (rowOf r) (rowSize wide * n) (reportAfter wide row report n) ≡ reportAfter wide row report (n + 1)
       unfolding reportAfter
       turn-report =
           rw (add-one n)
-          (ap (λ (x : Row). putRow x (rowSize * n) (reportAfter row report n)) row-is ∙ ap (λ (k : ℕ). putRow (row (suc n)) k (reportAfter row report n)) (sym (next-place n)))
+          (ap (λ (x : Row). putRow wide x (rowSize wide * n) (reportAfter wide row report n)) row-is ∙ ap (λ (k : ℕ). putRow wide (row (suc n)) k (reportAfter wide row report n)) (sym (next-place wide n)))
 
       pub turn-tally : talliedOf (tallyAfter row (a .begin) n) (rowOf r) (n + 1) ≡ tallyAfter row (a .begin) (n + 1)
       turn-tally =

@@ -10,18 +10,18 @@ use borrow.Author.Tests.{le-ltb}
 use Rattle.link_rules.specs.LinkIdx.{noLink, occupied}
 use Rattle.link_rules.proofs.OctetLaws.{Bytes}
 use Rattle.link_rules.proofs.RenumberingLaws.{eqb-renumbered}
-use Rattle.image.specs.Image.{largestTrain}
+use Rattle.image.specs.Image.{largestOf, largestTrain}
 use Rattle.image.specs.ImageMatch.{ImagesMatch}
 use Rattle.image.proofs.MatchLaws.{path-count, header-high}
-use Rattle.image_fault.specs.ImageFault.{imageFault}
+use Rattle.image_fault.specs.ImageFault.{faultWith}
+use Rattle.link_rules.specs.Refusals.{noRefusal}
 use Rattle.link_rules.specs.declared.refusal.Refusal.{Refusal}
-use Rattle.image_fault.proofs.MatchLaws.{image-fault-match}
+use Rattle.image_fault.proofs.MatchLaws.{fault-match}
 use Rattle.update_definition.specs.Fits.{TrainsWithin}
 use Rattle.update_definition.specs.Update.{Status, Success, Blocked, Faulty, Refused}
-use Rattle.update_definition.specs.UpdateImage.{UpdatedImage, updatedImage}
+use Rattle.update_definition.specs.UpdateImage.{UpdatedImage, givenFault, updatedImageIn}
 use Rattle.update_definition.specs.Renumbered.{rStatus}
 use Rattle.update_definition.specs.UpdateMatch.{GivenMatch, UpdatesMatch}
-use Rattle.image_fault.specs.declared.Widths.the-variants.{Narrow}
 use Rattle.update_laws.proofs.ImageRenumbering.{update-match}
 use Rattle.yard_check.specs.Yard.{partOf}
 use Rattle.yard_check.specs.Check.{CheckArgs, Row, unvisitedRow, statusRow, isFinished, Visit, visit, visitBy, visited, slotVisit}
@@ -72,31 +72,32 @@ finished-match : (p q : ℕ → ℕ) (img img′ : List ℕ) → ImagesMatch p q
 unfolding isFinished
 finished-match p q img img′ m = ap₂ eqb (header-high p q img img′ m 2 36 (omega arith) (omega arith)) (path-count p q img img′ m)
 
--- top is the largest train; it and the trains of the call are ones that the image holds
+-- top is the largest train; it and the trains of the call are ones that the images hold
 module _ (top : ℕ) (p q : ℕ → ℕ) (occ occ′ : List ℕ) (a a′ : CheckArgs) (g : ArgsMatch p q a a′) (c : GivenMatch top p q occ occ′ (a .blocking) (a′ .blocking)) (empty : occupied occ noLink ≡ false) where
-  module _ (t : ℕ) (img img′ : List ℕ) (m : ImagesMatch p q img img′) (b : Bytes img) (b′ : Bytes img′) (low : top ≤ largestTrain img) (w : TrainsWithin (largestTrain img) occ (a .moved)) where
+  module _ (t : ℕ) (img img′ : List ℕ) (m : ImagesMatch p q img img′) (b : Bytes img) (b′ : Bytes img′) (low : top ≤ largestTrain img) (w : TrainsWithin (largestTrain img) occ (a .moved))
+      (given : givenFault (a .widths) img occ (a .moved) ≡ noRefusal) (given′ : givenFault (a .widths) img′ occ′ (q (a .moved)) ≡ noRefusal) where
     abbrev u : UpdatedImage
-    u = updatedImage img occ (a .blocking) (a .moved) (a .local) (a .limit)
+    u = updatedImageIn (a .widths) img occ (a .blocking) (a .moved) (a .local) (a .limit)
 
     abbrev u′ : UpdatedImage
-    u′ = updatedImage img′ occ′ (a′ .blocking) (q (a .moved)) (a .local) (a .limit)
+    u′ = updatedImageIn (a .widths) img′ occ′ (a′ .blocking) (q (a .moved)) (a .local) (a .limit)
 
     abbrev f : Refusal
-    f = imageFault img (length occ)
+    f = faultWith (a .widths) noRefusal img (length occ)
 
-    fault-same : imageFault img′ (length occ′) ≡ f
-    fault-same = rw (c .occupancies .long) (image-fault-match p q (length occ) top (c .links) (c .trains) img img′ m)
+    fault-same : faultWith (a .widths) noRefusal img′ (length occ′) ≡ f
+    fault-same = rw (c .occupancies .long) (fault-match p q (length occ) top (c .links) (c .trains) img img′ m (a .widths) noRefusal (λ e v. subst (λ (x : Bool). top ≤ largestOf x) v low))
 
     second : visited occ′ a′ (q t) img′ ≡ visitBy (f .number) f (isFinished img) (eqb t (a .moved)) u′ img′
     unfolding visited
-    second = rw (g .moved, g .local, g .limit, fault-same, finished-match p q img img′ m, eqb-renumbered top q (c .trains) t (a .moved))
+    second = rw (g .widths, g .moved, g .local, g .limit, fault-same, finished-match p q img img′ m, eqb-renumbered top q (c .trains) t (a .moved))
 
     pub visit-match : visited occ a t img .row .strays ≡ 0 → VisitsMatch p q (visited occ a t img) (visited occ′ a′ (q t) img′)
     unfolding visited
     visit-match s =
         subst (λ (v : Visit). VisitsMatch p q (visited occ a t img) v) (sym second)
         (visit-by p q (c .trains .zero-stays) img img′ m u u′ (f .number) f (isFinished img) (eqb t (a .moved))
-        (update-match top p q occ occ′ (a .blocking) (a′ .blocking) c (a .moved) (a .local) (a .limit) Narrow img img′ m refl low b b′ w empty) s)
+        (update-match top p q occ occ′ (a .blocking) (a′ .blocking) c (a .moved) (a .local) (a .limit) (a .widths) img img′ m (given′ ∙ sym given) low b b′ w empty) s)
 
 -- from slot 1 on every slot is visited
 pub visited-slot : (yard occ : List ℕ) (a : CheckArgs) (t : ℕ) → a .begin ≡ 1 → 1 ≤ t → slotVisit yard occ a t ≡ visited occ a t (partOf yard t)

@@ -1,36 +1,65 @@
--- The check over a yard (document 01, Check; check_deadlock, dispatch.rs 45-91): its refusals in order, the visits to the slots, the report, the answer. Assumes nothing.
+-- The check over a yard (document 01, Check; check_deadlock, dispatch.rs 45-91): its refusals in order, the visits to the slots, the report, the answer.
+-- One definition over the widths of images that a call takes (document 02, Q-6). Assumes nothing.
 use Prim.Native.Nat.{ℕ, zero, suc, _+_, _*_, _-_}
 use mathlib.Core.Bool.{Bool, true, false, cond, not, _&&_}
 use mathlib.Core.List.{List}
 use lib.Dec.{ltb, leb, eqb}
 use lib.ListN.{length}
 use Rattle.link_rules.specs.Octets.{leAt, putLe}
-use Rattle.image.specs.Image.{pathCount}
+use Rattle.image.specs.Image.{pathCount, isWide, largestOf}
 use Rattle.image_reader.specs.Reader.{freeOf}
-use Rattle.image_fault.specs.ImageFault.{imageFault}
+use Rattle.image_fault.specs.ImageFault.{faultWith}
+use Rattle.image_fault.specs.declared.Widths.{Widths}
+use Rattle.image_fault.specs.declared.Widths.the-variants.{Narrow, Either}
+use Rattle.link_rules.specs.LinkIdx.{noTrain}
 use Rattle.link_rules.specs.Refusals.{noRefusal, refused, orElse}
 use Rattle.link_rules.specs.declared.refusal.Refusal.{Refusal}
 use Rattle.update_definition.specs.Update.{Answer as UpdateAnswer, Status, Success, Blocked, Faulty, Refused as UpdateRefused}
-use Rattle.update_definition.specs.UpdateImage.{UpdatedImage, callFault, updatedImage}
+use Rattle.update_definition.specs.UpdateImage.{UpdatedImage, callFault, updatedImageIn}
+use Rattle.wide_occupancy.specs.WideOccupancy.{largeTrainFault}
 use Rattle.yard_check.specs.Yard.{slotCount, partOf, withPart, yardFault}
 
 -- what a check is given beside the yard, the occupancy and the report
 pub record CheckArgs : Type 0 where
+  -- the images that the call takes: narrow ones, over u16 entries; either width, over u32 entries
+  pub widths : Widths
   pub blocking : List ℕ
   pub moved : ℕ
   pub begin : ℕ
   pub local : Bool
   pub limit : ℕ
 
+-- ---- slots of a kind, and the widths of a yard's images
+
+-- how many of the slots 1 to n pass
+unfoldable pub howMany : (ℕ → Bool) → ℕ → ℕ
+howMany test zero = 0
+howMany test (suc n) = cond (test (suc n)) 1 0 + howMany test n
+
+-- how many images are wide
+abbrev pub wideCount : List ℕ → ℕ
+wideCount yard = howMany (λ t. isWide (partOf yard t)) (slotCount yard)
+
+-- the largest train that every image holds: 999,999 only where all images are wide
+abbrev pub largestHeld : List ℕ → ℕ
+largestHeld yard = largestOf (eqb (wideCount yard) (slotCount yard))
+
+-- the report's records are wide where any image is
+abbrev pub wideRows : Widths → List ℕ → Bool
+wideRows Narrow yard = false
+wideRows Either yard = not (eqb (wideCount yard) 0)
+
 -- ---- where a report's records and their columns stand (documents 01 and 02, Q-14): u16 code, u16 place, rounds, holder; u32 strays, faults, met
+-- in a wide one (Q-6) 0 stands in the holder's place, and the holder as a u32 before met
 
 -- bytes of a record
-abbrev pub rowSize : ℕ
-rowSize = 20
+abbrev pub rowSize : (wide : Bool) → ℕ
+rowSize false = 20
+rowSize true = 24
 
 -- where the record of slot t stands
-abbrev pub rowPlace : ℕ → ℕ
-rowPlace t = rowSize * (t - 1)
+abbrev pub rowPlace : (wide : Bool) → ℕ → ℕ
+rowPlace wide t = rowSize wide * (t - 1)
 
 -- where each column stands in the record from k on
 abbrev pub codeAt : ℕ → ℕ
@@ -54,23 +83,35 @@ faultsAt k = k + 12
 abbrev pub metAt : ℕ → ℕ
 metAt k = k + 16
 
--- ---- refusals 2, 4, 5, 14, 15 and 16, in this order, with place 0
+abbrev pub wideHolderAt : ℕ → ℕ
+wideHolderAt k = k + 16
+
+abbrev pub wideMetAt : ℕ → ℕ
+wideMetAt k = k + 20
+
+-- ---- refusals 2, 4, 5, 14, 22, 15 and 16, in this order, with place 0
+
+-- 22: an entry is above the largest train that every image holds; over u16 entries it is not asked
+abbrev pub heldFault : Widths → (yard occ : List ℕ) → Refusal
+heldFault Narrow yard occ = noRefusal
+heldFault Either yard occ = largeTrainFault (largestHeld yard) occ noTrain
 
 -- 15: moved above S, or begin outside 1 to S + 1
 unfoldable pub slotsFault : ℕ → CheckArgs → Refusal
 slotsFault slots a = cond (leb (a .moved) slots && (leb 1 (a .begin) && leb (a .begin) (slots + 1))) noRefusal (refused 15 0)
 
 -- 16: the report has not a record for each slot
-unfoldable pub reportFault : ℕ → ℕ → Refusal
-reportFault slots long = cond (eqb long (rowSize * slots)) noRefusal (refused 16 0)
+unfoldable pub reportFault : (wide : Bool) → ℕ → ℕ → Refusal
+reportFault wide slots long = cond (eqb long (rowSize wide * slots)) noRefusal (refused 16 0)
 
 -- long is the length of the report
 unfoldable pub checkFault : List ℕ → List ℕ → CheckArgs → ℕ → Refusal
 checkFault yard occ a long =
     orElse (callFault occ (a .blocking) (a .moved) (a .limit))
     (orElse (yardFault yard)
+    (orElse (heldFault (a .widths) yard occ)
     (orElse (slotsFault (slotCount yard) a)
-    (reportFault (slotCount yard) long)))
+    (reportFault (wideRows (a .widths) yard) (slotCount yard) long))))
 
 -- ---- report (document 01): a record for each slot
 
@@ -122,8 +163,8 @@ abbrev pub isErredRow : Row → Bool
 isErredRow r = leb 5 (r .code)
 
 -- a row in the record from k on, written and read
-unfoldable pub putRow : Row → ℕ → List ℕ → List ℕ
-putRow r k bs =
+unfoldable pub putRow : (wide : Bool) → Row → ℕ → List ℕ → List ℕ
+putRow false r k bs =
     putLe 4 (r .met) (metAt k)
     (putLe 4 (r .faults) (faultsAt k)
     (putLe 4 (r .strays) (straysAt k)
@@ -131,9 +172,18 @@ putRow r k bs =
     (putLe 2 (r .rounds) (roundsAt k)
     (putLe 2 (r .place) (placeAt k)
     (putLe 2 (r .code) (codeAt k) bs))))))
+putRow true r k bs =
+    putLe 4 (r .met) (wideMetAt k)
+    (putLe 4 (r .holder) (wideHolderAt k)
+    (putLe 4 (r .faults) (faultsAt k)
+    (putLe 4 (r .strays) (straysAt k)
+    (putLe 2 0 (holderAt k)
+    (putLe 2 (r .rounds) (roundsAt k)
+    (putLe 2 (r .place) (placeAt k)
+    (putLe 2 (r .code) (codeAt k) bs)))))))
 
-unfoldable pub rowFrom : List ℕ → ℕ → Row
-rowFrom bs k =
+unfoldable pub rowFrom : (wide : Bool) → List ℕ → ℕ → Row
+rowFrom false bs k =
     record {
       code = leAt 2 bs (codeAt k);
       place = leAt 2 bs (placeAt k);
@@ -143,10 +193,20 @@ rowFrom bs k =
       faults = leAt 4 bs (faultsAt k);
       met = leAt 4 bs (metAt k);
     }
+rowFrom true bs k =
+    record {
+      code = leAt 2 bs (codeAt k);
+      place = leAt 2 bs (placeAt k);
+      rounds = leAt 2 bs (roundsAt k);
+      holder = leAt 4 bs (wideHolderAt k);
+      strays = leAt 4 bs (straysAt k);
+      faults = leAt 4 bs (faultsAt k);
+      met = leAt 4 bs (wideMetAt k);
+    }
 
 -- the report's record of slot t
-abbrev pub rowAt : List ℕ → ℕ → Row
-rowAt report t = rowFrom report (rowPlace t)
+abbrev pub rowAt : (wide : Bool) → List ℕ → ℕ → Row
+rowAt wide report t = rowFrom wide report (rowPlace wide t)
 
 -- ---- the visit to a slot (dispatch.rs 61-81)
 
@@ -162,7 +222,7 @@ pub record Visit : Type 0 where
 abbrev pub visit : Row → List ℕ → Visit
 visit r img = record { row = r; image = img }
 
--- by the number of the refusal f: refused by 6 to 9, else finished, else moved, else updated
+-- by the number of the refusal f: refused by 6 to 9 or by 22 of a diverge record, else finished, else moved, else updated
 abbrev pub visitBy : ℕ → Refusal → Bool → Bool → UpdatedImage → List ℕ → Visit
 visitBy (suc n) f isDone isMoved u img = visit (refusedRow f 0 0) img
 visitBy zero f true isMoved u img = visit finishedRow img
@@ -172,8 +232,8 @@ visitBy zero f false false u img = visit (updatedRow (u .answer)) (u .image)
 -- of slot t with this image
 unfoldable pub visited : List ℕ → CheckArgs → ℕ → List ℕ → Visit
 visited occ a t img =
-    let f = imageFault img (length occ) in
-    let u = updatedImage img occ (a .blocking) (a .moved) (a .local) (a .limit) in
+    let f = faultWith (a .widths) noRefusal img (length occ) in
+    let u = updatedImageIn (a .widths) img occ (a .blocking) (a .moved) (a .local) (a .limit) in
     visitBy (f .number) f (isFinished img) (eqb t (a .moved)) u img
 
 -- slots below begin are not visited
@@ -197,14 +257,9 @@ yardAfter yard images zero = yard
 yardAfter yard images (suc n) = withPart (yardAfter yard images n) (suc n) (images (suc n))
 
 -- the report with the rows of slots 1 to n
-unfoldable pub reportAfter : (ℕ → Row) → List ℕ → ℕ → List ℕ
-reportAfter rows report zero = report
-reportAfter rows report (suc n) = putRow (rows (suc n)) (rowPlace (suc n)) (reportAfter rows report n)
-
--- how many of the slots 1 to n pass
-unfoldable pub howMany : (ℕ → Bool) → ℕ → ℕ
-howMany test zero = 0
-howMany test (suc n) = cond (test (suc n)) 1 0 + howMany test n
+unfoldable pub reportAfter : (wide : Bool) → (ℕ → Row) → List ℕ → ℕ → List ℕ
+reportAfter wide rows report zero = report
+reportAfter wide rows report (suc n) = putRow wide (rows (suc n)) (rowPlace wide (suc n)) (reportAfter wide rows report n)
 
 -- the first of the k slots from t on that does not pass, or the one behind them
 unfoldable pub firstNot : (ℕ → Bool) → ℕ → ℕ → ℕ
@@ -239,14 +294,14 @@ abbrev pub check : Answer → List ℕ → List ℕ → Checked
 check answer yard report = record { answer = answer; yard = yard; report = report }
 
 -- a check that is not refused, from the image and the row of each slot
-abbrev pub checkOver : List ℕ → (ℕ → List ℕ) → (ℕ → Row) → ℕ → List ℕ → Checked
-checkOver yard images rows begin report =
+abbrev pub checkOver : (wide : Bool) → List ℕ → (ℕ → List ℕ) → (ℕ → Row) → ℕ → List ℕ → Checked
+checkOver wide yard images rows begin report =
     let slots = slotCount yard in
-    check (answerOf rows slots begin) (yardAfter yard images slots) (reportAfter rows report slots)
+    check (answerOf rows slots begin) (yardAfter yard images slots) (reportAfter wide rows report slots)
 
 -- from the visits
 abbrev pub checkDone : List ℕ → List ℕ → CheckArgs → List ℕ → Checked
-checkDone yard occ a report = checkOver yard (slotImage yard occ a) (slotRow yard occ a) (a .begin) report
+checkDone yard occ a report = checkOver (wideRows (a .widths) yard) yard (slotImage yard occ a) (slotRow yard occ a) (a .begin) report
 
 -- by the number of the refusal f, which leaves the yard and the report
 abbrev pub checkedBy : ℕ → Refusal → Checked → List ℕ → List ℕ → Checked
@@ -259,7 +314,14 @@ checkedWith yard occ a report =
     let done = checkDone yard occ a report in
     checkedBy (f .number) f done yard report
 
--- the yard, the occupancy, the blocking list, the moved train, begin, local, the round limit, the report
+-- the widths, the yard, the occupancy, the blocking list, the moved train, begin, local, the round limit, the report
+abbrev pub checkedIn : Widths → List ℕ → List ℕ → List ℕ → ℕ → ℕ → Bool → ℕ → List ℕ → Checked
+checkedIn w yard occ blocking moved begin local limit report =
+    checkedWith yard occ (record { widths = w; blocking = blocking; moved = moved; begin = begin; local = local; limit = limit }) report
+
+-- over an occupancy of u16 entries (document 01), and over one of u32 entries (document 02, Q-6)
 abbrev pub checked : List ℕ → List ℕ → List ℕ → ℕ → ℕ → Bool → ℕ → List ℕ → Checked
-checked yard occ blocking moved begin local limit report =
-    checkedWith yard occ (record { blocking = blocking; moved = moved; begin = begin; local = local; limit = limit }) report
+checked yard occ blocking moved begin local limit report = checkedIn Narrow yard occ blocking moved begin local limit report
+
+abbrev pub checkedWide : List ℕ → List ℕ → List ℕ → ℕ → ℕ → Bool → ℕ → List ℕ → Checked
+checkedWide yard occ blocking moved begin local limit report = checkedIn Either yard occ blocking moved begin local limit report

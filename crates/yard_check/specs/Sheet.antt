@@ -52,7 +52,7 @@ reportSlots yard = cond (yardFits yard) (slotCount yard) 0
 -- the check of a bundle's yard
 unfoldable pub checkedBundle : List ℕ → Checked
 checkedBundle b =
-    checked (bundleYard b) (bundleOccupancy b) (bundleBlocking b) (leAt 2 b 24) (leAt 2 b 26) (eqb (leAt 2 b 30) 1) (leAt 2 b 28) (replicate (rowSize * reportSlots (bundleYard b)) 0)
+    checked (bundleYard b) (bundleOccupancy b) (bundleBlocking b) (leAt 2 b 24) (leAt 2 b 26) (eqb (leAt 2 b 30) 1) (leAt 2 b 28) (replicate (rowSize false * reportSlots (bundleYard b)) 0)
 
 -- ---- the sheet
 
@@ -92,7 +92,7 @@ slotLine t r free = decimal t ++ (32 ∷ (codeWord (r .code) ++ rowColumns r fre
 -- of slots 1 to n, from the yard and the report that are left
 unfoldable pub slotLines : List ℕ → List ℕ → ℕ → ℕ → List ℕ
 slotLines yard report links zero = []
-slotLines yard report links (suc n) = slotLines yard report links n ++ slotLine (suc n) (rowAt report (suc n)) (freeColumn (partOf yard (suc n)) links)
+slotLines yard report links (suc n) = slotLines yard report links n ++ slotLine (suc n) (rowAt false report (suc n)) (freeColumn (partOf yard (suc n)) links)
 
 abbrev pub firstLine : Answer → ℕ → List ℕ
 firstLine (Refused r) slots = refusedLine (r .number)

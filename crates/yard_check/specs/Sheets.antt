@@ -1,6 +1,7 @@
 -- The room that the code of the sheet lends for the parts of a bundle. Assumes nothing.
 use Prim.Native.Nat.{ℕ, _+_, _*_}
 use mathlib.Core.Path.{_≡_}
+use mathlib.Core.Bool.{false}
 use mathlib.Core.List.{List}
 use lib.ListN.{length, replicate}
 use Rattle.yard_check.specs.Check.{rowSize}
@@ -11,4 +12,4 @@ pub record Lent (b occ blocking yard report : List ℕ) : Type 0 where
   pub occupancy : length occ ≡ occupancyCount b
   pub blocking-links : length blocking ≡ blockingCount b
   pub yard-end : yardOffset b + length yard ≡ length b
-  pub blank : report ≡ replicate (rowSize * reportSlots (bundleYard b)) 0
+  pub blank : report ≡ replicate (rowSize false * reportSlots (bundleYard b)) 0

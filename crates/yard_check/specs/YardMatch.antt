@@ -1,5 +1,6 @@
 -- Matching (document 01) of yards, and of reports and answers of a check: p renumbers links, q trains, and slots with them. Assumes nothing.
 use mathlib.Core.Path.{_≡_}
+use mathlib.Core.Bool.{Bool}
 use mathlib.Core.List.{List, map}
 use Prim.Native.Nat.{ℕ, _≤_}
 use lib.ListN.{length}
@@ -22,10 +23,10 @@ pub record YardsMatch (p q : ℕ → ℕ) (yard yard′ : List ℕ) : Type 0 whe
 abbrev pub rRow : (ℕ → ℕ) → Row → Row
 rRow q r = record { code = r .code; place = r .place; rounds = r .rounds; holder = q (r .holder); strays = r .strays; faults = r .faults; met = q (r .met) }
 
--- the renumbered slot's record
-pub record ReportsMatch (q : ℕ → ℕ) (slots : ℕ) (report report′ : List ℕ) : Type 0 where
+-- the renumbered slot's record; wide says of which size the records are
+pub record ReportsMatch (q : ℕ → ℕ) (wide : Bool) (slots : ℕ) (report report′ : List ℕ) : Type 0 where
   pub long : length report′ ≡ length report
-  pub rows : (t : ℕ) → 1 ≤ t → t ≤ slots → rowAt report′ (q t) ≡ rRow q (rowAt report t)
+  pub rows : (t : ℕ) → 1 ≤ t → t ≤ slots → rowAt wide report′ (q t) ≡ rRow q (rowAt wide report t)
 
 -- the same refusal in both; Erred in both with the same number; or neither, with the same deadlock flag. The next begin is not compared
 abbrev pub AnswersMatch : Answer → Answer → Type 0
@@ -47,6 +48,7 @@ NotRefused R (Done d b) = R
 
 -- what a check is given: the moved train is renumbered, and so are the blocking links, in any order with repeats kept; the other numbers are the same
 pub record ArgsMatch (p q : ℕ → ℕ) (a a′ : CheckArgs) : Type 0 where
+  pub widths : a′ .widths ≡ a .widths
   pub blocking : Perm ℕ (map p (a .blocking)) (a′ .blocking)
   pub moved : a′ .moved ≡ q (a .moved)
   pub begin : a′ .begin ≡ a .begin

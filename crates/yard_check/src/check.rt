@@ -1,9 +1,11 @@
 // check_deadlock (document 01, Check; dispatch.rs 45-91): the refusals, the visits to the slots, the report, the answer.
-// A slot is worked by update_free_path alone, of which only the promise is used.
+// A slot is worked by update_free_path alone, of which only the promise is used. One loop over the slots serves the check over u16 entries, which takes
+// narrow images, and the one over u32 entries, which takes both widths (document 02, Q-6).
 use crate::yard;
 use free_path::columns;
 use image::codec;
 use image_fault;
+use image_fault::Widths;
 use image_reader;
 use link_rules::link_idx::NarrowTrainIdx;
 use link_rules::link_idx::TrainIdx;
@@ -14,16 +16,21 @@ use update_free_path;
 use update_free_path::answer::Status;
 use update_free_path::answer::Updated;
 use update_free_path::call;
+use wide_occupancy::trains;
 ghost use mathlib.Core.Path.{_≡_};
-ghost use mathlib.Core.Bool.{cond, not, _&&_};
+ghost use mathlib.Core.Bool.{true, false, cond, not, _&&_};
 ghost use mathlib.Core.List.{List, []};
-ghost use Prim.Native.Nat.{ℕ, _+_, _≤_, _<_};
+ghost use Prim.Native.Nat.{ℕ, _+_, _*_, _≤_, _<_};
 ghost use lib.Dec.{eqb};
 ghost use lib.ListN.{length};
-ghost use Rattle.image_fault.specs.ImageFault.{imageFault};
-ghost use Rattle.link_rules.specs.Refusals.{orElse};
-ghost use Rattle.update_definition.specs.UpdateImage.{callFault};
+ghost use Rattle.image.specs.Image.{isWide, largestOf};
+ghost use Rattle.image_fault.specs.ImageFault.{faultWith};
+ghost use Rattle.image_fault.specs.declared.Widths.{Widths};
+ghost use Rattle.image_fault.specs.declared.Widths.the-variants.{Narrow, Either};
+ghost use Rattle.link_rules.specs.Refusals.{noRefusal, orElse};
+ghost use Rattle.update_definition.specs.UpdateImage.{callFault, givenFault, updatedImageIn};
 ghost use Rattle.update_free_path.specs.Updates as Updates;
+ghost use Rattle.yard_check.specs.Yard.{slotCount, partOf};
 ghost use Rattle.yard_check.specs.Check as Check;
 ghost use Rattle.yard_check.specs.Checks.{argsOf, rowOf, answeredOf, checkedOf, staysRow, ColumnsFit, talliedOf, tallyAfter, NextTurn, Visits, SlotVisited, AllVisited};
 
@@ -59,7 +66,54 @@ pub(crate) struct Counts {
     pub next: u16,
 }
 
-// ---- refusals 2, 4, 5, 14, 15 and 16, in this order
+// ---- the widths of the images of a yard (document 02, Q-6)
+
+fn one_if(b: bool) -> u32
+    ensures { λ r. ⌜ r ≡ cond b 1 0 ⌝ }
+{
+    if b { 1 } else { 0 }
+}
+
+// How many of the images of slots 1 to n are wide.
+fn wide_count(yard: &[u8], n: u32) -> u32
+    ensures { λ r. ⌜ r ≡ Check.howMany (λ t. isWide (partOf (now (yard .entry)) t)) n ⌝ }
+{
+    let mut k: u32 = 0;
+    let mut i: u32 = 0;
+    while i < n {
+        k += one_if(codec::is_wide(yard::part(yard, TrainIdx(i + 1))));
+        i += 1;
+    }
+    k
+}
+
+// Whether the records of the report are wide.
+pub(crate) fn wide_rows(yard: &[u8], w: Widths) -> bool
+    ensures { λ r. ⌜ r ≡ Check.wideRows w (now (yard .entry)) ⌝ }
+{
+    match w {
+        Widths::Narrow => false,
+        Widths::Either => wide_count(yard, yard::slot_count(yard)) != 0,
+    }
+}
+
+fn largest_of(wide: bool) -> u32
+    ensures { λ r. ⌜ r ≡ largestOf wide ⌝ }
+{
+    if wide { 999999 } else { 65535 }
+}
+
+// The bytes of n records.
+fn rows_length(wide: bool, n: u32) -> usize
+    ensures { λ r. ⌜ r ≡ Check.rowSize wide * n ⌝ }
+{
+    if wide {
+        return 24 * (n as usize);
+    }
+    20 * (n as usize)
+}
+
+// ---- refusals 2, 4, 5, 14, 22, 15 and 16, in this order
 
 fn fault(number: u16) -> Refusal
     ensures { λ r. ⌜ r ≡ record { number = number; place = 0 } ⌝ }
@@ -72,7 +126,7 @@ fn fault(number: u16) -> Refusal
 
 // 15
 fn slots_fault(slots: u32, a: Args) -> Refusal
-    ensures { λ r. ⌜ r ≡ Check.slotsFault slots (argsOf [] a) ⌝ }
+    ensures { λ r. ⌜ ((w : Widths) → r ≡ Check.slotsFault slots (argsOf w [] a)) ⌝ }
 {
     if slots < a.moved.0 {
         return fault(15);
@@ -87,34 +141,60 @@ fn slots_fault(slots: u32, a: Args) -> Refusal
 }
 
 // 16; long is the length of the report.
-fn report_fault(slots: u32, long: usize) -> Refusal
-    ensures { λ r. ⌜ r ≡ Check.reportFault slots long ⌝ }
+fn report_fault(wide: bool, slots: u32, long: usize) -> Refusal
+    ensures { λ r. ⌜ r ≡ Check.reportFault wide slots long ⌝ }
 {
-    if long != 20 * (slots as usize) {
+    if long != rows_length(wide, slots) {
         return fault(16);
     }
     fault(0)
 }
 
 // 15, 16.
-fn slots_or_report_fault(slots: u32, a: Args, long: usize) -> Refusal
-    ensures { λ r. ⌜ r ≡ orElse (Check.slotsFault slots (argsOf [] a)) (Check.reportFault slots long) ⌝ }
+fn slots_or_report_fault(wide: bool, slots: u32, a: Args, long: usize) -> Refusal
+    ensures { λ r. ⌜ ((w : Widths) → r ≡ orElse (Check.slotsFault slots (argsOf w [] a)) (Check.reportFault wide slots long)) ⌝ }
 {
     let s = slots_fault(slots, a);
-    let f = report_fault(slots, long);
+    let f = report_fault(wide, slots, long);
     refusal::or_else(s, f)
 }
 
-// The refusal of a check, number 0 where there is none. Of the occupancy only the length is asked; long is the length of the report.
+// 22, 15, 16 of a yard past 14, over u32 entries. Its images are counted once.
+fn held_or_late_fault(yard: &[u8], occ: &[u32], a: Args, long: usize) -> Refusal
+    ensures { λ r. ⌜ r ≡ orElse (Check.heldFault Either (now (yard .entry)) (now (occ .entry)))
+        (orElse (Check.slotsFault (slotCount (now (yard .entry))) (argsOf Either [] a)) (Check.reportFault (Check.wideRows Either (now (yard .entry))) (slotCount (now (yard .entry))) long)) ⌝ }
+{
+    let slots = yard::slot_count(yard);
+    let wide = wide_count(yard, slots);
+    let held = trains::large_train_fault(occ, TrainIdx(0), largest_of(wide == slots));
+    let late = slots_or_report_fault(wide != 0, slots, a, long);
+    refusal::or_else(held, late)
+}
+
+// The refusal of a check over u16 entries, number 0 where there is none. Of the occupancy only the length is asked; long is the length of the report.
 pub fn check_fault(yard: &[u8], l: usize, blocking: &[u32], a: Args, long: usize) -> Refusal
-    ensures { λ r. ⌜ ((occ : List ℕ) → length occ ≡ l → r ≡ Check.checkFault (now (yard .entry)) occ (argsOf (now (blocking .entry)) a) long) ⌝ }
+    ensures { λ r. ⌜ ((occ : List ℕ) → length occ ≡ l → r ≡ Check.checkFault (now (yard .entry)) occ (argsOf Narrow (now (blocking .entry)) a) long) ⌝ }
 {
     let f = call::call_fault(l, blocking, a.moved, a.limit);
     if f.number != 0 {
         return f;
     }
     if yard::yard_fits(yard) {
-        return slots_or_report_fault(yard::slot_count(yard), a, long);
+        return slots_or_report_fault(false, yard::slot_count(yard), a, long);
+    }
+    fault(14)
+}
+
+// The refusal of a check over u32 entries.
+pub fn check_wide_fault(yard: &[u8], occ: &[u32], blocking: &[u32], a: Args, long: usize) -> Refusal
+    ensures { λ r. ⌜ r ≡ Check.checkFault (now (yard .entry)) (now (occ .entry)) (argsOf Either (now (blocking .entry)) a) long ⌝ }
+{
+    let f = call::call_fault(occ.len(), blocking, a.moved, a.limit);
+    if f.number != 0 {
+        return f;
+    }
+    if yard::yard_fits(yard) {
+        return held_or_late_fault(yard, occ, a, long);
     }
     fault(14)
 }
@@ -136,7 +216,7 @@ fn plain_row(code: u16) -> Row
 }
 
 fn refused_row(f: Refusal, rounds: u16, strays: u32) -> Row
-    requires { ⌜ f .number ≤ 13 ⌝ }
+    requires { ⌜ f .number ≤ 22 ⌝ }
     ensures { λ r. ⌜ rowOf r ≡ Check.refusedRow f rounds strays ⌝ }
 {
     Row {
@@ -181,9 +261,9 @@ fn updated_row(u: Updated) -> Row
 }
 
 // Of a holder above 65,535 the low 16 bits are written.
-fn put_row(report: &mut [u8], at: usize, r: Row)
-    requires { ⌜ at ≤ 1240 ⌝ }
-    ensures { λ _. ⌜ now (report .exit) ≡ Check.putRow (rowOf r) at (now (report .entry)) ⌝ }
+fn put_narrow_row(report: &mut [u8], at: usize, r: Row)
+    requires { ⌜ at ≤ 1488 ⌝ }
+    ensures { λ _. ⌜ now (report .exit) ≡ Check.putRow false (rowOf r) at (now (report .entry)) ⌝ }
 {
     octets::put_u16(report, at, r.code);
     octets::put_u16(report, at + 2, r.place);
@@ -192,6 +272,31 @@ fn put_row(report: &mut [u8], at: usize, r: Row)
     octets::put_u32(report, at + 8, r.strays);
     octets::put_u32(report, at + 12, r.faults);
     octets::put_u32(report, at + 16, r.met.0);
+}
+
+fn put_wide_row(report: &mut [u8], at: usize, r: Row)
+    requires { ⌜ at ≤ 1488 ⌝ }
+    ensures { λ _. ⌜ now (report .exit) ≡ Check.putRow true (rowOf r) at (now (report .entry)) ⌝ }
+{
+    octets::put_u16(report, at, r.code);
+    octets::put_u16(report, at + 2, r.place);
+    octets::put_u16(report, at + 4, r.rounds);
+    octets::put_u16(report, at + 6, 0);
+    octets::put_u32(report, at + 8, r.strays);
+    octets::put_u32(report, at + 12, r.faults);
+    octets::put_u32(report, at + 16, r.holder.0);
+    octets::put_u32(report, at + 20, r.met.0);
+}
+
+fn put_row(report: &mut [u8], wide: bool, at: usize, r: Row)
+    requires { ⌜ at ≤ 1488 ⌝ }
+    ensures { λ _. ⌜ now (report .exit) ≡ Check.putRow wide (rowOf r) at (now (report .entry)) ⌝ }
+{
+    if wide {
+        put_wide_row(report, at, r);
+        return;
+    }
+    put_narrow_row(report, at, r);
 }
 
 // ---- the visit to a slot (dispatch.rs 61-81)
@@ -203,53 +308,71 @@ fn is_finished(img: &[u8]) -> bool
     image_reader::free_of(img) as u32 == codec::path_count(img)
 }
 
-// The row of a slot that is not updated: refused by 6 to 9, else this code.
-fn stays_row(img: &[u8], occ: &[u32], code: u16) -> Row
-    requires { ⌜ length (now occ) ≤ 4000 ⌝ }
-    ensures { λ r. ⌜ rowOf r ≡ staysRow (imageFault (now (img .entry)) (length (now (occ .entry))) .number) (imageFault (now (img .entry)) (length (now (occ .entry)))) code ⌝ }
+// The row of a slot that is not updated: refused by 6 to 9 or 22, else this code.
+fn stays_row(img: &[u8], w: Widths, links: usize, code: u16) -> Row
+    requires { ⌜ links ≤ 4000 ⌝ }
+    ensures { λ r. ⌜ rowOf r ≡ staysRow (faultWith w noRefusal (now (img .entry)) links .number) (faultWith w noRefusal (now (img .entry)) links) code ⌝ }
 {
-    let f = image_fault::image_fault(img, occ.len() as u32);
+    let f = image_fault::fault_with(img, links as u32, w, fault(0));
     if f.number != 0 {
         return refused_row(f, 0, 0);
     }
     plain_row(code)
 }
 
+// The update of an image of one of these widths.
+fn update_in(img: &mut [u8], w: Widths, occ: &[u32], blocking: &[u32], a: Args) -> Updated
+    ensures { λ r. ⌜ Updates.updatedOf r (now (img .exit)) ≡ updatedImageIn w (now (img .entry)) (now (occ .entry)) (now (blocking .entry)) (a .moved .0) (a .local) (a .limit) ⌝ }
+{
+    match w {
+        Widths::Narrow => update_free_path::update_over(
+            img,
+            occ,
+            blocking,
+            a.moved,
+            a.local,
+            a.limit,
+        ),
+        Widths::Either => update_free_path::update_wide(
+            img,
+            occ,
+            blocking,
+            a.moved,
+            a.local,
+            a.limit,
+        ),
+    }
+}
+
 // Of slot t, img being its part of the yard. Finished and moved are asked before the update.
-fn visit(img: &mut [u8], occ: &[u32], blocking: &[u32], a: Args, t: u16) -> Row
-    requires { ⌜ callFault (now occ) (now blocking) (a .moved .0) (a .limit) .number ≡ 0 ⌝ }
-    ensures { λ r. ⌜ Check.visit (rowOf r) (now (img .exit)) ≡ Check.visited (now (occ .entry)) (argsOf (now (blocking .entry)) a) t (now (img .entry)) ⌝ }
+fn visit(img: &mut [u8], w: Widths, occ: &[u32], blocking: &[u32], a: Args, t: u16) -> Row
+    requires { ⌜ (callFault (now occ) (now blocking) (a .moved .0) (a .limit) .number ≡ 0) × (givenFault w (now img) (now occ) (a .moved .0) ≡ noRefusal) ⌝ }
+    ensures { λ r. ⌜ Check.visit (rowOf r) (now (img .exit)) ≡ Check.visited (now (occ .entry)) (argsOf w (now (blocking .entry)) a) t (now (img .entry)) ⌝ }
 {
     if is_finished(img) {
-        return stays_row(img, occ, 1);
+        return stays_row(img, w, occ.len(), 1);
     }
     if t as u32 == a.moved.0 {
-        return stays_row(img, occ, 2);
+        return stays_row(img, w, occ.len(), 2);
     }
-    let u = update_free_path::update_over(img, occ, blocking, a.moved, a.local, a.limit);
+    let u = update_in(img, w, occ, blocking, a);
     updated_row(u)
 }
 
 // The slot's own part of the yard is lent to the visit. Slots below begin are not visited.
-fn slot_visit(yard: &mut [u8], occ: &[u32], blocking: &[u32], a: Args, t: u16) -> Row
-    requires { ⌜ Visits (now yard) (now occ) (argsOf (now blocking) a) t ⌝ }
-    ensures { λ r. ⌜ SlotVisited (now (yard .entry)) (now (occ .entry)) (argsOf (now (blocking .entry)) a) t r (now (yard .exit)) ⌝ }
+fn slot_visit(yard: &mut [u8], w: Widths, occ: &[u32], blocking: &[u32], a: Args, t: u16) -> Row
+    requires { ⌜ Visits (now yard) (now occ) (argsOf w (now blocking) a) t ⌝ }
+    ensures { λ r. ⌜ SlotVisited (now (yard .entry)) (now (occ .entry)) (argsOf w (now (blocking .entry)) a) t r (now (yard .exit)) ⌝ }
 {
     if t < a.begin {
         return plain_row(0);
     }
     let from = yard::part_from(yard, t as u32);
     let until = yard::part_until(yard, t as u32);
-    visit(&mut yard[from..until], occ, blocking, a, t)
+    visit(&mut yard[from..until], w, occ, blocking, a, t)
 }
 
 // ---- all slots
-
-fn one_if(b: bool) -> u32
-    ensures { λ r. ⌜ r ≡ cond b 1 0 ⌝ }
-{
-    if b { 1 } else { 0 }
-}
 
 // It moves on where it stands at a finished slot (78-80).
 fn next_begin(next: u16, finished: bool, t: u16) -> u16
@@ -276,11 +399,19 @@ fn tallied(y: Counts, r: Row, t: u16) -> Counts
 }
 
 // Every slot, after a blocked, faulty or refused one too.
-fn visits(yard: &mut [u8], occ: &[u32], blocking: &[u32], a: Args, report: &mut [u8]) -> Counts
-    requires { ⌜ Check.checkFault (now yard) (now occ) (argsOf (now blocking) a) (length (now report)) .number ≡ 0 ⌝ }
-    ensures { λ x. ⌜ AllVisited (now (yard .entry)) (now (occ .entry)) (argsOf (now (blocking .entry)) a) (now (report .entry)) x (now (yard .exit)) (now (report .exit)) ⌝ }
+fn visits(
+    yard: &mut [u8],
+    w: Widths,
+    occ: &[u32],
+    blocking: &[u32],
+    a: Args,
+    report: &mut [u8],
+) -> Counts
+    requires { ⌜ Check.checkFault (now yard) (now occ) (argsOf w (now blocking) a) (length (now report)) .number ≡ 0 ⌝ }
+    ensures { λ x. ⌜ AllVisited (now (yard .entry)) (now (occ .entry)) (argsOf w (now (blocking .entry)) a) (now (report .entry)) x (now (yard .exit)) (now (report .exit)) ⌝ }
 {
     let slots = yard::slot_count(yard) as u16;
+    let wide = wide_rows(yard, w);
     let mut y = Counts {
         erred: 0,
         blocked: 0,
@@ -288,15 +419,15 @@ fn visits(yard: &mut [u8], occ: &[u32], blocking: &[u32], a: Args, report: &mut 
     };
     let mut n: u16 = 0;
     while n < slots {
-        let r = slot_visit(yard, occ, blocking, a, n + 1);
-        put_row(report, 20 * (n as usize), r);
+        let r = slot_visit(yard, w, occ, blocking, a, n + 1);
+        put_row(report, wide, rows_length(wide, n as u32), r);
         y = tallied(y, r, n + 1);
         n += 1;
     }
     y
 }
 
-// The occupancy is widened once for all slots, into room of its length.
+// Of a check over u16 entries: the occupancy is widened once for all slots, into room of its length.
 fn visits_widened(
     yard: &mut [u8],
     occ: &[u16],
@@ -305,11 +436,11 @@ fn visits_widened(
     a: Args,
     report: &mut [u8],
 ) -> Counts
-    requires { ⌜ (Check.checkFault (now yard) (now occ) (argsOf (now blocking) a) (length (now report)) .number ≡ 0) × (length (now wide) ≡ length (now occ)) ⌝ }
-    ensures { λ x. ⌜ AllVisited (now (yard .entry)) (now (occ .entry)) (argsOf (now (blocking .entry)) a) (now (report .entry)) x (now (yard .exit)) (now (report .exit)) ⌝ }
+    requires { ⌜ (Check.checkFault (now yard) (now occ) (argsOf Narrow (now blocking) a) (length (now report)) .number ≡ 0) × (length (now wide) ≡ length (now occ)) ⌝ }
+    ensures { λ x. ⌜ AllVisited (now (yard .entry)) (now (occ .entry)) (argsOf Narrow (now (blocking .entry)) a) (now (report .entry)) x (now (yard .exit)) (now (report .exit)) ⌝ }
 {
     columns::widen(occ, wide);
-    visits(yard, wide, blocking, a, report)
+    visits(yard, Widths::Narrow, wide, blocking, a, report)
 }
 
 // Room for at most 512 links.
@@ -320,8 +451,8 @@ fn visits_small(
     a: Args,
     report: &mut [u8],
 ) -> Counts
-    requires { ⌜ (Check.checkFault (now yard) (now occ) (argsOf (now blocking) a) (length (now report)) .number ≡ 0) × (length (now occ) ≤ 512) ⌝ }
-    ensures { λ x. ⌜ AllVisited (now (yard .entry)) (now (occ .entry)) (argsOf (now (blocking .entry)) a) (now (report .entry)) x (now (yard .exit)) (now (report .exit)) ⌝ }
+    requires { ⌜ (Check.checkFault (now yard) (now occ) (argsOf Narrow (now blocking) a) (length (now report)) .number ≡ 0) × (length (now occ) ≤ 512) ⌝ }
+    ensures { λ x. ⌜ AllVisited (now (yard .entry)) (now (occ .entry)) (argsOf Narrow (now (blocking .entry)) a) (now (report .entry)) x (now (yard .exit)) (now (report .exit)) ⌝ }
 {
     let mut wide = [0u32; 512];
     let n = occ.len();
@@ -335,8 +466,8 @@ fn visits_large(
     a: Args,
     report: &mut [u8],
 ) -> Counts
-    requires { ⌜ Check.checkFault (now yard) (now occ) (argsOf (now blocking) a) (length (now report)) .number ≡ 0 ⌝ }
-    ensures { λ x. ⌜ AllVisited (now (yard .entry)) (now (occ .entry)) (argsOf (now (blocking .entry)) a) (now (report .entry)) x (now (yard .exit)) (now (report .exit)) ⌝ }
+    requires { ⌜ Check.checkFault (now yard) (now occ) (argsOf Narrow (now blocking) a) (length (now report)) .number ≡ 0 ⌝ }
+    ensures { λ x. ⌜ AllVisited (now (yard .entry)) (now (occ .entry)) (argsOf Narrow (now (blocking .entry)) a) (now (report .entry)) x (now (yard .exit)) (now (report .exit)) ⌝ }
 {
     let mut wide = [0u32; 4000];
     let n = occ.len();
@@ -357,7 +488,7 @@ fn answered(y: Counts) -> Answer
     }
 }
 
-// Visits every slot from begin on. Refused by 2, 4, 5, 14, 15 and 16: then nothing is changed.
+// Visits every slot from begin on, over u16 entries. Refused by 2, 4, 5, 14, 15 and 16: then nothing is changed.
 pub fn check_deadlock(
     yard: &mut [u8],
     occ: &[u16],
@@ -384,4 +515,30 @@ pub fn check_deadlock(
         return answered(visits_large(yard, occ, blocking, a, report));
     }
     answered(visits_small(yard, occ, blocking, a, report))
+}
+
+// The check over u32 entries, of images of either width (document 02, Q-6). Refused by 2, 4, 5, 14, 22, 15 and 16: then nothing is changed.
+pub fn check_wide(
+    yard: &mut [u8],
+    occ: &[u32],
+    blocking: &[u32],
+    moved: TrainIdx,
+    begin: u16,
+    local: bool,
+    limit: u16,
+    report: &mut [u8],
+) -> Answer
+    ensures { λ x. ⌜ checkedOf x (now (yard .exit)) (now (report .exit)) ≡ Check.checkedWide (now (yard .entry)) (now (occ .entry)) (now (blocking .entry)) (moved .0) begin local limit (now (report .entry)) ⌝ }
+{
+    let a = Args {
+        moved: moved,
+        begin: begin,
+        local: local,
+        limit: limit,
+    };
+    let f = check_wide_fault(yard, occ, blocking, a, report.len());
+    if f.number != 0 {
+        return Answer::Refused(f);
+    }
+    answered(visits(yard, Widths::Either, occ, blocking, a, report))
 }

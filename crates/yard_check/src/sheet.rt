@@ -9,7 +9,7 @@ use link_rules::octets;
 use text;
 ghost use mathlib.Core.Path.{_≡_};
 ghost use Prim.Native.Nat.{_+_, _*_, _-_, _≤_};
-ghost use mathlib.Core.Bool.{true};
+ghost use mathlib.Core.Bool.{true, false};
 ghost use lib.ListN.{length, replicate};
 ghost use Rattle.yard_check.specs.Check.{rowSize, rowFrom, Erred, Done};
 ghost use Rattle.yard_check.specs.Yard.{slotCount};
@@ -76,7 +76,7 @@ fn free_column(image: &[u8], links: u32) -> u16
 // The columns behind the code word: rounds, holder, strays, faults of the report's row, free, and met of that row.
 fn put_columns(text: &mut [u8], count: usize, report: &[u8], at: usize, free: u16) -> usize
     requires { ⌜ at ≤ 1310700 ⌝ }
-    ensures { λ r. ⌜ Put (rowColumns (rowFrom (now (report .entry)) at) free) (textOf count (now (text .entry))) (textOf r (now (text .exit))) ⌝ }
+    ensures { λ r. ⌜ Put (rowColumns (rowFrom false (now (report .entry)) at) free) (textOf count (now (text .entry))) (textOf r (now (text .exit))) ⌝ }
 {
     let a = text::put_column(text, count, octets::u16_at(report, at + 4) as u32);
     let b = text::put_column(text, a, octets::u16_at(report, at + 6) as u32);
@@ -89,7 +89,7 @@ fn put_columns(text: &mut [u8], count: usize, report: &[u8], at: usize, free: u1
 
 // The line of slot i + 1.
 fn put_slot_line(text: &mut [u8], count: usize, i: u16, report: &[u8], free: u16) -> usize
-    ensures { λ r. ⌜ Put (slotLine (i + 1) (rowFrom (now (report .entry)) (rowSize * i)) free) (textOf count (now (text .entry))) (textOf r (now (text .exit))) ⌝ }
+    ensures { λ r. ⌜ Put (slotLine (i + 1) (rowFrom false (now (report .entry)) (rowSize false * i)) free) (textOf count (now (text .entry))) (textOf r (now (text .exit))) ⌝ }
 {
     let at = 20 * (i as usize);
     let a = text::put_decimal(text, count, (i as u32) + 1);

@@ -1,3 +1,4 @@
+use mathlib.Core.Bool.{false}
 use mathlib.Core.Path.{sym, ap, _∙_}
 use Prim.Native.Nat.{ℕ, _*_, _-_}
 use native.Mathlib.Omega.{arith}
@@ -54,7 +55,7 @@ returns-2 c =
     let b = now (c .before .before .before .before .before .args .bundle) in
     let at = c .before .before .before .u32-at .result in
     let e = report-from b at (c .before .before .before .u32-at .ensures) in
-    (ap (λ (n : ℕ). rowSize * n) (c .report-slots .ensures ∙ e), omega (arith, c .report-slots .ensures, report-few (take (length b - at) (drop at b))))
+    (ap (λ (n : ℕ). rowSize false * n) (c .report-slots .ensures ∙ e), omega (arith, c .report-slots .ensures, report-few (take (length b - at) (drop at b))))
 
 pub report-length-spec : {M : Type 1} → statement M
 report-length-spec =

@@ -1,3 +1,4 @@
+use mathlib.Core.Bool.{false}
 use mathlib.Core.Path.{ap}
 use Prim.Native.Nat.{ℕ, _*_}
 use native.Mathlib.Omega.{arith}
@@ -22,7 +23,7 @@ mul-result c = search needs
 
 -- src/lib.rt:292:1
 returns : tie.Need-returns
-returns c = (ap (λ (n : ℕ). rowSize * n) (c .report-slots .ensures), omega (arith, c .report-slots .ensures, report-few (now (c .before .before .args .yard))))
+returns c = (ap (λ (n : ℕ). rowSize false * n) (c .report-slots .ensures), omega (arith, c .report-slots .ensures, report-few (now (c .before .before .args .yard))))
 
 pub report-length-spec : {M : Type 1} → statement M
 report-length-spec = tie.close (tie.spec report-slots-requires cast-result mul-result returns)

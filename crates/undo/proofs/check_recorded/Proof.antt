@@ -2,6 +2,7 @@ use mathlib.Core.Path.{refl, sym, ap, _∙_}
 use native.Mathlib.Omega.{arith}
 use denote.Ref.{now}
 use Rattle.link_rules.specs.declared.refusal.Refusal.{Refusal}
+use Rattle.image_fault.specs.declared.Widths.the-variants.{Narrow}
 use Rattle.yard_check.specs.Check.{CheckArgs}
 use Rattle.undo.proofs.UndoLaws.{recorded-refused, recorded-room, copied-around}
 use borrow.Author.Needs.{needs}
@@ -20,14 +21,14 @@ same-length c = search needs
 returns : tie.Need-returns
 returns c =
     let a = c .before .before .before .before .before .before .before .before .before .before .args in
-    let A : CheckArgs = record { blocking = now (a .blocking); moved = a .moved .0; begin = a .begin; local = a .local; limit = a .limit } in
+    let A : CheckArgs = record { widths = Narrow; blocking = now (a .blocking); moved = a .moved .0; begin = a .begin; local = a .local; limit = a .limit } in
     let f = c .before .before .recorded-fault in
     recorded-refused (now (a .yard)) (now (a .occ)) A (now (a .report)) (now (a .undo-record)) (f .result) (f .ensures (now (a .occ)) refl) (c .if1 .taken)
 
 put-old-requires : tie.Need-put-old-requires
 put-old-requires c κs =
     let a = c .before .before .before .before .before .before .before .before .before .before .before .before .args in
-    let A : CheckArgs = record { blocking = now (a .blocking); moved = a .moved .0; begin = a .begin; local = a .local; limit = a .limit } in
+    let A : CheckArgs = record { widths = Narrow; blocking = now (a .blocking); moved = a .moved .0; begin = a .begin; local = a .local; limit = a .limit } in
     recorded-room (now (a .yard)) (now (a .occ)) A (now (a .report)) (now (a .undo-record)) (ap (λ (x : Refusal). x .number) (sym (c .before .before .before .before .recorded-fault .ensures (now (a .occ)) refl)) ∙ c .before .before .if1 .left)
 
 check-deadlock-requires : tie.Need-check-deadlock-requires
@@ -36,7 +37,7 @@ check-deadlock-requires c κs = search needs
 put-written-requires : tie.Need-put-written-requires
 put-written-requires c κs =
     let a = c .before .before .before .before .before .before .before .before .before .before .before .before .before .before .before .before .before .before .before .before .before .before .before .before .args in
-    let A : CheckArgs = record { blocking = now (a .blocking); moved = a .moved .0; begin = a .begin; local = a .local; limit = a .limit } in
+    let A : CheckArgs = record { widths = Narrow; blocking = now (a .blocking); moved = a .moved .0; begin = a .begin; local = a .local; limit = a .limit } in
     let k = recorded-room (now (a .yard)) (now (a .occ)) A (now (a .report)) (now (a .undo-record)) (ap (λ (x : Refusal). x .number) (sym (c .before .before .before .before .before .before .before .before .before .before .before .before .before .before .before .before .recorded-fault .ensures (now (a .occ)) refl)) ∙ c .before .before .before .before .before .before .before .before .before .before .before .before .before .before .if1 .left) in
     omega (arith, k .0, c .before .before .before .before .before .before .check-deadlock .kept .0, c .before .before .before .before .before .before .before .before .before .before .before .put-old .kept .0)
 
@@ -52,7 +53,7 @@ same-length-4 c = search needs
 returns-2 : tie.Need-returns-2
 returns-2 c =
     let a = c .before .before .before .before .before .before .before .before .before .before .before .before .before .before .before .before .before .before .before .before .before .before .before .before .before .before .before .args in
-    let A : CheckArgs = record { blocking = now (a .blocking); moved = a .moved .0; begin = a .begin; local = a .local; limit = a .limit } in
+    let A : CheckArgs = record { widths = Narrow; blocking = now (a .blocking); moved = a .moved .0; begin = a .begin; local = a .local; limit = a .limit } in
     let e = ap (λ (x : Refusal). x .number) (sym (c .before .before .before .before .before .before .before .before .before .before .before .before .before .before .before .before .before .before .before .recorded-fault .ensures (now (a .occ)) refl)) ∙ c .before .before .before .before .before .before .before .before .before .before .before .before .before .before .before .before .before .if1 .left in
     let w = c .before .before .before .before .before .before .before .before .before .check-deadlock in
     copied-around (now (a .yard)) (now (a .occ)) A (now (a .report)) (now (a .undo-record)) e (w .result) _ _ _ _ (c .before .before .before .before .before .before .before .before .before .before .before .before .before .before .put-old .ensures) (w .ensures) (c .before .before .put-written .ensures)

@@ -2,6 +2,7 @@ use mathlib.Core.Path.{refl, sym, ap, _∙_}
 use native.Mathlib.Omega.{arith}
 use denote.Ref.{now}
 use Rattle.link_rules.specs.declared.refusal.Refusal.{Refusal}
+use Rattle.image_fault.specs.declared.Widths.the-variants.{Narrow}
 use Rattle.yard_check.specs.Check.{Answer, CheckArgs, check}
 use Rattle.yard_check.proofs.TurnLaws.{visited-all, check-refused}
 use borrow.Author.Needs.{needs}
@@ -20,7 +21,7 @@ same-length c = search needs
 returns : tie.Need-returns
 returns c =
     let a = c .before .before .before .before .before .before .before .before .before .args in
-    let A : CheckArgs = record { blocking = now (a .blocking); moved = a .moved .0; begin = a .begin; local = a .local; limit = a .limit } in
+    let A : CheckArgs = record { widths = Narrow; blocking = now (a .blocking); moved = a .moved .0; begin = a .begin; local = a .local; limit = a .limit } in
     let f = c .before .before .check-fault in
     check-refused (now (a .yard)) (now (a .occ)) A (now (a .report)) (f .result) (f .ensures (now (a .occ)) refl) (c .if1 .taken)
 
@@ -41,7 +42,7 @@ same-length-3 c = search needs
 returns-2 : tie.Need-returns-2
 returns-2 c =
     let a = c .before .before .before .before .before .before .before .before .before .before .before .before .before .before .before .before .before .before .args in
-    let A : CheckArgs = record { blocking = now (a .blocking); moved = a .moved .0; begin = a .begin; local = a .local; limit = a .limit } in
+    let A : CheckArgs = record { widths = Narrow; blocking = now (a .blocking); moved = a .moved .0; begin = a .begin; local = a .local; limit = a .limit } in
     let f = c .before .before .before .before .before .before .before .before .before .before .before .check-fault .ensures (now (a .occ)) refl in
     let w = c .before .before .before .before .before .visits-large in
     ap (λ (x : Answer). check x (w .last .0) (w .last .1 .1 .1 .1 .0)) (c .answered .ensures)
@@ -64,7 +65,7 @@ same-length-5 c = search needs
 returns-3 : tie.Need-returns-3
 returns-3 c =
     let a = c .before .before .before .before .before .before .before .before .before .before .before .before .before .before .before .before .before .before .args in
-    let A : CheckArgs = record { blocking = now (a .blocking); moved = a .moved .0; begin = a .begin; local = a .local; limit = a .limit } in
+    let A : CheckArgs = record { widths = Narrow; blocking = now (a .blocking); moved = a .moved .0; begin = a .begin; local = a .local; limit = a .limit } in
     let f = c .before .before .before .before .before .before .before .before .before .before .before .check-fault .ensures (now (a .occ)) refl in
     let w = c .before .before .before .before .before .visits-small in
     ap (λ (x : Answer). check x (w .last .0) (w .last .1 .1 .1 .1 .0)) (c .answered2 .ensures)

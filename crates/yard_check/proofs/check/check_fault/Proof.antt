@@ -2,6 +2,7 @@ use mathlib.Core.Path.{_≡_, sym, _∙_}
 use mathlib.Core.Bool.{true, false}
 use denote.Ref.{now}
 use borrow.Author.Tests.{eq-eqb, ne-eqb}
+use Rattle.image_fault.specs.declared.Widths.the-variants.{Narrow}
 use Rattle.yard_check.specs.Yard.{yardFits}
 use Rattle.yard_check.specs.Check.{slotsFault, checkFault}
 use borrow.Author.Needs.{needs}
@@ -30,7 +31,7 @@ returns-2 c occ q =
     let f = c .before .before .before .before .before .before .call-fault in
     let y = now (c .before .before .before .before .before .before .before .before .before .args .yard) in
     let ok : yardFits y ≡ true = sym (c .before .before .before .yard-fits .ensures) ∙ c .before .before .if2 .taken in
-    rw (← f .ensures occ q, eq-eqb (f .result .number) 0 (c .before .before .before .before .if1 .left), ok, ← c .before .slot-count .ensures) (c .slots-or-report-fault .ensures)
+    rw (← f .ensures occ q, eq-eqb (f .result .number) 0 (c .before .before .before .before .if1 .left), ok, ← c .before .slot-count .ensures) (c .slots-or-report-fault .ensures Narrow)
 
 fault-requires : tie.Need-fault-requires
 fault-requires c κs = search needs

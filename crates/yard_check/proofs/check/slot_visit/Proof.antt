@@ -3,6 +3,7 @@ use mathlib.Core.List.{List}
 use Prim.Native.Nat.{ℕ}
 use native.Mathlib.Omega.{arith}
 use denote.Ref.{now}
+use Rattle.update_definition.specs.UpdateImage.{givenFault}
 use Rattle.yard_check.specs.Check.{visited}
 use Rattle.yard_check.specs.Checks.{argsOf, SlotVisited}
 use Rattle.yard_check.proofs.TurnLaws.{slot-kept, slot-left, lent-up, lent-inside, lent-part, part-returned}
@@ -16,7 +17,7 @@ plain-row-requires c κs = search needs
 returns : tie.Need-returns
 returns c =
     let a = c .before .before .before .before .before .before .args in
-    slot-kept (now (a .yard)) (now (a .occ)) (argsOf (now (a .blocking)) (a .a)) (a .t) (c .before .before .before .before .before .before .pre) (c .before .if1 .taken) (c .plain-row .result) (c .plain-row .ensures)
+    slot-kept (now (a .yard)) (now (a .occ)) (argsOf (a .w) (now (a .blocking)) (a .a)) (a .t) (c .before .before .before .before .before .before .pre) (c .before .if1 .taken) (c .plain-row .result) (c .plain-row .ensures)
 
 part-from-requires : tie.Need-part-from-requires
 part-from-requires c κs = search needs
@@ -27,20 +28,25 @@ part-until-requires c κs = search needs
 sub-visit : tie.Need-sub-visit
 sub-visit c =
     let a = c .before .before .before .before .before .before .before .before .before .args in
-    omega (arith, lent-up (now (a .yard)) (now (a .occ)) (argsOf (now (a .blocking)) (a .a)) (a .t) (c .before .before .before .before .before .before .before .before .before .pre) (c .before .before .part-from .result) (c .part-until .result) (c .before .before .part-from .ensures) (c .part-until .ensures))
+    omega (arith, lent-up (now (a .yard)) (now (a .occ)) (argsOf (a .w) (now (a .blocking)) (a .a)) (a .t) (c .before .before .before .before .before .before .before .before .before .pre) (c .before .before .part-from .result) (c .part-until .result) (c .before .before .part-from .ensures) (c .part-until .ensures))
 
 part-visit-start : tie.Need-part-visit-start
 part-visit-start c =
     let a = c .before .before .before .before .before .before .before .before .before .args in
-    omega (arith, lent-up (now (a .yard)) (now (a .occ)) (argsOf (now (a .blocking)) (a .a)) (a .t) (c .before .before .before .before .before .before .before .before .before .pre) (c .before .before .part-from .result) (c .part-until .result) (c .before .before .part-from .ensures) (c .part-until .ensures))
+    omega (arith, lent-up (now (a .yard)) (now (a .occ)) (argsOf (a .w) (now (a .blocking)) (a .a)) (a .t) (c .before .before .before .before .before .before .before .before .before .pre) (c .before .before .part-from .result) (c .part-until .result) (c .before .before .part-from .ensures) (c .part-until .ensures))
 
 part-visit-end : tie.Need-part-visit-end
 part-visit-end c =
     let a = c .before .before .before .before .before .before .before .before .before .args in
-    omega (arith, lent-inside (now (a .yard)) (now (a .occ)) (argsOf (now (a .blocking)) (a .a)) (a .t) (c .before .before .before .before .before .before .before .before .before .pre) (c .before .before .part-from .result) (c .part-until .result) (c .before .before .part-from .ensures) (c .part-until .ensures))
+    omega (arith, lent-inside (now (a .yard)) (now (a .occ)) (argsOf (a .w) (now (a .blocking)) (a .a)) (a .t) (c .before .before .before .before .before .before .before .before .before .pre) (c .before .before .part-from .result) (c .part-until .result) (c .before .before .part-from .ensures) (c .part-until .ensures))
 
 visit-requires : tie.Need-visit-requires
-visit-requires c κs = c .before .before .before .before .before .before .before .before .before .before .pre .call
+visit-requires c κs =
+    let a = c .before .before .before .before .before .before .before .before .before .before .args in
+    let k = c .before .before .before .before .before .before .before .before .before .before .pre in
+    let p = c .before .before .before .part-from in
+    let q = c .before .part-until in
+    (k .call, ap (λ (x : List ℕ). givenFault (a .w) x (now (a .occ)) (a .a .moved .0)) (lent-part (now (a .yard)) (now (a .occ)) (argsOf (a .w) (now (a .blocking)) (a .a)) (a .t) k (p .result) (q .result) (p .ensures) (q .ensures)) ∙ k .given)
 
 same-length : tie.Need-same-length
 same-length c = search needs
@@ -48,7 +54,7 @@ same-length c = search needs
 returns-2 : tie.Need-returns-2
 returns-2 c =
     let a = c .before .before .before .before .before .before .before .before .before .before .before .before .before .args in
-    let A = argsOf (now (a .blocking)) (a .a) in
+    let A = argsOf (a .w) (now (a .blocking)) (a .a) in
     let p = c .before .before .before .before .before .before .part-from in
     let q = c .before .before .before .before .part-until in
     let w = c .before .before .visit in

@@ -11,7 +11,7 @@ fault-requires c κs = search needs
 
 returns : tie.Need-returns
 unfolding slotsFault
-returns c =
+returns c w =
     let a = c .before .before .before .args in
     rw (lt-leb (a .a .moved .0) (a .slots) (omega arith)) (c .fault .ensures)
 
@@ -20,7 +20,7 @@ fault-requires-2 c κs = search needs
 
 returns-2 : tie.Need-returns-2
 unfolding slotsFault
-returns-2 c =
+returns-2 c w =
     let a = c .before .before .before .before .before .args in
     rw (le-leb (a .a .moved .0) (a .slots) (omega arith), lt-leb 1 (a .a .begin) (omega arith)) (c .fault2 .ensures)
 
@@ -32,7 +32,7 @@ fault-requires-3 c κs = search needs
 
 returns-3 : tie.Need-returns-3
 unfolding slotsFault
-returns-3 c =
+returns-3 c w =
     let a = c .before .before .before .before .before .before .before .args in
     rw (le-leb (a .a .moved .0) (a .slots) (omega arith), le-leb 1 (a .a .begin) (omega arith), lt-leb (a .a .begin) (a .slots + 1) (omega arith)) (c .fault3 .ensures)
 
@@ -41,7 +41,7 @@ fault-requires-4 c κs = search needs
 
 returns-4 : tie.Need-returns-4
 unfolding slotsFault
-returns-4 c =
+returns-4 c w =
     let a = c .before .before .before .before .before .before .before .args in
     rw (le-leb (a .a .moved .0) (a .slots) (omega arith), le-leb 1 (a .a .begin) (omega arith), le-leb (a .a .begin) (a .slots + 1) (omega arith)) (c .fault4 .ensures)
 

@@ -12,7 +12,7 @@ or-else-requires : tie.Need-or-else-requires
 or-else-requires c κs = search needs
 
 returns : tie.Need-returns
-returns c = rw (← c .before .before .slots-fault .ensures, ← c .before .report-fault .ensures) (c .or-else .ensures)
+returns c w = rw (← c .before .before .slots-fault .ensures w, ← c .before .report-fault .ensures) (c .or-else .ensures)
 
 pub slots-or-report-fault-spec : {M : Type 1} → statement M
 slots-or-report-fault-spec = tie.close (tie.spec slots-fault-requires report-fault-requires or-else-requires returns)

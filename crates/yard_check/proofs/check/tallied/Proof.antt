@@ -1,6 +1,6 @@
 use native.Mathlib.Omega.{arith}
 use lib.Dec.{leb, eqb}
-use Rattle.yard_check.proofs.TurnLaws.{bit-few}
+use Rattle.yard_check.proofs.SlotLaws.{bit-few}
 use borrow.Author.Needs.{needs}
 use Rattle.yard_check.proofs.check.tallied.Statement.{statement}
 use Rattle.yard_check.proofs.check.tallied.Tie as tie

@@ -4,6 +4,7 @@ use native.Mathlib.Omega.{arith}
 use denote.Ref.{now}
 use lib.ListN.{length, replicate, length-replicate}
 use lib.Seq.{length-take-le}
+use Rattle.image_fault.specs.declared.Widths.the-variants.{Narrow}
 use Rattle.yard_check.specs.Checks.{argsOf}
 use Rattle.yard_check.proofs.TurnLaws.{few-links}
 use borrow.Author.Needs.{needs}
@@ -14,19 +15,19 @@ array-borrow-prefix-wide : tie.Need-array-borrow-prefix-wide
 array-borrow-prefix-wide c =
     let a = c .before .before .before .before .before .args in
     let p = c .before .before .before .before .before .pre in
-    omega (arith, few-links (now (a .yard)) (now (a .occ)) (argsOf (now (a .blocking)) (a .a)) (length (now (a .report))) p, length-replicate {A = ℕ} 4000 0)
+    omega (arith, few-links (now (a .yard)) (now (a .occ)) (argsOf Narrow (now (a .blocking)) (a .a)) (length (now (a .report))) p, length-replicate {A = ℕ} 4000 0)
 
 slice-aggregate-visits-widened : tie.Need-slice-aggregate-visits-widened
 slice-aggregate-visits-widened c =
     let a = c .before .before .before .before .before .before .args in
     let p = c .before .before .before .before .before .before .pre in
-    sym (length-take-le (length (now (a .occ))) (replicate 4000 0) (omega (arith, few-links (now (a .yard)) (now (a .occ)) (argsOf (now (a .blocking)) (a .a)) (length (now (a .report))) p, length-replicate {A = ℕ} 4000 0)))
+    sym (length-take-le (length (now (a .occ))) (replicate 4000 0) (omega (arith, few-links (now (a .yard)) (now (a .occ)) (argsOf Narrow (now (a .blocking)) (a .a)) (length (now (a .report))) p, length-replicate {A = ℕ} 4000 0)))
 
 visits-widened-requires : tie.Need-visits-widened-requires
 visits-widened-requires c κs =
     let a = c .before .before .before .before .before .before .before .args in
     let p = c .before .before .before .before .before .before .before .pre in
-    (p, length-take-le (length (now (a .occ))) (replicate 4000 0) (omega (arith, few-links (now (a .yard)) (now (a .occ)) (argsOf (now (a .blocking)) (a .a)) (length (now (a .report))) p, length-replicate {A = ℕ} 4000 0)))
+    (p, length-take-le (length (now (a .occ))) (replicate 4000 0) (omega (arith, few-links (now (a .yard)) (now (a .occ)) (argsOf Narrow (now (a .blocking)) (a .a)) (length (now (a .report))) p, length-replicate {A = ℕ} 4000 0)))
 
 same-length : tie.Need-same-length
 same-length c = search needs

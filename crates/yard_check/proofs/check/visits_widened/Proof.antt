@@ -3,6 +3,7 @@ use mathlib.Core.List.{List}
 use Prim.Native.Nat.{ℕ}
 use denote.Ref.{now}
 use lib.ListN.{length}
+use Rattle.image_fault.specs.declared.Widths.the-variants.{Narrow}
 use Rattle.yard_check.specs.Check.{checkFault}
 use Rattle.yard_check.specs.Checks.{argsOf, AllVisited}
 use borrow.Author.Needs.{needs}
@@ -15,7 +16,7 @@ widen-requires c κs = search needs
 visits-requires : tie.Need-visits-requires
 visits-requires c κs =
     let a = c .before .before .before .before .before .before .before .before .before .before .before .before .args in
-    subst (λ (xs : List ℕ). checkFault (now (a .yard)) xs (argsOf (now (a .blocking)) (a .a)) (length (now (a .report))) .number ≡ 0) (sym (c .before .before .before .before .before .widen .ensures (c .before .before .before .before .before .before .before .before .before .before .before .before .pre .1))) (c .before .before .before .before .before .before .before .before .before .before .before .before .pre .0)
+    subst (λ (xs : List ℕ). checkFault (now (a .yard)) xs (argsOf Narrow (now (a .blocking)) (a .a)) (length (now (a .report))) .number ≡ 0) (sym (c .before .before .before .before .before .widen .ensures (c .before .before .before .before .before .before .before .before .before .before .before .before .pre .1))) (c .before .before .before .before .before .before .before .before .before .before .before .before .pre .0)
 
 same-length : tie.Need-same-length
 same-length c = search needs
@@ -30,7 +31,7 @@ returns : tie.Need-returns
 returns c =
     let a = c .before .before .before .before .before .before .before .before .before .before .before .before .before .before .before .before .before .args in
     let w = c .before .before .before .before .visits in
-    subst (λ (xs : List ℕ). AllVisited (now (a .yard)) xs (argsOf (now (a .blocking)) (a .a)) (now (a .report)) (w .result) (w .last .0) (w .last .1 .1 .1 .1 .0)) (c .before .before .before .before .before .before .before .before .before .before .widen .ensures (c .before .before .before .before .before .before .before .before .before .before .before .before .before .before .before .before .before .pre .1)) (w .ensures)
+    subst (λ (xs : List ℕ). AllVisited (now (a .yard)) xs (argsOf Narrow (now (a .blocking)) (a .a)) (now (a .report)) (w .result) (w .last .0) (w .last .1 .1 .1 .1 .1 .0)) (c .before .before .before .before .before .before .before .before .before .before .widen .ensures (c .before .before .before .before .before .before .before .before .before .before .before .before .before .before .before .before .before .pre .1)) (w .ensures)
 
 pub visits-widened-spec : {M : Type 1} → statement M
 visits-widened-spec =
