@@ -6,8 +6,8 @@
  * refused check leaves `answer` as it was.
  *
  * No call keeps anything, allocates, prints or locks: any thread may call at any time. Bytes may lie at any address, numbers at
- * one that fits their type. A sheet takes 320 KB of stack at most, a replay 160 KB, any other call 128 KB; README.md beside this
- * file has each. Text has no byte 0 at its end.
+ * one that fits their type. A sheet takes 320 KB of stack at most, a game 192 KB, a replay 160 KB, any other call 128 KB; README.md
+ * beside this file has each. Text has no byte 0 at its end.
  *
  * A refusal is a number with its place in the upper 16 bits; 0 is none. The bytes of every buffer are in docs/LAYOUTS.md, the
  * numbers in docs/REFUSALS.md. */
@@ -47,6 +47,9 @@ enum {
     LAVTOEU_MAX_LINKS = 4000, LAVTOEU_MAX_LOCKOUTS = 4096, LAVTOEU_MAX_ESTS = 512, LAVTOEU_MAX_ROOM = 1024,
     LAVTOEU_MAX_SLOTS = 63, LAVTOEU_MAX_BUNDLE = 65536
 };
+
+/* The most links and turns of a game. */
+enum { LAVTOEU_MAX_GAME_LINKS = 8, LAVTOEU_MAX_TURNS = 6 };
 
 /* The types of est records and path nodes. */
 enum { LAVTOEU_ARRIVE = 0, LAVTOEU_CLEAR = 1, LAVTOEU_FAKE = 2 };
@@ -136,6 +139,15 @@ uint32_t lavtoeu_yard_ceiling(const uint8_t *yard, size_t yard_len, uint16_t lim
  * gets the number of its refusal, 0 where there is none; a refused step changes nothing, and the replay goes on. Refused by 19, a
  * malformed recording or a list of another length, before any step. */
 uint32_t lavtoeu_replay(const uint8_t *recording, size_t recording_len, const uint8_t *table, size_t table_len, uint8_t *yard, size_t yard_len, uint16_t *occupancy, size_t occupancy_len, uint16_t *list, size_t list_len);
+
+/* Whether the closer can force it in a lesson game over one train, to answer[0]: 1 or 0. The closer has links, up to 8, all open at
+ * the start, and turns, up to 6; at each turn the closer closes up to two, then the dispatcher opens a closed one or passes. At the end
+ * the train is updated once in a copy of its image, which may be narrow or wide, the closed links held by the moved train and as the
+ * blocking list; BLOCKED wins for the closer. 1 exactly where the closer has an answer to every line of the dispatcher's, each from
+ * what was played so far. Nothing else is written. Refused as an update with no blocking list by 2, 5, 6, 22 (an entry of the occupancy
+ * or moved above 65,535, with a wide image above 999,999), 7, 22 (a train of a diverge record above 999,999), 8, 9, 10; then by 28: a
+ * link twice, 0 or at least occupancy_len, too many links or turns. A refused call leaves `answer` as it was. */
+uint32_t lavtoeu_closer_can_force(const uint8_t *image, size_t image_len, const uint32_t *occupancy, size_t occupancy_len, uint32_t moved, uint32_t local, uint16_t limit, const uint32_t *links, size_t links_len, uint32_t turns, uint64_t *answer, size_t answer_len);
 
 #ifdef __cplusplus
 }

@@ -132,7 +132,7 @@ def renumbered_image(part, numbering):
 
 
 def renumbered_call(call, numbering):
-    """A mark's link and train; a check's moved train and blocking links; the slot of any other call that has one."""
+    """A mark's link and train; a check's moved train and blocking links; a game's links; the slot of any call that has one."""
     kind, line, *given = call
     if kind == "mark":
         return (kind, line, numbering.link(given[0]), numbering.train(given[1]))
@@ -141,6 +141,7 @@ def renumbered_call(call, numbering):
         return (kind, line, {name: [numbering.link(l) for l in n] if name == "blocking" else n for name, n in told.items()})
     if kind in ("report", "replay") or not given or not 1 <= given[0] <= numbering.slots:
         return call
+    given[1:] = [[numbering.link(l) for l in x] if isinstance(x, list) else x for x in given[1:]]
     return (kind, line, numbering.train(given[0]), *given[1:])
 
 
@@ -180,6 +181,8 @@ def call_line(call):
     if kind == "check":
         told = [f"{name} {('no', 'yes')[n] if name == 'local' else n}" for name, n in given[0].items() if name != "blocking"]
         return " ".join(["check", *told, *(map(str, ["blocking", *given[0]["blocking"]]) if "blocking" in given[0] else [])])
+    if kind == "game":
+        return " ".join(map(str, ["game", *given[1], "turns", given[2], "slot", given[0]]))
     return " ".join([kind, *map(str, given)])
 
 

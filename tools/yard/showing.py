@@ -26,6 +26,8 @@ REFUSALS = {
     17: "the bundle is too long, its size or its parts do not fit, or local is neither 0 nor 1",
     18: "the page has fewer than 40 bytes for each node of the path",
     19: "the recording is malformed, or the list has not one entry for each step",
+    22: "a train is too large",
+    28: "a game has a link twice, link 0 or one that there is not, more than 8 links or more than 6 turns",
     29: "a value outside the training track profile",
 }
 WORDS = {

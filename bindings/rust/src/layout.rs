@@ -45,6 +45,10 @@ pub const MAX_ESTS: usize = 512;
 pub const MAX_ROOM: usize = 1_024;
 pub const MAX_SLOTS: usize = 63;
 
+/// The most links and turns of a game.
+pub const MAX_GAME_LINKS: usize = 8;
+pub const MAX_TURNS: usize = 6;
+
 /// The W bytes from `at` on; a byte past the end counts 0.
 fn octets<const W: usize>(bytes: &[u8], at: usize) -> [u8; W] {
     std::array::from_fn(|i| bytes.get(at + i).copied().unwrap_or(0))

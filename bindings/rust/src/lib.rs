@@ -17,6 +17,7 @@
 //! assert_eq!(mark(&table, &mut occupancy, 3, 9), Err(Refusal { number: 3, place: 0 }));
 //! ```
 
+mod game;
 mod image;
 pub mod layout;
 mod parts;
@@ -25,6 +26,7 @@ mod recording;
 mod table;
 mod version;
 
+pub use game::{closer_can_force, Game};
 pub use image::{Diverge, Image, Node};
 pub use parts::{bundle, parts};
 pub use recording::{replay, Check, Recording};
@@ -70,6 +72,8 @@ impl Refusal {
             17 => "bad bundle",
             18 => "page too short",
             19 => "malformed recording, or a list of another length",
+            22 => "a train number that is too large",
+            28 => "bad links or turns of a game",
             29 => "outside the training track profile",
             _ => "no number of a refusal",
         }

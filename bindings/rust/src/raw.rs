@@ -60,5 +60,19 @@ extern "C" {
         list: *mut u16,
         list_len: usize,
     ) -> u32;
+    pub fn lavtoeu_closer_can_force(
+        image: *const u8,
+        image_len: usize,
+        occupancy: *const u32,
+        occupancy_len: usize,
+        moved: u32,
+        local: u32,
+        limit: u16,
+        links: *const u32,
+        links_len: usize,
+        turns: u32,
+        answer: *mut u64,
+        answer_len: usize,
+    ) -> u32;
     pub fn lavtoeu_page(image: *const u8, image_len: usize, page: *mut u8, page_len: usize) -> u32;
 }

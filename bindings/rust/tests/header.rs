@@ -58,6 +58,8 @@ fn header_and_crate_have_the_same_sizes() {
         ("MAX_ROOM", MAX_ROOM),
         ("MAX_SLOTS", MAX_SLOTS),
         ("MAX_BUNDLE", MAX_BUNDLE),
+        ("MAX_GAME_LINKS", MAX_GAME_LINKS),
+        ("MAX_TURNS", MAX_TURNS),
         ("ARRIVE", EstType::Arrive as usize),
         ("CLEAR", EstType::Clear as usize),
         ("FAKE", EstType::Fake as usize),

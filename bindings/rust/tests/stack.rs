@@ -96,7 +96,7 @@ fn occupancy() -> Vec<u16> {
 }
 
 /// The calls with the stack that each may take, as bindings/README.md has it.
-const BOUNDS: [(&str, usize); 12] = [
+const BOUNDS: [(&str, usize); 13] = [
     ("version", 1 << 10),
     ("mark", 1 << 10),
     ("judge", 20 << 10),
@@ -109,10 +109,11 @@ const BOUNDS: [(&str, usize); 12] = [
     ("ceiling", 20 << 10),
     ("yard_ceiling", 20 << 10),
     ("replay", 160 << 10),
+    ("closer_can_force", 192 << 10),
 ];
 
 /// The stack of each call of `BOUNDS` over images that `image` makes of a train's number.
-fn stacks(image: fn(u16) -> Vec<u8>, m: Move) -> [usize; 12] {
+fn stacks(image: fn(u16) -> Vec<u8>, m: Move) -> [usize; 13] {
     let (one, mut spare) = (image(1), image(1));
     let header = Image::from_bytes(&one).unwrap();
     let est = est_bytes(&header.ests);
@@ -148,7 +149,11 @@ fn stacks(image: fn(u16) -> Vec<u8>, m: Move) -> [usize; 12] {
     assert_eq!((paged, profiled), (Ok(()), Ok(())));
     assert_eq!((most.is_ok(), all.is_ok()), (true, true));
     assert_eq!((played, list), (Ok(()), [0, 0]));
-    [versions, marks, judges, lays, updates, checks, sheets, pages, profiles, ceilings, yard_ceilings, replays]
+    let wide: Vec<u32> = m.occupancy.iter().map(|_| 0).collect();
+    let game = Game { occupancy: &wide, moved: 2, local: m.local, limit: m.limit, links: &[1, 2, 3], turns: 6 };
+    let (forced, games) = stack_of(|| closer_can_force(&one, game));
+    assert_eq!(forced, Ok(true));
+    [versions, marks, judges, lays, updates, checks, sheets, pages, profiles, ceilings, yard_ceilings, replays, games]
 }
 
 #[test]

@@ -24,6 +24,8 @@ pub(crate) const CEILING: u32 = 15;
 
 pub(crate) const YARD_CEILING: u32 = 16;
 
+pub(crate) const GAME: u32 = 22;
+
 // ---- the head: size, operation, tag, line, 8 arguments, 4 lengths of inputs, 8 numbers of the answer, 2 lengths of outputs
 
 pub(crate) fn operation(head: &[u8]) -> u32 {

@@ -8,6 +8,7 @@ mod case;
 mod check;
 mod lay_out;
 mod leaf;
+mod lesson;
 mod list;
 mod mark;
 mod page;
@@ -199,6 +200,9 @@ fn answer(head: &[u8], body: &[u8], sums: bool) -> bool {
     }
     if operation == case::YARD_CEILING {
         return answer_yard_ceiling(head, body);
+    }
+    if operation == case::GAME {
+        return lesson::answer(head, body);
     }
     if operation == case::LIST {
         return list::answer(head, body, sums);

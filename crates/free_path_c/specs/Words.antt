@@ -15,6 +15,8 @@ use Rattle.update_definition.specs.UpdateImage.{UpdatedImage}
 use Rattle.yard_check.specs.Check as Check
 use Rattle.ceiling.specs.declared.StepCeiling.{StepCeiling}
 use Rattle.sitting.specs.Replay.{Replayed}
+use Rattle.game.specs.Game.{Game}
+use Rattle.game.specs.declared.Verdict.{Verdict}
 
 -- 0 where there is no fault, else document 01's number, with the place in the upper 16 bits
 abbrev pub faultWord : Refusal → ℕ
@@ -113,6 +115,21 @@ pub record ToldCheck (k : Check.Checked) (r : ℕ) (yard report ws₀ ws : List 
   pub yardBytes : yard ≡ k .yard
   pub reportBytes : report ≡ k .report
   pub words : ws ≡ checkWords (k .answer) ws₀
+
+-- ---- a game
+
+-- a game from plain numbers
+abbrev pub gameWith : List ℕ → List ℕ → ℕ → Bool → ℕ → List ℕ → Game
+gameWith image occ moved local limit links = record { image = image; occupancy = occ; moved = moved; local = local; limit = limit; links = links }
+
+-- 1 or 0 in the first word; a refused call leaves the words as they were
+abbrev pub verdictWords : Verdict → List ℕ → List ℕ
+verdictWords v ws = ceilingWords (v .fault .number) (bitOf (v .«can_force»)) ws
+
+-- the verdict v as C sees it: the number that is returned, and the words that are left
+pub record ToldGame (v : Verdict) (r : ℕ) (ws₀ ws : List ℕ) : Type 0 where
+  pub word : r ≡ faultWord (v .fault)
+  pub words : ws ≡ verdictWords v ws₀
 
 -- ---- a replay
 

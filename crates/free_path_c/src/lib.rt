@@ -7,6 +7,7 @@ ghost use Rattle.link_rules.specs.AdvanceRewind.{markOf};
 ghost use Rattle.image_fault.specs.ImageFault.{imageFault};
 ghost use Rattle.track_profile.specs.Profile.{profileFault};
 ghost use Rattle.ceiling.specs.Ceiling.{ceilingOf, yardCeilingOf};
+ghost use Rattle.game.specs.Game.{verdictOf};
 ghost use Rattle.train_disp.specs.TrainDisp.{laidOut};
 ghost use lib.ListN.{set};
 ghost use Rattle.update_definition.specs.Update.{holderIn};
@@ -18,14 +19,18 @@ ghost use Rattle.yard_check.specs.Sheet.{sheetText};
 ghost use Rattle.text.specs.Text.{textOf, written};
 ghost use Rattle.path_page.specs.Page.{drawingRule, pageFault, pageAfter};
 ghost use Rattle.sitting.specs.Replay.{replayOf};
+ghost use Rattle.free_path_c.specs.Words.{gameWith, verdictWords, ToldGame};
 ghost use Rattle.free_path_c.specs.Words.{answerWord, faultWord, settingsOf, flagOf, statusWord, codeOf, errorsOf, Told, ceilingWords, ToldCeiling, checkWord, bitOf, threeWords, checkWords, ToldCheck, ToldReplay};
 use ceiling;
 use ceiling::StepCeiling;
 use disp_structs::Metres;
+use game;
+use game::Verdict;
 use image_fault;
 use link_rules::advance_rewind;
 use link_rules::link_idx::LinkIdx;
 use link_rules::link_idx::NarrowTrainIdx;
+use link_rules::link_idx::TrainIdx;
 use link_rules::refusal::Answer;
 use link_rules::refusal::Refusal;
 use path_page;
@@ -295,6 +300,45 @@ fn put_check(answer: &mut [u64], x: check::Answer)
             bit_of(deadlock),
             next as u64,
         ),
+    }
+}
+
+// Whether the closer of a lesson game can force the final update of an image of either width to end Blocked: refused by 2, 5 to 10 and 22, then 28, else the first
+// word of `answer` gets 1 or 0. Answers as lavtoeu_image_fault does; a refused call leaves `answer`. Any local but 0 is yes.
+#[no_mangle]
+pub extern "C" fn lavtoeu_closer_can_force(
+    image: &[u8],
+    occupancy: &[u32],
+    moved: u32,
+    local: u32,
+    limit: u16,
+    links: &[u32],
+    turns: u32,
+    answer: &mut [u64],
+) -> u32
+    ensures { λ r. ⌜ ToldGame (verdictOf (gameWith (now (image .entry)) (now (occupancy .entry)) moved (flagOf local) limit (now (links .entry))) turns)
+        r (now (answer .entry)) (now (answer .exit)) ⌝ }
+{
+    let v = game::closer_can_force(
+        image,
+        occupancy,
+        TrainIdx(moved),
+        flag_of(local),
+        limit,
+        links,
+        turns,
+    );
+    put_verdict(answer, v);
+    fault_word(v.fault)
+}
+
+// A refused call leaves the words as they were.
+fn put_verdict(answer: &mut [u64], v: Verdict)
+    ensures { λ _. ⌜ now (answer .exit) ≡ verdictWords v (now (answer .entry)) ⌝ }
+{
+    if v.fault.number == 0 {
+        put_word(answer, 0, bit_of(v.can_force));
+        return;
     }
 }
 

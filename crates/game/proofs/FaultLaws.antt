@@ -1,24 +1,27 @@
 -- The refusals of a game, by the tests of the code, and what a game has that is not refused. Assumes nothing.
-use mathlib.Core.Path.{_≡_, refl, sym, ap, ap₂, _∙_}
-use mathlib.Core.Bool.{Bool, true, false, cond, not, _&&_}
+use mathlib.Core.Path.{_≡_, refl, sym, ap, _∙_}
+use mathlib.Core.Bool.{Bool, true, false, _&&_}
 use mathlib.Core.List.{List, []}
-use Prim.Native.Nat.{ℕ, zero, suc, _+_, _≤_, _<_}
+use Prim.Native.Nat.{ℕ, suc, _+_, _≤_, _<_}
 use native.Mathlib.Numerals.{add-one}
 use native.Mathlib.Omega.{arith}
 use lib.Dec.{ltb, leb, eqb}
 use lib.ListN.{getD, length, drop, drop-of-length-le}
 use lib.Seq.{drop-cons}
-use borrow.Author.Tests.{lt-ltb, le-ltb, eq-eqb, ne-eqb, ltb-false, leb-true}
-use Rattle.link_rules.specs.Refusals.{refusedUnless, orElse}
+use borrow.Author.Tests.{lt-ltb, le-ltb, eq-eqb, ne-eqb, eqb-true, eqb-false, ltb-false, leb-true}
+use Rattle.link_rules.specs.Refusals.{refused, refusedUnless, orElse}
 use Rattle.link_rules.specs.declared.refusal.Refusal.{Refusal}
-use Rattle.image_fault.specs.ImageFault.{imageFault}
-use Rattle.image_fault.specs.declared.Widths.the-variants.{Narrow}
-use Rattle.image_fault.proofs.AcceptLaws.{or-else-clean, either-accepted}
+use Rattle.image.specs.Image.{pathHeader}
+use Rattle.image_fault.specs.declared.Widths.the-variants.{Either}
+use Rattle.image_fault.proofs.AcceptLaws.{or-else-clean}
 use Rattle.image_fault.proofs.ScanLaws.{both}
 use Rattle.link_rules.proofs.OctetLaws.{Bytes}
 use Rattle.free_path.specs.Base.{any}
-use Rattle.update_definition.specs.UpdateImage.{callFault, updateFaultIn, updateFault}
+use Rattle.update_definition.specs.UpdateImage.{UpdatedImage, refusedAnswer, updateFaultIn, updatedImageWide}
+use Rattle.update_laws.proofs.UpdateClean.{UpdateClean, update-clean}
+use Rattle.update_free_path.specs.declared.start.Args.{Args}
 use Rattle.update_free_path.proofs.FaultLaws.{call-links}
+use Rattle.update_free_path.proofs.CallLaws.{refused-before, refused-ten}
 use Rattle.update_free_path.proofs.DivergeLaws.{accepted-size}
 use Rattle.game.specs.Game.{Game, isListed, linksFit, finishedFault, startFault, listFault, gameFault}
 use Rattle.game.specs.Sets.{Accepted}
@@ -66,7 +69,7 @@ module _ (links : List ℕ) (i : ℕ) where
             let u : isListed (drop (suc i) links) (getD links i 0) ≡ false = ap (λ (n : ℕ). isListed (drop n links) (getD links i 0)) (sym (add-one i)) ∙ t in
             rw (add-one, drop-cons links i 0 h, lt-ltb 0 (getD links i 0) s, lt-ltb (getD links i 0) l b, u)
 
--- ---- a chain of three refusals
+-- ---- the update's own, then 10
 
 or-first : (a b : Refusal) → (a .number ≡ 0 → ⊥) → orElse a b ≡ a
 or-first a b n = rw (ne-eqb (a .number) 0 n)
@@ -74,26 +77,41 @@ or-first a b n = rw (ne-eqb (a .number) 0 n)
 or-next : (a b : Refusal) → a .number ≡ 0 → orElse a b ≡ b
 or-next a b e = rw (eq-eqb (a .number) 0 e)
 
-module _ (img occ : List ℕ) (moved limit : ℕ) (f : Refusal) (e : f ≡ callFault occ [] moved limit) where
-  pub start-call : (f .number ≡ 0 → ⊥) → f ≡ startFault img occ moved limit
-  unfolding startFault updateFaultIn
-  start-call n =
-      sym (or-first f (finishedFault img) n)
-      ∙ ap (λ (x : Refusal). orElse x (finishedFault img)) (sym (or-first f (imageFault img (length occ)) n))
-      ∙ ap (λ (x : Refusal). orElse (orElse x (imageFault img (length occ))) (finishedFault img)) e
+module _ (img occ : List ℕ) (moved limit : ℕ) (f : Refusal) (e : f ≡ updateFaultIn Either img occ [] moved limit) where
+  with-ten : orElse f (finishedFault img) ≡ startFault img occ moved limit
+  unfolding startFault
+  with-ten = ap (λ (x : Refusal). orElse x (finishedFault img)) e
 
-  module _ (z : f .number ≡ 0) (d : Refusal) (q : d ≡ imageFault img (length occ)) where
-    update-is : d ≡ updateFault img occ [] moved limit
-    unfolding updateFaultIn
-    update-is = sym (or-next f d z) ∙ ap₂ orElse e q
+  pub start-before : (f .number ≡ 0 → ⊥) → f ≡ startFault img occ moved limit
+  start-before n = sym (or-first f (finishedFault img) n) ∙ with-ten
 
-    pub start-image : (d .number ≡ 0 → ⊥) → d ≡ startFault img occ moved limit
-    unfolding startFault
-    start-image n = sym (or-first d (finishedFault img) n) ∙ ap (λ (x : Refusal). orElse x (finishedFault img)) update-is
+  pub start-last : f .number ≡ 0 → finishedFault img ≡ startFault img occ moved limit
+  start-last z = sym (or-next f (finishedFault img) z) ∙ with-ten
 
-    pub start-last : d .number ≡ 0 → finishedFault img ≡ startFault img occ moved limit
-    unfolding startFault
-    start-last y = sym (or-next d (finishedFault img) y) ∙ ap (λ (x : Refusal). orElse x (finishedFault img)) update-is
+-- they are those of the update with no blocking list
+module _ (img occ : List ℕ) (o : Args) where
+  abbrev fault : Refusal
+  fault = updateFaultIn Either img occ [] (o .moved .0) (o .limit)
+
+  abbrev none : UpdatedImage
+  none = updatedImageWide img occ [] (o .moved .0) (o .local) (o .limit)
+
+  pub start-refused : (startFault img occ (o .moved .0) (o .limit) .number ≡ 0 → ⊥) → refusedAnswer (startFault img occ (o .moved .0) (o .limit)) img ≡ none
+  unfolding startFault
+  start-refused n = go (eqb (fault .number) 0) refl (ltb (pathHeader img .free) (pathHeader img .«path_count»)) refl
+    where
+      go : (t : Bool) → eqb (fault .number) 0 ≡ t → (u : Bool) → ltb (pathHeader img .free) (pathHeader img .«path_count») ≡ u → refusedAnswer (orElse fault (finishedFault img)) img ≡ none
+      go false e u w =
+          let z = eqb-false (fault .number) 0 e in
+          ap (λ (x : Refusal). refusedAnswer x img) (or-first fault (finishedFault img) z) ∙ refused-before Either img occ [] o fault refl z
+      go true e false w =
+          let z = eqb-true (fault .number) 0 e in
+          let t : finishedFault img ≡ refused 10 0 = ap (λ (b : Bool). refusedUnless b 10) w in
+          ap (λ (x : Refusal). refusedAnswer x img) (or-next fault (finishedFault img) z ∙ t)
+          ∙ refused-ten Either img occ [] o fault refl z (pathHeader img) refl (ltb-false (pathHeader img .free) (pathHeader img .«path_count») w)
+      go true e true w =
+          let z = eqb-true (fault .number) 0 e in
+          absurd (n (ap (λ (x : Refusal). x .number) (or-next fault (finishedFault img) z) ∙ ap (λ (b : Bool). refusedUnless b 10 .number) w))
 
 -- ---- a game that is not refused
 
@@ -106,13 +124,11 @@ module _ (g : Game) (turns : ℕ) (h : gameFault g turns .number ≡ 0) where
   unfolding gameFault
   parts = or-else-clean (startFault (g .image) (g .occupancy) (g .moved) (g .limit)) (listFault (length (g .occupancy)) (g .links) turns) h
 
-  updates : updateFault (g .image) (g .occupancy) [] (g .moved) (g .limit) .number ≡ 0
+  clean : UpdateClean Either (g .image) (g .occupancy) [] (g .moved) (g .limit)
   unfolding startFault
-  updates = or-else-clean (updateFault (g .image) (g .occupancy) [] (g .moved) (g .limit)) (finishedFault (g .image)) (parts .0) .0
-
-  clean : (callFault (g .occupancy) [] (g .moved) (g .limit) .number ≡ 0) × (imageFault (g .image) (length (g .occupancy)) .number ≡ 0)
-  unfolding updateFaultIn
-  clean = or-else-clean (callFault (g .occupancy) [] (g .moved) (g .limit)) (imageFault (g .image) (length (g .occupancy))) updates
+  clean =
+      update-clean Either (g .image) (g .occupancy) [] (g .moved) (g .limit)
+      (or-else-clean (updateFaultIn Either (g .image) (g .occupancy) [] (g .moved) (g .limit)) (finishedFault (g .image)) (parts .0) .0)
 
   lists : (leb (length (g .links)) 8 && (leb turns 6 && linksFit (length (g .occupancy)) (g .links))) ≡ true
   lists = unrefused _ 27 (parts .1)
@@ -124,8 +140,8 @@ module _ (g : Game) (turns : ℕ) (h : gameFault g turns .number ≡ 0) where
   pub accepted : Bytes (g .image) → Accepted g
   accepted b =
       record {
-        imageFits = omega (arith, accepted-size (g .image) (length (g .occupancy)) (either-accepted Narrow (g .image) (length (g .occupancy)) (clean .1)) b .1);
-        occupancyFits = call-links (g .occupancy) [] (g .moved) (g .limit) (clean .0) .1;
+        imageFits = omega (arith, accepted-size (g .image) (length (g .occupancy)) (clean .image) b .1);
+        occupancyFits = call-links (g .occupancy) [] (g .moved) (g .limit) (clean .call) .1;
         few = leb-true (length (g .links)) 8 (both (leb (length (g .links)) 8) _ lists .0);
         fitting = list-fits;
       }

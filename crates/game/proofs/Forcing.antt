@@ -7,7 +7,6 @@ use Prim.Native.Nat.{ℕ, zero, suc}
 use native.Mathlib.Omega.{arith}
 use lib.Dec.{eqb}
 use lib.ListN.{length}
-use borrow.Author.Tests.{eq-eqb}
 use Rattle.free_path.specs.Base.{any}
 use Rattle.game.specs.Game.{Position, allOpen, isListed, shut, opened, Closing, afterTurn, Strategy, play, CanForce, every, choices, judged}
 use Rattle.game.proofs.Choices.{any-from, any-which, every-from, every-each}

@@ -1,5 +1,5 @@
 -- A number as a set of links: its position, and the judgement of the one as that of the other. Assumes nothing.
-use mathlib.Core.Path.{_≡_, refl, sym, ap, ap₂, subst, fun-ext, _∙_}
+use mathlib.Core.Path.{_≡_, refl, sym, ap, ap₂, fun-ext, _∙_}
 use mathlib.Core.Bool.{Bool, true, false, cond, not, _&&_, _||_, true≢false, false≢true}
 use mathlib.Core.List.{List, [], _∷_}
 use Prim.Native.Nat.{ℕ, zero, suc, _+_, _-_, _/_, _%_, _^_, _≤_, _<_}
@@ -8,14 +8,14 @@ use native.Mathlib.Omega.{arith}
 use lib.Dec.{ltb, eqb}
 use lib.ListN.{getD, length, List·getD-eq-default}
 use lib.Pow.{shr-shr}
-use borrow.Author.Tests.{lt-ltb, le-ltb, eq-eqb, ne-eqb, ltb-true, ltb-false, eqb-true, eqb-false}
+use borrow.Author.Tests.{eq-eqb, ne-eqb, ltb-true, ltb-false, eqb-true, eqb-false}
 use Rattle.image_fault.proofs.ScanLaws.{both}
 use Rattle.free_path.specs.Base.{any}
 use Rattle.game.specs.Game.{Position, allOpen, isListed, shut, opened, closedLinks, linksFit, every, choices, judged}
-use Rattle.game.specs.Sets.{isOpen, shutIn, openedIn, positionOf, linksIn, someBelow, allOpenings, someClosing, judgedIn}
+use Rattle.game.specs.Sets.{isOpen, shutIn, openedIn, positionOf, linksIn, allOpenings, someClosing, judgedIn}
 use Rattle.game.proofs.Bounded.{some-same, all-same}
 use Rattle.game.proofs.Choices.{or-right, some-choice, all-choices}
-use Rattle.game.proofs.SetLaws.{shut-none, opened-none, shut-open, shut-shut, opened-open, opened-shut, power-in}
+use Rattle.game.proofs.SetLaws.{power-in}
 
 -- ---- bits
 

@@ -7,15 +7,16 @@ use mathlib.Core.Bool.{Bool, true, false, cond, not, _&&_, _||_}
 use mathlib.Core.List.{List, [], _∷_, _++_}
 use lib.Dec.{ltb, leb, eqb}
 use lib.ListN.{length, set}
-use Rattle.link_rules.specs.Refusals.{noRefusal, refused, refusedUnless, orElse}
+use Rattle.link_rules.specs.Refusals.{refusedUnless, orElse}
 use Rattle.link_rules.specs.declared.refusal.Refusal.{Refusal}
 use Rattle.image.specs.Image.{pathHeader}
+use Rattle.image_fault.specs.declared.Widths.the-variants.{Either}
 use Rattle.free_path.specs.Base.{any}
 use Rattle.update_definition.specs.Update.{Status, Success, Blocked, Faulty, Refused}
-use Rattle.update_definition.specs.UpdateImage.{updateFault, updatedImage}
+use Rattle.update_definition.specs.UpdateImage.{updateFaultIn, updatedImageWide}
 use Rattle.game.specs.declared.Verdict.{Verdict}
 
--- what a game is played over: the train's starting image, the occupancy, the arguments of the final update, the closer's links
+-- what a game is played over: the train's starting image, of either width, the occupancy, the arguments of the final update, the closer's links
 pub record Game : Type 0 where
   pub image : List ℕ
   pub occupancy : List ℕ
@@ -86,7 +87,7 @@ isBlocked (Refused r) = false
 
 -- the update of the starting image with these links closed
 abbrev pub finalStatus : Game → List ℕ → Status
-finalStatus g closed = updatedImage (g .image) (heldBy (g .moved) closed (g .occupancy)) closed (g .moved) (g .local) (g .limit) .answer .status
+finalStatus g closed = updatedImageWide (g .image) (heldBy (g .moved) closed (g .occupancy)) closed (g .moved) (g .local) (g .limit) .answer .status
 
 -- the closer wins where it ends Blocked
 unfoldable pub closerWins : Game → Position → Bool
@@ -119,9 +120,9 @@ judged links wins (suc t) p =
 abbrev pub finishedFault : List ℕ → Refusal
 finishedFault img = refusedUnless (ltb (pathHeader img .free) (pathHeader img .«path_count»)) 10
 
--- the update's own up to 10, with no blocking list
+-- the update's own up to 10, with no blocking list: 2, 5, 6, 22, 7, 22, 8, 9, 10
 unfoldable pub startFault : List ℕ → List ℕ → ℕ → ℕ → Refusal
-startFault img occ moved limit = orElse (updateFault img occ [] moved limit) (finishedFault img)
+startFault img occ moved limit = orElse (updateFaultIn Either img occ [] moved limit) (finishedFault img)
 
 -- no repeat, no link 0, none at least l
 unfoldable pub linksFit : ℕ → List ℕ → Bool

@@ -6,7 +6,7 @@ ghost use lib.ListN.{length, drop};
 ghost use Rattle.game.specs.Game.{isListed, linksFit, startFault, gameFault};
 ghost use Rattle.game.specs.Sets.{gameOf};
 use image::codec;
-use image_fault;
+use image_fault::Widths;
 use link_rules::refusal;
 use link_rules::refusal::Refusal;
 use update_free_path::call;
@@ -66,19 +66,16 @@ fn list_fits(l: usize, links: &[u32], turns: u32) -> bool
     links_fit(links, l)
 }
 
-// 2, 5 and 6 to 10.
+// 2, 5 to 10 and 22.
 fn start_fault(image: &[u8], occ: &[u32], o: Args) -> Refusal
     ensures { λ r. ⌜ r ≡ startFault (now (image .entry)) (now (occ .entry)) (o .moved .0) (o .limit) ⌝ }
 {
     let none = [0u32; 1];
     let moved = o.moved;
-    let f = call::call_fault(occ.len(), &none[..0], moved, o.limit);
+    let own = call::given_fault(image, occ, moved);
+    let f = call::update_fault(image, occ.len(), &none[..0], o, Widths::Either, own);
     if f.number != 0 {
         return f;
-    }
-    let g = image_fault::image_fault(image, occ.len() as u32);
-    if g.number != 0 {
-        return g;
     }
     let h = codec::path_header(image);
     refusal::refused_unless((h.free as u32) < h.path_count, 10)

@@ -87,7 +87,7 @@ pub(crate) fn wins_with(
     copy_entries(occ, held);
     let moved = o.moved;
     let count = place(links, c, moved.0, held, &mut blocking);
-    let x = update_free_path::update_over(img, held, &blocking[..count], moved, o.local, o.limit);
+    let x = update_free_path::update_wide(img, held, &blocking[..count], moved, o.local, o.limit);
     let s = x.status;
     is_blocked(s)
 }

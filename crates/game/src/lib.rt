@@ -80,7 +80,8 @@ fn can_force(image: &[u8], occ: &[u32], o: Args, links: &[u32], turns: u32) -> b
     t[0] != 0
 }
 
-// Whether the closer, who may close up to two of the links at each turn, can force the final update of the image to end Blocked. Refused by 2, 5 to 10 and 28.
+// Whether the closer, who may close up to two of the links at each turn, can force the final update of the image, of either width, to end Blocked.
+// Refused by 2, 5 to 10 and 22, then 28.
 pub fn closer_can_force(
     image: &[u8],
     occ: &[u32],

@@ -1,5 +1,5 @@
 // The parts of an update's call around its loop over rounds: refusals 2 to 9 and 22, and what the first round finds (free_path.rs 252-275).
-// Of its functions only call_fault, which a check asks too, is public.
+// Of its functions call_fault, which a check asks too, and given_fault and update_fault, which a game asks, are public.
 ghost use mathlib.Core.Path.{_≡_};
 ghost use mathlib.Core.Bool.{cond, _&&_, _||_};
 ghost use mathlib.Core.List.{List};
@@ -123,7 +123,7 @@ fn largest_train(image: &[u8]) -> u32
 }
 
 // 22: an entry of the occupancy or the moved train that the image cannot hold, in a call that takes images of either width.
-pub(crate) fn given_fault(image: &[u8], occ: &[u32], moved: TrainIdx) -> Refusal
+pub fn given_fault(image: &[u8], occ: &[u32], moved: TrainIdx) -> Refusal
     ensures { λ r. ⌜ r ≡ givenFault Either (now (image .entry)) (now (occ .entry)) (moved .0) ⌝ }
 {
     let t = greatest_train(occ, moved.0);
@@ -131,7 +131,7 @@ pub(crate) fn given_fault(image: &[u8], occ: &[u32], moved: TrainIdx) -> Refusal
 }
 
 // Those of the call, else those of the image; own is the 22 of the call.
-pub(crate) fn update_fault(
+pub fn update_fault(
     image: &[u8],
     l: usize,
     blocking: &[u32],

@@ -1,9 +1,9 @@
 //! The calls of the proved library, each over a case. Every buffer that is lent is an allocation of just its length.
 
 use crate::replays;
-use lavtoeu::{Move, Order, Refusal};
+use lavtoeu::{Game, Move, Order, Refusal};
 use oracle::cases::{
-    Case, CEILING, CHECK, LAY_OUT, MARK, PAGE, PROFILE, REPLAY, SHEET, UPDATE, YARD_CEILING,
+    Case, CEILING, CHECK, GAME, LAY_OUT, MARK, PAGE, PROFILE, REPLAY, SHEET, UPDATE, YARD_CEILING,
 };
 use oracle::gen::UpdateCase;
 use oracle::layout::{u16_bytes, u16s, u32s};
@@ -12,7 +12,7 @@ use oracle::model::CheckArgs;
 /// Where the answer of an operation has the refusal's number.
 pub fn number_at(op: u32) -> usize {
     match op {
-        MARK | LAY_OUT | PAGE | PROFILE | CEILING | YARD_CEILING | REPLAY => 0,
+        MARK | LAY_OUT | PAGE | PROFILE | CEILING | YARD_CEILING | REPLAY | GAME => 0,
         _ => 1,
     }
 }
@@ -29,6 +29,7 @@ pub fn answered(asked: &Case) -> Case {
         SHEET => sheet(&mut case),
         PAGE => page(&mut case),
         REPLAY => replays::answer(&mut case),
+        GAME => game(&mut case),
         PROFILE => (case.answer[0], case.answer[1]) = numbers(lavtoeu::profile(&case.ins[0])),
         CEILING => number(&mut case, lavtoeu::ceiling(&asked.ins[0])),
         YARD_CEILING => number(&mut case, lavtoeu::yard_ceiling(&asked.ins[0], asked.args[0] as u16)),
@@ -136,6 +137,14 @@ fn sheet(case: &mut Case) {
     let n = lavtoeu::sheet_into(&case.ins[0], &mut text);
     text.truncate(n);
     case.outs = [text, vec![]];
+}
+
+fn game(case: &mut Case) {
+    let [moved, local, limit, turns, ..] = case.args;
+    let (occ, links) = (u32s(&case.ins[1]), u32s(&case.ins[2]));
+    let told = Game { occupancy: &occ, moved, local: local != 0, limit: limit as u16, links: &links, turns };
+    let answer = lavtoeu::closer_can_force(&case.ins[0], told);
+    number(case, answer.map(u64::from));
 }
 
 fn page(case: &mut Case) {

@@ -4,6 +4,7 @@
 mod check_time;
 mod checks;
 mod clock;
+mod game_time;
 mod library;
 mod page_time;
 mod replays;
@@ -14,7 +15,7 @@ mod updates;
 
 use oracle::cases::Case;
 use oracle::rng::Rng;
-use oracle::{calls, model};
+use oracle::{calls, model, wide_calls};
 use std::process::exit;
 use tally::Tally;
 use update_time::JOINS;
@@ -27,7 +28,7 @@ struct Run {
 }
 
 /// The kinds of cases, each with one step of a run.
-const KINDS: [(&str, fn(&mut Run)); 15] = [
+const KINDS: [(&str, fn(&mut Run)); 16] = [
     ("mark", |r| r.call(calls::mark)),
     ("layout", |r| r.call(calls::lay_out)),
     ("image", Run::image),
@@ -43,14 +44,16 @@ const KINDS: [(&str, fn(&mut Run)); 15] = [
     ("ceiling", |r| r.call(calls::ceiling)),
     ("yard-ceiling", |r| r.call(calls::yard_ceiling)),
     ("replay", |r| r.call(calls::replay)),
+    ("game", |r| r.call(wide_calls::game)),
 ];
 
-const TIMES: [(&str, fn(u64)); 5] = [
+const TIMES: [(&str, fn(u64)); 6] = [
     ("time", time::run),
     ("update-time", update_time::run),
     ("check-time", check_time::run),
     ("page-time", page_time::run),
     ("replay-time", replays::time),
+    ("game-time", game_time::run),
 ];
 
 impl Run {

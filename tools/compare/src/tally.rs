@@ -2,7 +2,7 @@
 
 use crate::library;
 use crate::updates::Source;
-use oracle::cases::{Case, CHECK, PAGE, REPLAY, UPDATE};
+use oracle::cases::{Case, CHECK, GAME, PAGE, REPLAY, UPDATE};
 use oracle::layout::{read_image, u16s};
 use oracle::model::{row_at, LINKS, ROW};
 use std::collections::BTreeMap;
@@ -35,6 +35,9 @@ fn end_of(judged: &Case) -> Option<&'static str> {
         (CHECK, 0, 0) => Some("no deadlock"),
         (CHECK, 0, _) => Some("deadlock"),
         (CHECK, 1, _) => Some("erred"),
+        (GAME, 0, _) => {
+            Some(["the closer cannot force it", "the closer can force it"][judged.answer[2] as usize])
+        }
         _ => None,
     }
 }

@@ -1,11 +1,10 @@
-use mathlib.Core.Path.{_≡_, refl, sym, ap, subst, _∙_}
-use mathlib.Core.Bool.{true, false}
-use Prim.Native.Nat.{ℕ, _+_, _-_, _≤_, _<_}
+use mathlib.Core.Path.{_≡_, refl, sym, subst, _∙_}
+use Prim.Native.Nat.{ℕ, _-_, _≤_, _<_}
 use native.Mathlib.Omega.{arith}
 use lib.ListN.{length, getD, drop}
 use denote.Ref.{now}
 use borrow.Author.Needs.{needs}
-use Rattle.game.specs.Game.{isListed, linksFit}
+use Rattle.game.specs.Game.{linksFit}
 use Rattle.game.proofs.FaultLaws.{fit-none, fit-above, fit-twice, fit-turn, fit-end}
 use Rattle.game.proofs.faults.links_fit.Statement.{statement}
 use Rattle.game.proofs.faults.links_fit.Tie as tie

@@ -1,4 +1,4 @@
-use mathlib.Core.Path.{_≡_, refl, sym, ap, ap₂, subst, _∙_}
+use mathlib.Core.Path.{refl, sym, ap, subst, _∙_}
 use mathlib.Core.List.{List}
 use Prim.Native.Nat.{ℕ, _<_}
 use native.Mathlib.Omega.{arith}
@@ -6,7 +6,7 @@ use lib.ListN.{length, getD, take, length-take}
 use denote.Ref.{now}
 use borrow.Author.Needs.{needs}
 use Rattle.update_definition.specs.Update.{Status}
-use Rattle.update_definition.specs.UpdateImage.{UpdatedImage, updatedImage}
+use Rattle.update_definition.specs.UpdateImage.{UpdatedImage, updatedImageWide}
 use Rattle.game.specs.Game.{isBlocked, heldBy, closerWins, finalStatus}
 use Rattle.game.specs.Sets.{linksIn, gameOf}
 use Rattle.game.proofs.PositionLaws.{links-below, closed-in}
@@ -31,11 +31,11 @@ place-requires c κs =
 array-share-prefix-blocking : tie.Need-array-share-prefix-blocking
 array-share-prefix-blocking c = let p = c .before .before .before .before .place in omega (arith, p .ensures .1, p .ensures .2)
 
-slice-aggregate-update-over : tie.Need-slice-aggregate-update-over
-slice-aggregate-update-over c = let p = c .before .before .before .before .before .place in simp length-take (omega (arith, p .ensures .1, p .ensures .2))
+slice-aggregate-update-wide : tie.Need-slice-aggregate-update-wide
+slice-aggregate-update-wide c = let p = c .before .before .before .before .before .place in simp length-take (omega (arith, p .ensures .1, p .ensures .2))
 
-update-over-requires : tie.Need-update-over-requires
-update-over-requires c κs = search needs
+update-wide-requires : tie.Need-update-wide-requires
+update-wide-requires c κs = search needs
 
 is-blocked-requires : tie.Need-is-blocked-requires
 is-blocked-requires c κs = search needs
@@ -51,13 +51,13 @@ unfolding closerWins
 returns c =
     let s = c .before .before .before .before .before .before .before .before .before .before .before .before .before .before .before .before .before .before .before .before .before .before .before .before .before .before in
     let a = s .args in
-    let u = c .before .before .before .update-over in
+    let u = c .before .before .before .update-wide in
     let p = c .before .before .before .before .before .before .before .before .before .place in
     let w = c .before .before .before .before .before .before .before .before .before .before .before .before .before .before .before .copy-entries in
     let m = c .before .before .before .before .before .before .before .before .before .before .before .before .before .before .before .before .before .before .before .copy-bytes in
     let g = gameOf (now (a .image)) (now (a .occ)) (a .o) (now (a .links)) in
     let links = now (a .links) in
-    let ends : List ℕ → List ℕ → List ℕ → Status = λ img occ blocking. updatedImage img occ blocking (a .o .moved .0) (a .o .local) (a .o .limit) .answer .status in
+    let ends : List ℕ → List ℕ → List ℕ → Status = λ img occ blocking. updatedImageWide img occ blocking (a .o .moved .0) (a .o .local) (a .o .limit) .answer .status in
     c .is-blocked .ensures
     ∙ ap isBlocked (ap (λ (x : UpdatedImage). x .answer .status) (u .ensures)
     ∙ ap (λ (z : List ℕ). ends z (p .last .1 .1 .1 .0) (take (p .result) (p .last .1 .1 .1 .1 .0))) (m .ensures)
@@ -74,8 +74,8 @@ wins-with-spec =
     copy-entries-requires
     place-requires
     array-share-prefix-blocking
-    slice-aggregate-update-over
-    update-over-requires
+    slice-aggregate-update-wide
+    update-wide-requires
     is-blocked-requires
     same-length
     same-length-2
