@@ -148,6 +148,14 @@ uint32_t lavtoeu_replay(const uint8_t *recording, size_t recording_len, const ui
  * or moved above 65,535, with a wide image above 999,999), 7, 22 (a train of a diverge record above 999,999), 8, 9, 10; then by 28: a
  * link twice, 0 or at least occupancy_len, too many links or turns. A refused call leaves `answer` as it was. */
 uint32_t lavtoeu_closer_can_force(const uint8_t *image, size_t image_len, const uint32_t *occupancy, size_t occupancy_len, uint32_t moved, uint32_t local, uint16_t limit, const uint32_t *links, size_t links_len, uint32_t turns, uint64_t *answer, size_t answer_len);
+/* Shows the candidate of a slot one record of its train's path: as many of the 32 bytes as `record` has room for, and to answer[0] 1
+ * where it is an Arrive whose link is taken, be it by that train, else 0. The slot's image may be narrow or wide. Refused by 1, 2, 22,
+ * 14, 26, 27; a refused call leaves `record` and `answer` as they were. */
+uint32_t lavtoeu_view(const uint8_t *table, size_t table_len, const uint32_t *occupancy, size_t occupancy_len, const uint8_t *yard, size_t yard_len, uint16_t slot, uint32_t node, uint8_t *record, size_t record_len, uint64_t *answer, size_t answer_len);
+
+/* Marks an Arrive link of that path for the train of the slot, or releases it where marks is 0, whoever holds it. Refused by 1, 2, 22,
+ * 14, 26, 27. */
+uint32_t lavtoeu_act(const uint8_t *table, size_t table_len, uint32_t *occupancy, size_t occupancy_len, const uint8_t *yard, size_t yard_len, uint16_t slot, uint32_t link, uint32_t marks);
 
 #ifdef __cplusplus
 }

@@ -132,15 +132,17 @@ def renumbered_image(part, numbering):
 
 
 def renumbered_call(call, numbering):
-    """A mark's link and train; a check's moved train and blocking links; a game's links; the slot of any call that has one."""
+    """A mark's link and train; a check's moved train and blocking links; a game's links, an act's link; the slot of any call that has one."""
     kind, line, *given = call
     if kind == "mark":
         return (kind, line, numbering.link(given[0]), numbering.train(given[1]))
     if kind == "check":
         told = {name: numbering.train(n) if name == "moved" else n for name, n in given[0].items()}
         return (kind, line, {name: [numbering.link(l) for l in n] if name == "blocking" else n for name, n in told.items()})
+    if kind == "act":
+        given[2] = numbering.link(given[2])
     if kind in ("report", "replay") or not given or not 1 <= given[0] <= numbering.slots:
-        return call
+        return (kind, line, *given)
     given[1:] = [[numbering.link(l) for l in x] if isinstance(x, list) else x for x in given[1:]]
     return (kind, line, numbering.train(given[0]), *given[1:])
 

@@ -164,7 +164,7 @@ fn est_from(bytes: &[u8], at: usize) -> Est {
     }
 }
 
-fn node_from(bytes: &[u8], at: usize) -> Node {
+pub(crate) fn node_from(bytes: &[u8], at: usize) -> Node {
     Node {
         est_type: est_type(bytes[at + 26]),
         link: word(bytes, at + 16),

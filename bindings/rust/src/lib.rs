@@ -3,7 +3,7 @@
 //! Every function takes slices and numbers and is total: any bytes get an answer. A refusal has a number and a place, and a
 //! refused call changes no buffer. The bytes of link table, image, yard, report and bundle are in the project's
 //! docs/LAYOUTS.md, the numbers of refusals in its docs/REFUSALS.md. [`Image`], [`table`], [`yard`], [`parts`], [`rows`],
-//! [`bundle`] and [`Recording`] write and read them.
+//! [`bundle`] and [`Recording`] write and read them. [`Candidate`] is one train's hand on a sitting.
 //!
 //! ```
 //! use lavtoeu::{mark, table, Link, Refusal};
@@ -18,6 +18,7 @@
 //! ```
 
 mod game;
+mod candidate;
 mod image;
 pub mod layout;
 mod parts;
@@ -27,6 +28,7 @@ mod table;
 mod version;
 
 pub use game::{closer_can_force, Game};
+pub use candidate::{Candidate, View};
 pub use image::{Diverge, Image, Node};
 pub use parts::{bundle, parts};
 pub use recording::{replay, Check, Recording};
@@ -74,6 +76,8 @@ impl Refusal {
             19 => "malformed recording, or a list of another length",
             22 => "a train number that is too large",
             28 => "bad links or turns of a game",
+            26 => "no accepted image in the candidate's slot",
+            27 => "not of the candidate's path",
             29 => "outside the training track profile",
             _ => "no number of a refusal",
         }

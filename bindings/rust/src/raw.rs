@@ -75,4 +75,29 @@ extern "C" {
         answer_len: usize,
     ) -> u32;
     pub fn lavtoeu_page(image: *const u8, image_len: usize, page: *mut u8, page_len: usize) -> u32;
+    pub fn lavtoeu_view(
+        table: *const u8,
+        table_len: usize,
+        occupancy: *const u32,
+        occupancy_len: usize,
+        yard: *const u8,
+        yard_len: usize,
+        slot: u16,
+        node: u32,
+        record: *mut u8,
+        record_len: usize,
+        answer: *mut u64,
+        answer_len: usize,
+    ) -> u32;
+    pub fn lavtoeu_act(
+        table: *const u8,
+        table_len: usize,
+        occupancy: *mut u32,
+        occupancy_len: usize,
+        yard: *const u8,
+        yard_len: usize,
+        slot: u16,
+        link: u32,
+        marks: u32,
+    ) -> u32;
 }

@@ -96,7 +96,7 @@ fn occupancy() -> Vec<u16> {
 }
 
 /// The calls with the stack that each may take, as bindings/README.md has it.
-const BOUNDS: [(&str, usize); 13] = [
+const BOUNDS: &[(&str, usize)] = &[
     ("version", 1 << 10),
     ("mark", 1 << 10),
     ("judge", 20 << 10),
@@ -110,10 +110,12 @@ const BOUNDS: [(&str, usize); 13] = [
     ("yard_ceiling", 20 << 10),
     ("replay", 160 << 10),
     ("closer_can_force", 192 << 10),
+    ("view", 20 << 10),
+    ("act", 20 << 10),
 ];
 
 /// The stack of each call of `BOUNDS` over images that `image` makes of a train's number.
-fn stacks(image: fn(u16) -> Vec<u8>, m: Move) -> [usize; 13] {
+fn stacks(image: fn(u16) -> Vec<u8>, m: Move) -> Vec<usize> {
     let (one, mut spare) = (image(1), image(1));
     let header = Image::from_bytes(&one).unwrap();
     let est = est_bytes(&header.ests);
@@ -141,6 +143,10 @@ fn stacks(image: fn(u16) -> Vec<u8>, m: Move) -> [usize; 13] {
     let mut list = [9; 2];
     let (mut start, mut held) = (lavtoeu::yard(&[&one, &laid_out(2, 4)]), m.occupancy.to_vec());
     let (played, replays) = stack_of(|| replay(&sitting, &table, &mut start, &mut held, &mut list));
+    let (other, mut wide) = (lavtoeu::yard(&[&one, &laid_out(2, 4)]), vec![0; m.occupancy.len()]);
+    let mut candidate = Candidate::new(&table, &mut wide, &other, 1);
+    let (viewed, views) = stack_of(|| candidate.view(1));
+    let (acted, acts) = stack_of(|| candidate.mark(1));
 
     assert_eq!((number, marked, judged, laid), (VERSION, Ok(()), Ok(()), Ok(())));
     assert_eq!(updated, Updated { status: Ok(Status::Success), rounds: 2, strays: 0, steps: 3, holder: 0, met: 2 });
@@ -153,7 +159,8 @@ fn stacks(image: fn(u16) -> Vec<u8>, m: Move) -> [usize; 13] {
     let game = Game { occupancy: &wide, moved: 2, local: m.local, limit: m.limit, links: &[1, 2, 3], turns: 6 };
     let (forced, games) = stack_of(|| closer_can_force(&one, game));
     assert_eq!(forced, Ok(true));
-    [versions, marks, judges, lays, updates, checks, sheets, pages, profiles, ceilings, yard_ceilings, replays, games]
+    assert_eq!((viewed.is_ok(), acted), (true, Ok(())));
+    vec![versions, marks, judges, lays, updates, checks, sheets, pages, profiles, ceilings, yard_ceilings, replays, games, views, acts]
 }
 
 #[test]

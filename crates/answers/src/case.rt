@@ -25,6 +25,9 @@ pub(crate) const CEILING: u32 = 15;
 pub(crate) const YARD_CEILING: u32 = 16;
 
 pub(crate) const GAME: u32 = 22;
+pub(crate) const VIEW: u32 = 24;
+
+pub(crate) const ACT: u32 = 25;
 
 // ---- the head: size, operation, tag, line, 8 arguments, 4 lengths of inputs, 8 numbers of the answer, 2 lengths of outputs
 

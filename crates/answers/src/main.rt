@@ -4,6 +4,7 @@
 ghost use mathlib.Core.Path.{_≡_};
 ghost use lib.ListN.{length};
 
+mod act;
 mod case;
 mod check;
 mod lay_out;
@@ -15,6 +16,7 @@ mod page;
 mod print;
 mod sheet;
 mod update;
+mod view;
 
 use ceiling;
 use ceiling::StepCeiling;
@@ -206,6 +208,18 @@ fn answer(head: &[u8], body: &[u8], sums: bool) -> bool {
     }
     if operation == case::LIST {
         return list::answer(head, body, sums);
+    }
+    answer_candidate(head, body, sums)
+}
+
+// A candidate's call, or a leaf.
+fn answer_candidate(head: &[u8], body: &[u8], sums: bool) -> bool {
+    let operation = case::operation(head);
+    if operation == case::VIEW {
+        return view::answer(head, body, sums);
+    }
+    if operation == case::ACT {
+        return act::answer(head, body, sums);
     }
     leaf::answer(head, body, sums)
 }

@@ -9,13 +9,15 @@ use lib.ListN.{length}
 use borrow.Author.Tests.{eqb-true, eqb-false, ne-eqb, ltb-true, lt-ltb, leb-true, le-leb, not-true}
 use Rattle.link_rules.specs.LinkIdx.{noTrain}
 use Rattle.link_rules.specs.Network.{linkCount, tableFits}
+use Rattle.link_rules.specs.Refusals.{noRefusal}
 use Rattle.link_rules.specs.AdvanceRewind.{tableFault, entriesFault, isLink, updateLinksBlocked, markedBy}
 use Rattle.link_rules.specs.declared.link_idx.LinkIdx.{LinkIdx}
 use Rattle.disp_structs.specs.Values.{isArrive}
 use Rattle.disp_structs.specs.declared.LinkEvent.{LinkEvent}
 use Rattle.image.specs.Image.{pathCount, nodeAt}
-use Rattle.image_fault.specs.ImageFault.{eventFits, arrivesOn, arrived, imageFault}
-use Rattle.image_fault.proofs.AcceptLaws.{or-else-clean, refused-clean, node-fits, clean-node, accepted as image-accepted}
+use Rattle.image_fault.specs.ImageFault.{eventFits, arrivesOn, arrived, faultWith}
+use Rattle.image_fault.specs.declared.Widths.the-variants.{Either}
+use Rattle.image_fault.proofs.AcceptLaws.{or-else-clean, refused-clean, node-fits, clean-node, accepted-in}
 use Rattle.image_fault.proofs.ScanLaws.{both}
 use Rattle.wide_occupancy.specs.WideOccupancy.{largest, sixDigits, largeTrainFault, markWideOf}
 use Rattle.wide_occupancy.proofs.WideMarkLaws.{wide-by-tests}
@@ -38,7 +40,7 @@ event-arrives links l e h k =
 module _ (img : List ℕ) (links : ℕ) (ok : isAccepted img links ≡ true) where
   node-event : (i : ℕ) → i < pathCount img → eventFits links (nodeAt img i .«link_event») ≡ true
   unfolding isAccepted
-  node-event i h = node-fits img links i (clean-node img links (image-accepted img links (eqb-true (imageFault img links .number) 0 ok) .values) i h) .event
+  node-event i h = node-fits img links i (clean-node img links (accepted-in Either img links (eqb-true (faultWith Either noRefusal img links .number) 0 ok) .values) i h) .event
 
   path-link : (l : LinkIdx) (n : ℕ) → n ≤ pathCount img → arrived img l n ≡ true → (l .0 < links) × (l .0 ≡ 0 → ⊥)
   unfolding arrived

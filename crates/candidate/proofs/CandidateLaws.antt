@@ -13,14 +13,15 @@ use Rattle.link_rules.specs.LinkIdx.{noTrain, occupied}
 use Rattle.link_rules.specs.Network.{linkCount}
 use Rattle.link_rules.specs.declared.link_idx.LinkIdx.{LinkIdx}
 use Rattle.link_rules.specs.declared.refusal.Refusal.{Refusal}
-use Rattle.link_rules.specs.Refusals.{orElse, refusedUnless}
+use Rattle.link_rules.specs.Refusals.{noRefusal, orElse, refusedUnless}
 use Rattle.link_rules.specs.AdvanceRewind.{tableFault, entriesFault}
 use Rattle.link_rules.specs.Octets.{leAt}
 use Rattle.disp_structs.specs.Values.{isArrive}
 use Rattle.disp_structs.specs.declared.LinkEvent.{LinkEvent}
 use Rattle.image.specs.Image.{pathCount, nodeAt}
-use Rattle.image_fault.specs.ImageFault.{countsFit, imageFits, arrivesOn, arrived, imageFault}
-use Rattle.image_fault.proofs.AcceptLaws.{or-else-clean, refused-clean, accepted as image-accepted}
+use Rattle.image_fault.specs.ImageFault.{countsFit, imageFits, arrivesOn, arrived, faultWith}
+use Rattle.image_fault.specs.declared.Widths.the-variants.{Either}
+use Rattle.image_fault.proofs.AcceptLaws.{or-else-clean, refused-clean, accepted-in}
 use Rattle.wide_occupancy.specs.WideOccupancy.{sixDigits, largeTrainFault}
 use Rattle.yard_check.specs.Yard.{slotCount, partOf, yardFault}
 use Rattle.candidate.specs.Candidate.{candidateImage, isAccepted, isArriveLink, sittingFault, viewFault, actRefusal, shown, linkTaken, View, seen, seenBy, viewOf}
@@ -43,7 +44,7 @@ image-is yard slot h k = rw (le-leb 1 slot h, le-leb slot (slotCount yard) k)
 pub none-accepted : (links : ℕ) → isAccepted [] links ≡ true → ⊥
 unfolding isAccepted imageFits countsFit leAt
 none-accepted links h =
-    let z : _≡_ {A = Bool} false true = image-accepted [] links (eqb-true (imageFault [] links .number) 0 h) .fits in
+    let z : _≡_ {A = Bool} false true = accepted-in Either [] links (eqb-true (faultWith Either noRefusal [] links .number) 0 h) .fits in
     let k : _≡_ {A = ℕ} 0 1 = cc in absurd (omega arith)
 
 -- an accepted image stands in one of the yard's slots

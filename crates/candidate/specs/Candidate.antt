@@ -6,7 +6,7 @@ use lib.Dec.{ltb, leb, eqb}
 use lib.ListN.{length, take, drop}
 use Rattle.link_rules.specs.LinkIdx.{noTrain, occupied}
 use Rattle.link_rules.specs.Network.{linkCount}
-use Rattle.link_rules.specs.Refusals.{orElse, refusedUnless}
+use Rattle.link_rules.specs.Refusals.{noRefusal, orElse, refusedUnless}
 use Rattle.link_rules.specs.AdvanceRewind.{updateLinksBlocked, tableFault, entriesFault, Marked, markedBy}
 use Rattle.link_rules.specs.declared.link_idx.LinkIdx.{LinkIdx}
 use Rattle.link_rules.specs.declared.link_idx.TrainIdx.{TrainIdx}
@@ -14,7 +14,8 @@ use Rattle.link_rules.specs.declared.refusal.Refusal.{Refusal}
 use Rattle.disp_structs.specs.Values.{isArrive}
 use Rattle.disp_structs.specs.declared.LinkEvent.{LinkEvent}
 use Rattle.image.specs.Image.{estCount, pathCount, nodePlace, nodeAt}
-use Rattle.image_fault.specs.ImageFault.{arrived, imageFault}
+use Rattle.image_fault.specs.ImageFault.{arrived, faultWith}
+use Rattle.image_fault.specs.declared.Widths.the-variants.{Either}
 use Rattle.text.specs.Text.{written}
 use Rattle.wide_occupancy.specs.WideOccupancy.{sixDigits, largeTrainFault}
 use Rattle.yard_check.specs.Yard.{slotCount, partOf, yardFault}
@@ -26,9 +27,9 @@ use Rattle.candidate.specs.declared.Viewed.{Viewed}
 unfoldable pub candidateImage : (yard : List ℕ) (slot : ℕ) → List ℕ
 candidateImage yard slot = cond (leb 1 slot && leb slot (slotCount yard)) (partOf yard slot) []
 
--- it passes 6 to 9 over so many links
+-- an image of either width that passes 6 to 9 over so many links, 22 of a diverge record among them
 unfoldable pub isAccepted : (img : List ℕ) (links : ℕ) → Bool
-isAccepted img links = eqb (imageFault img links .number) 0
+isAccepted img links = eqb (faultWith Either noRefusal img links .number) 0
 
 -- an Arrive link of the path
 unfoldable pub isArriveLink : (img : List ℕ) (l : LinkIdx) → Bool

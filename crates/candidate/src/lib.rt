@@ -12,6 +12,7 @@ use disp_structs::LinkEvent;
 use disp_structs::events;
 use image::codec;
 use image_fault;
+use image_fault::Widths;
 use link_rules::link_idx::LinkIdx;
 use link_rules::link_idx::TrainIdx;
 use link_rules::network;
@@ -92,11 +93,15 @@ fn sitting_fault(table: &[u8], occupancy: &[u32], yard: &[u8], slot: u16) -> Ref
     refusal::or_else(bad_table, refusal::or_else(bad_length, late))
 }
 
-// The image passes 6 to 9.
+// The image, of either width, passes 6 to 9, with 22 of a diverge record at the end of 7.
 fn is_accepted(image: &[u8], links: u32) -> bool
     ensures { λ r. ⌜ r ≡ isAccepted (now (image .entry)) links ⌝ }
 {
-    let fault = image_fault::image_fault(image, links);
+    let none = Refusal {
+        number: 0,
+        place: 0,
+    };
+    let fault = image_fault::fault_with(image, links, Widths::Either, none);
     fault.number == 0
 }
 

@@ -17,6 +17,7 @@ use Rattle.ceiling.specs.declared.StepCeiling.{StepCeiling}
 use Rattle.sitting.specs.Replay.{Replayed}
 use Rattle.game.specs.Game.{Game}
 use Rattle.game.specs.declared.Verdict.{Verdict}
+use Rattle.candidate.specs.Candidate.{View}
 
 -- 0 where there is no fault, else document 01's number, with the place in the upper 16 bits
 abbrev pub faultWord : Refusal → ℕ
@@ -139,3 +140,16 @@ pub record ToldReplay (k : Replayed) (r : ℕ) (yard occupancy list : List ℕ) 
   pub yardBytes : yard ≡ k .yard
   pub entries : occupancy ≡ k .occupancy
   pub numbers : list ≡ k .list
+
+-- ---- a candidate's view
+
+-- whether the link is taken in the first word; a refused call leaves the words as they were
+abbrev pub viewWords : ℕ → Bool → List ℕ → List ℕ
+viewWords zero taken ws = set ws 0 (bitOf taken)
+viewWords (suc n) taken ws = ws
+
+-- the view v as C sees it: the number that is returned, the record's bytes and the words that are left
+pub record ToldView (v : View) (r : ℕ) (bytes ws₀ ws : List ℕ) : Type 0 where
+  pub word : r ≡ faultWord (v .answer .fault)
+  pub recordBytes : bytes ≡ v .bytes
+  pub words : ws ≡ viewWords (v .answer .fault .number) (v .answer .taken) ws₀

@@ -20,7 +20,11 @@ ghost use Rattle.text.specs.Text.{textOf, written};
 ghost use Rattle.path_page.specs.Page.{drawingRule, pageFault, pageAfter};
 ghost use Rattle.sitting.specs.Replay.{replayOf};
 ghost use Rattle.free_path_c.specs.Words.{gameWith, verdictWords, ToldGame};
+ghost use Rattle.candidate.specs.Candidate.{viewOf, actOf};
 ghost use Rattle.free_path_c.specs.Words.{answerWord, faultWord, settingsOf, flagOf, statusWord, codeOf, errorsOf, Told, ceilingWords, ToldCeiling, checkWord, bitOf, threeWords, checkWords, ToldCheck, ToldReplay};
+ghost use Rattle.free_path_c.specs.Words.{viewWords, ToldView};
+use candidate;
+use candidate::Viewed;
 use ceiling;
 use ceiling::StepCeiling;
 use disp_structs::Metres;
@@ -372,4 +376,52 @@ pub extern "C" fn lavtoeu_page(image: &[u8], page: &mut [u8]) -> u32
     ensures { λ r. ⌜ (r ≡ faultWord (pageFault (now (image .entry)) (now (page .entry)))) × (now (page .exit) ≡ pageAfter drawingRule (now (image .entry)) (now (page .entry))) ⌝ }
 {
     fault_word(path_page::page(image, page))
+}
+
+// ---- a candidate's calls
+
+// Shows a candidate the path record of a node of the train in their slot: as many of its 32 bytes as `bytes` has room for; the first word of `answer` gets 1
+// where the record is an Arrive whose link is taken, else 0. Answers as lavtoeu_mark does; a refused call leaves `bytes` and `answer`.
+#[no_mangle]
+pub extern "C" fn lavtoeu_view(
+    table: &[u8],
+    occupancy: &[u32],
+    yard: &[u8],
+    slot: u16,
+    node: u32,
+    bytes: &mut [u8],
+    answer: &mut [u64],
+) -> u32
+    ensures { λ r. ⌜ ToldView (viewOf (now (table .entry)) (now (occupancy .entry)) (now (yard .entry)) slot node (now (bytes .entry)))
+        r (now (bytes .exit)) (now (answer .entry)) (now (answer .exit)) ⌝ }
+{
+    let v = candidate::view(table, occupancy, yard, slot, node, bytes);
+    put_view(answer, v);
+    fault_word(v.fault)
+}
+
+// A refused call leaves the words as they were.
+fn put_view(answer: &mut [u64], v: Viewed)
+    ensures { λ _. ⌜ now (answer .exit) ≡ viewWords (v .fault .number) (v .taken) (now (answer .entry)) ⌝ }
+{
+    if v.fault.number == 0 {
+        put_word(answer, 0, bit_of(v.taken));
+        return;
+    }
+}
+
+// Marks a link of the path for the train in the candidate's slot, or releases it where marks is 0, whoever holds it. Answers as lavtoeu_mark does.
+#[no_mangle]
+pub extern "C" fn lavtoeu_act(
+    table: &[u8],
+    occupancy: &mut [u32],
+    yard: &[u8],
+    slot: u16,
+    link: u32,
+    marks: u32,
+) -> u32
+    ensures { λ r. ⌜ (r ≡ answerWord (actOf (now (table .entry)) (now (occupancy .entry)) (now (yard .entry)) slot (record { 0 = link }) (flagOf marks) .answer))
+        × (now (occupancy .exit) ≡ actOf (now (table .entry)) (now (occupancy .entry)) (now (yard .entry)) slot (record { 0 = link }) (flagOf marks) .occupancy) ⌝ }
+{
+    answer_word(candidate::act(table, occupancy, yard, slot, LinkIdx(link), flag_of(marks)))
 }

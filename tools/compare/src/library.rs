@@ -1,9 +1,10 @@
 //! The calls of the proved library, each over a case. Every buffer that is lent is an allocation of just its length.
 
+use crate::candidates;
 use crate::replays;
 use lavtoeu::{Game, Move, Order, Refusal};
 use oracle::cases::{
-    Case, CEILING, CHECK, GAME, LAY_OUT, MARK, PAGE, PROFILE, REPLAY, SHEET, UPDATE, YARD_CEILING,
+    Case, ACT, CEILING, CHECK, GAME, LAY_OUT, MARK, PAGE, PROFILE, REPLAY, SHEET, UPDATE, VIEW, YARD_CEILING,
 };
 use oracle::gen::UpdateCase;
 use oracle::layout::{u16_bytes, u16s, u32s};
@@ -13,6 +14,7 @@ use oracle::model::CheckArgs;
 pub fn number_at(op: u32) -> usize {
     match op {
         MARK | LAY_OUT | PAGE | PROFILE | CEILING | YARD_CEILING | REPLAY | GAME => 0,
+        VIEW | ACT => 0,
         _ => 1,
     }
 }
@@ -30,6 +32,8 @@ pub fn answered(asked: &Case) -> Case {
         PAGE => page(&mut case),
         REPLAY => replays::answer(&mut case),
         GAME => game(&mut case),
+        VIEW => candidates::view(&mut case),
+        ACT => candidates::act(&mut case),
         PROFILE => (case.answer[0], case.answer[1]) = numbers(lavtoeu::profile(&case.ins[0])),
         CEILING => number(&mut case, lavtoeu::ceiling(&asked.ins[0])),
         YARD_CEILING => number(&mut case, lavtoeu::yard_ceiling(&asked.ins[0], asked.args[0] as u16)),

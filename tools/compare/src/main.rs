@@ -1,6 +1,7 @@
 //! The proved library beside the oracle: the same calls to both, and every number of the answer and every byte
 //! of each buffer compared.
 
+mod candidates;
 mod check_time;
 mod checks;
 mod clock;
@@ -28,7 +29,7 @@ struct Run {
 }
 
 /// The kinds of cases, each with one step of a run.
-const KINDS: [(&str, fn(&mut Run)); 16] = [
+const KINDS: &[(&str, fn(&mut Run))] = &[
     ("mark", |r| r.call(calls::mark)),
     ("layout", |r| r.call(calls::lay_out)),
     ("image", Run::image),
@@ -45,15 +46,19 @@ const KINDS: [(&str, fn(&mut Run)); 16] = [
     ("yard-ceiling", |r| r.call(calls::yard_ceiling)),
     ("replay", |r| r.call(calls::replay)),
     ("game", |r| r.call(wide_calls::game)),
+    ("view", |r| r.call(calls::view)),
+    ("act", |r| r.call(calls::act)),
+    ("candidate", |r| candidates::pair(&mut r.rng, &mut r.tally)),
 ];
 
-const TIMES: [(&str, fn(u64)); 6] = [
+const TIMES: &[(&str, fn(u64))] = &[
     ("time", time::run),
     ("update-time", update_time::run),
     ("check-time", check_time::run),
     ("page-time", page_time::run),
     ("replay-time", replays::time),
     ("game-time", game_time::run),
+    ("candidate-time", candidates::time),
 ];
 
 impl Run {
@@ -81,11 +86,15 @@ impl Run {
     }
 }
 
+fn names<T>(list: &[(&str, T)]) -> String {
+    list.iter().map(|(name, _)| *name).collect::<Vec<_>>().join(", ")
+}
+
 fn usage() -> ! {
     eprintln!("usage: compare KIND SEED COUNT, compare TIME SEED, or compare join PATH COUNT");
-    eprintln!("KIND: {}", KINDS.map(|(name, _)| name).join(", "));
-    eprintln!("TIME: {}", TIMES.map(|(name, _)| name).join(", "));
-    eprintln!("PATH: {}", JOINS.map(|(name, _)| name).join(", "));
+    eprintln!("KIND: {}", names(KINDS));
+    eprintln!("TIME: {}", names(TIMES));
+    eprintln!("PATH: {}", names(&JOINS));
     eprintln!("The first case that differs is written to the file `different.case`.");
     exit(2)
 }
@@ -100,10 +109,10 @@ fn main() {
     let args: Vec<String> = std::env::args().skip(1).collect();
     let number = |s: &String| s.parse::<u64>().unwrap_or_else(|_| usage());
     match &args[..] {
-        [name, seed] => named(&TIMES, name)(number(seed)),
+        [name, seed] => named(TIMES, name)(number(seed)),
         [join, path, count] if join == "join" => update_time::joins(named(&JOINS, path), number(count)),
         [kind, seed, count] => {
-            let (step, mut run) = (named(&KINDS, kind), Run::new(number(seed)));
+            let (step, mut run) = (named(KINDS, kind), Run::new(number(seed)));
             (0..number(count)).for_each(|_| step(&mut run));
             println!("{kind}: {count} cases, {} differ", run.tally.differ);
             run.tally.print();

@@ -2,7 +2,7 @@
 
 use crate::library;
 use crate::updates::Source;
-use oracle::cases::{Case, CHECK, GAME, PAGE, REPLAY, UPDATE};
+use oracle::cases::{Case, CHECK, GAME, PAGE, REPLAY, UPDATE, VIEW};
 use oracle::layout::{read_image, u16s};
 use oracle::model::{row_at, LINKS, ROW};
 use std::collections::BTreeMap;
@@ -10,7 +10,8 @@ use std::collections::BTreeMap;
 /// The number of cases whose answers differ, how many were refused by each number (0: by none), how updates and checks
 /// ended, how often a slot of a check has each code, in how many updates and slots a train was met and in how many of them
 /// another than the moved one, how many updates came from each generator, of pages how many lines there were and at how many
-/// the offset is an exact half of a metre, and of replays how many steps were refused by each number (0: by none).
+/// the offset is an exact half of a metre, of replays how many steps were refused by each number (0: by none), of views how many
+/// links are taken, and of pairs of sittings how often they agree and do not agree after an act, by whether it is a mark.
 #[derive(Default)]
 pub struct Tally {
     pub differ: u64,
@@ -23,6 +24,8 @@ pub struct Tally {
     lines: u64,
     halves: u64,
     steps: BTreeMap<u16, u64>,
+    taken: u64,
+    agreements: BTreeMap<(bool, bool), u64>,
 }
 
 /// How an update or a check ends that is not refused.
@@ -68,10 +71,31 @@ impl Tally {
             let list = u16s(&judged.outs[1][judged.ins[2].len()..]);
             list.into_iter().for_each(|n| count(&mut self.steps, n));
         }
+        self.taken += (judged.op == VIEW && judged.answer[2] == 1) as u64;
         if library::answered(asked) != judged {
             let mut bytes = vec![];
             judged.write(&mut bytes);
             self.differs(&bytes);
+        }
+    }
+
+    /// The same call in two sittings that agree for a candidate, who must be told the same.
+    pub fn add_pair(&mut self, one: &Case, two: &Case, same: bool) {
+        self.add(one);
+        self.add(two);
+        if !same {
+            let mut bytes = vec![];
+            one.write(&mut bytes);
+            two.write(&mut bytes);
+            self.differs(&bytes);
+        }
+    }
+
+    /// A mark must keep the agreement.
+    pub fn add_agreement(&mut self, marks: bool, agree: bool) {
+        count(&mut self.agreements, (marks, agree));
+        if marks && !agree {
+            self.differs(&[]);
         }
     }
 
@@ -129,6 +153,13 @@ impl Tally {
         }
         for (number, n) in &self.steps {
             println!("  steps {} {number}: {n}", if *number == 0 { "done, not refused" } else { "refused" });
+        }
+        if self.taken > 0 {
+            println!("  views of a link that is taken: {}", self.taken);
+        }
+        for ((marks, agree), n) in &self.agreements {
+            let (act, not) = (if *marks { "mark" } else { "release" }, if *agree { "" } else { "not " });
+            println!("  after a {act} the sittings {not}agree: {n}");
         }
         if self.lines > 0 {
             println!("  lines: {}, exact halves among their offsets: {}", self.lines, self.halves);

@@ -1,5 +1,6 @@
 //! Times of the proved library and of the oracle on the same bytes, in one run.
 
+use crate::candidates;
 use crate::check_time;
 use crate::clock::best;
 use crate::library;
@@ -97,4 +98,5 @@ pub fn run(seed: u64) {
     check_time::run(seed);
     page_time::run(seed);
     replays::time(seed);
+    candidates::time(seed);
 }

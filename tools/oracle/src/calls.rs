@@ -7,6 +7,7 @@ use crate::layout::*;
 use crate::leaves;
 use crate::model::{LINKS, ROW};
 use crate::rng::Rng;
+use crate::trials::candidate::{some_link, some_node, some_sitting};
 use crate::trials::replay::some_recording;
 use crate::wide_calls;
 use crate::yards::*;
@@ -262,6 +263,21 @@ pub fn replay(rng: &mut Rng) -> Case {
     Case::replay(&recording, &y, list)
 }
 
+/// A candidate's view of a node, in buffers of some lengths.
+pub fn view(rng: &mut Rng) -> Case {
+    let (y, slot) = some_sitting(rng);
+    let node = some_node(rng, &y, slot);
+    let room = rng.pick(&[0, 1, 31, 32, 32, 32, 32, 40]);
+    Case::view(&y, slot, node, &vec![0xA5; room])
+}
+
+/// A candidate's mark or release.
+pub fn act(rng: &mut Rng) -> Case {
+    let (y, slot) = some_sitting(rng);
+    let link = some_link(rng, &y, slot);
+    Case::act(&y, slot, link, rng.pick(&[0, 0, 1, u32::MAX]))
+}
+
 /// A case of any operation of document 01.
 pub fn any(rng: &mut Rng) -> Case {
     match rng.below(100) {
@@ -296,6 +312,8 @@ pub fn by_name(name: &str, rng: &mut Rng) -> Option<Case> {
         "widen" => wide_calls::widen(rng),
         "narrow" => wide_calls::narrow(rng),
         "replay" => replay(rng),
+        "view" => view(rng),
+        "act" => act(rng),
         "any" => any(rng),
         _ => return None,
     })

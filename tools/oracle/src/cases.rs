@@ -1,12 +1,14 @@
 //! Cases as bytes: arguments, input buffers and the answer of one call.
 //! README.md describes the format.
 
+use crate::candidate;
 use crate::game::{closer_can_force, Game};
 use crate::layout::*;
 use crate::leaves;
 use crate::model::{self, CheckArgs, Checked, Outcome, Updated};
 use crate::replay;
 use crate::wide::{self, WideArgs};
+use crate::wide_calls::WideYard;
 use crate::yards::Yard;
 
 pub const MARK: u32 = 1;
@@ -33,6 +35,8 @@ pub const WIDEN: u32 = 20;
 pub const NARROW: u32 = 21;
 pub const GAME: u32 = 22;
 pub const REPLAY: u32 = 23;
+pub const VIEW: u32 = 24;
+pub const ACT: u32 = 25;
 
 const HEAD: usize = 104;
 /// The length of an output buffer that is as its input was.
@@ -60,6 +64,8 @@ fn before(op: u32) -> [Option<usize>; 2] {
         UNION => [Some(0), None],
         PAGE => [Some(1), None],
         REPLAY => [Some(3), None],
+        VIEW => [Some(3), None],
+        ACT => [Some(1), None],
         _ => [None, None],
     }
 }
@@ -160,6 +166,18 @@ impl Case {
         Case { op: REPLAY, args: [list as u32, 0, 0, 0, 0, 0, 0, 0], ins, ..Case::default() }
     }
 
+    /// A candidate's view of a node, in a buffer for its record.
+    pub fn view(y: &WideYard, slot: u16, node: u32, record: &[u8]) -> Case {
+        let ins = [y.table.clone(), u32_bytes(&y.occ), y.yard.clone(), record.to_vec()];
+        Case { op: VIEW, args: [slot as u32, node, 0, 0, 0, 0, 0, 0], ins, ..Case::default() }
+    }
+
+    /// A candidate's mark or release.
+    pub fn act(y: &WideYard, slot: u16, link: u32, marks: u32) -> Case {
+        let ins = [y.table.clone(), u32_bytes(&y.occ), y.yard.clone(), vec![]];
+        Case { op: ACT, args: [slot as u32, link, marks, 0, 0, 0, 0, 0], ins, ..Case::default() }
+    }
+
     pub fn tagged(mut self, tag: u32) -> Case {
         self.tag = tag;
         self
@@ -184,6 +202,8 @@ impl Case {
             WIDE_CHECK => self.answer_wide_check(),
             GAME => self.answer_game(),
             REPLAY => self.answer_replay(),
+            VIEW => self.answer_view(),
+            ACT => self.answer_act(),
             WIDEN => self.answer_conversion(wide::widen),
             NARROW => self.answer_conversion(wide::narrow),
             YARD_CEILING => self.put_number(model::yard_ceiling(&self.ins[0], self.args[0] as u16)),
@@ -291,6 +311,28 @@ impl Case {
         let r = replay::replay(&recording, &table, &mut yard, &mut occ, &mut list);
         self.put_plain(r);
         self.outs = [yard, u16_bytes(&[occ, list].concat())];
+    }
+
+    /// The buffer gets as many bytes of the record as it has room for.
+    fn answer_view(&mut self) {
+        let [table, occ, yard, mut record] = self.ins.clone();
+        let [slot, node, ..] = self.args;
+        let seen = candidate::view(&table, &u32s(&occ), &yard, slot as u16, node);
+        if let Ok((bytes, taken)) = seen {
+            let n = record.len().min(bytes.len());
+            record[..n].copy_from_slice(&bytes[..n]);
+            self.answer[2] = taken as u32;
+        }
+        self.put_plain(seen.map(|_| ()));
+        self.outs = [record, vec![]];
+    }
+
+    fn answer_act(&mut self) {
+        let mut occ = u32s(&self.ins[1]);
+        let [slot, link, marks, ..] = self.args;
+        let r = candidate::act(&self.ins[0], &mut occ, &self.ins[2], slot as u16, link, marks != 0);
+        self.put_plain(r);
+        self.outs = [u32_bytes(&occ), vec![]];
     }
 
     fn answer_conversion(&mut self, convert: fn(&[u8], &mut [u8]) -> Result<(), Refusal>) {

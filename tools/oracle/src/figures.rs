@@ -80,6 +80,8 @@ fn names(c: &Case) -> Vec<String> {
         LAY_OUT => vec![done("layout", a[0])],
         PAGE => vec![done("page", a[0])],
         REPLAY => vec![done("replay", a[0])],
+        VIEW => vec![done("view", a[0])],
+        ACT => vec![done("act", a[0])],
         PROFILE => vec![done("profile", a[0])],
         CEILING => vec![done("ceiling", a[0])],
         YARD_CEILING => vec![done("yard ceiling", a[0])],

@@ -65,6 +65,16 @@ fn replay(c: &Case) -> String {
     format!("{} {left}", fault(c.answer[0], c.answer[1]))
 }
 
+/// Whether the link is taken, and the buffer of the record.
+fn view(c: &Case) -> String {
+    let [number, place, taken, ..] = c.answer;
+    let answer = match number {
+        0 => format!("taken {}", ["no", "yes"][taken as usize]),
+        _ => refused(number, place),
+    };
+    format!("{answer} record {}", sum_of(&c.outs[0]))
+}
+
 fn leaf(c: &Case) -> String {
     let [x, y, z, ..] = c.answer;
     if c.op == UNION && x == 0 {
@@ -77,7 +87,7 @@ fn leaf(c: &Case) -> String {
 pub fn words(c: &Case) -> String {
     let [number, place, ..] = c.answer;
     match c.op {
-        MARK | WIDE_MARK => format!("{} occupancy {}", fault(number, place), sum_of(&c.outs[0])),
+        MARK | WIDE_MARK | ACT => format!("{} occupancy {}", fault(number, place), sum_of(&c.outs[0])),
         LAY_OUT => format!("{} image {}", fault(number, place), sum_of(&c.outs[0])),
         UPDATE | WIDE_UPDATE => update(c),
         CHECK | WIDE_CHECK => check(c),
@@ -86,6 +96,7 @@ pub fn words(c: &Case) -> String {
         PAGE => format!("{} page {}", fault(number, place), sum_of(&c.outs[0])),
         PROFILE => fault(number, place),
         REPLAY => replay(c),
+        VIEW => view(c),
         GAME if number != 0 => refused(number, place),
         GAME => ["closer can force it no", "closer can force it yes"][c.answer[2] as usize].into(),
         CEILING | YARD_CEILING if number != 0 => refused(number, place),

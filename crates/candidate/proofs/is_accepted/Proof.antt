@@ -6,12 +6,12 @@ use borrow.Author.Needs.{needs}
 use Rattle.candidate.proofs.is_accepted.Statement.{statement}
 use Rattle.candidate.proofs.is_accepted.Tie as tie
 
-image-fault-requires : tie.Need-image-fault-requires
-image-fault-requires c κs = search needs
+fault-with-requires : tie.Need-fault-with-requires
+fault-with-requires c κs = search needs
 
 returns : tie.Need-returns
 unfolding isAccepted
-returns c = ap (λ (f : Refusal). eqb (f .number) 0) (c .before .image-fault .ensures)
+returns c = ap (λ (f : Refusal). eqb (f .number) 0) (c .before .fault-with .ensures)
 
 pub is-accepted-spec : {M : Type 1} → statement M
-is-accepted-spec = tie.close (tie.spec image-fault-requires returns)
+is-accepted-spec = tie.close (tie.spec fault-with-requires returns)

@@ -7,7 +7,7 @@ use super::Failed;
 use crate::candidate::{act, view};
 use crate::layout::*;
 use crate::rng::Rng;
-use crate::wide_calls::WideYard;
+use crate::wide_calls::{damaged_wide, WideYard};
 use std::collections::BTreeMap;
 
 #[derive(Default)]
@@ -28,7 +28,7 @@ pub fn arrive_links(image: &[u8], l: usize) -> Vec<u32> {
     path.iter().filter(|x| x.kind == ARRIVE).map(|x| x.link).collect()
 }
 
-fn images(yard: &[u8]) -> Vec<Vec<u8>> {
+pub fn images(yard: &[u8]) -> Vec<Vec<u8>> {
     read_yard(yard).expect("a yard").into_iter().map(|p| yard[p].to_vec()).collect()
 }
 
@@ -57,7 +57,61 @@ pub fn other(rng: &mut Rng, y: &WideYard, slot: usize) -> WideYard {
     WideYard { table: y.table.clone(), occ, yard: yard_of(&theirs) }
 }
 
-fn agree(a: &WideYard, b: &WideYard, links: &[u32]) -> bool {
+/// A sitting of a candidate, and their slot: of a part of the sittings an image, the table, the occupancy, the header of the
+/// yard or the slot is damaged.
+pub fn some_sitting(rng: &mut Rng) -> (WideYard, u16) {
+    let mut y = wide_start(rng);
+    let mut parts = images(&y.yard);
+    let mut slot = rng.from(1, parts.len()) as u16;
+    if rng.chance(25) {
+        // mostly the candidate's own image
+        let i = if rng.chance(70) { slot as usize - 1 } else { rng.below(parts.len()) };
+        parts[i] = damaged_wide(rng, &parts[i]);
+        y.yard = yard_of(&parts);
+    }
+    let (l, at) = (y.occ.len(), rng.below(y.occ.len()));
+    match rng.below(40) {
+        0 => {
+            let word = 4 * rng.below(y.table.len() / 4);
+            put_u32(&mut y.table, word, rng.pick(&[0, 1, l as u32, 4_097, u32::MAX]));
+        }
+        1 => y.table.truncate(rng.below(y.table.len())),
+        2 => y.occ.resize(rng.pick(&[0, l - 1, l + 1]), 0),
+        3 | 4 => y.occ[at] = rng.pick(&[65_536, 999_999, 1_000_000, u32::MAX]),
+        5 => put_u32(&mut y.yard, 4 * rng.below(3), rng.pick(&[0, 1, 64, u32::MAX])),
+        6 => y.yard.truncate(rng.below(y.yard.len())),
+        7 | 8 => slot = rng.pick(&[0, parts.len() as u16 + 1, 64, u16::MAX]),
+        _ => {}
+    }
+    (y, slot)
+}
+
+/// The image of a candidate's slot, where the yard has one that can be found.
+fn image_of_slot(y: &WideYard, slot: u16) -> Vec<u8> {
+    let part = read_yard(&y.yard).and_then(|p| p.get((slot as usize).wrapping_sub(1)).cloned());
+    part.map_or(vec![], |p| y.yard[p].to_vec())
+}
+
+/// A node of the candidate's path, or one beyond it.
+pub fn some_node(rng: &mut Rng, y: &WideYard, slot: u16) -> u32 {
+    let image = image_of_slot(y, slot);
+    let nodes = if image.len() < HEADER { 1 } else { u32_at(&image, 8).clamp(1, 512) };
+    match rng.below(8) {
+        0 => rng.pick(&[nodes, u32::MAX]),
+        _ => rng.below(nodes as usize) as u32,
+    }
+}
+
+/// A link at which the candidate's path arrives, or another.
+pub fn some_link(rng: &mut Rng, y: &WideYard, slot: u16) -> u32 {
+    let l = y.occ.len() as u32;
+    match arrive_links(&image_of_slot(y, slot), y.occ.len()) {
+        links if !links.is_empty() && rng.chance(75) => rng.pick(&links),
+        _ => rng.pick(&[0, 1, l.wrapping_sub(1), l, u32::MAX]),
+    }
+}
+
+pub fn agree(a: &WideYard, b: &WideYard, links: &[u32]) -> bool {
     links.iter().all(|&x| (a.occ[x as usize] != 0) == (b.occ[x as usize] != 0))
 }
 
