@@ -35,12 +35,20 @@ enum {
     LAVTOEU_REPORT_RECORD = 20,
     LAVTOEU_BUNDLE_HEADER = 32,
     LAVTOEU_RECORDING_HEADER = 12, LAVTOEU_STEP_RECORD = 20,
+    LAVTOEU_WIDE_DIVERGE_RECORD = 8, LAVTOEU_WIDE_REPORT_RECORD = 24,
     LAVTOEU_SHEET_ROOM = 4096,
     LAVTOEU_PAGE_LINE = 40
 };
 
 /* The size of an image of e est records with room for q diverge nodes. */
 #define LAVTOEU_IMAGE_SIZE(e, q) (LAVTOEU_IMAGE_HEADER + (LAVTOEU_EST_RECORD + LAVTOEU_PATH_RECORD) * (e) + LAVTOEU_DIVERGE_RECORD * (q))
+
+/* The size of a wide image. */
+#define LAVTOEU_WIDE_IMAGE_SIZE(e, q) (LAVTOEU_IMAGE_HEADER + (LAVTOEU_EST_RECORD + LAVTOEU_PATH_RECORD) * (e) + LAVTOEU_WIDE_DIVERGE_RECORD * (q))
+
+/* Where an image's header has its width, 1 in a wide one and 0 in a narrow one; the largest train beside a narrow image, and beside
+ * wide ones alone. */
+enum { LAVTOEU_WIDTH_AT = 42, LAVTOEU_MAX_NARROW_TRAIN = 65535, LAVTOEU_MAX_TRAIN = 999999 };
 
 /* The most links, lockouts, est records of a train, diverge nodes of a train, slots; the longest bundle. */
 enum {
@@ -75,6 +83,8 @@ typedef struct {
     uint32_t size, occupancy_at, occupancy, blocking_at, blocking, yard_at;
     uint16_t moved, begin, limit, local;
 } lavtoeu_bundle_header;
+typedef struct { uint32_t train; uint16_t node, spare; } lavtoeu_wide_diverge;
+typedef struct { uint16_t code, place, rounds, spare; uint32_t strays, faults, holder, met; } lavtoeu_wide_row;
 typedef struct { uint32_t size, steps, links; } lavtoeu_recording_header;
 typedef struct { uint32_t kind, first, count; uint16_t train, begin, limit, local; } lavtoeu_step;
 
@@ -85,7 +95,8 @@ static inline uint16_t lavtoeu_place(uint32_t refusal) { return (uint16_t)(refus
 /* Marks a link for a train, or releases it with train 0. Refused by 1, 2, 3. */
 uint32_t lavtoeu_mark(const uint8_t *table, size_t table_len, uint16_t *occupancy, size_t occupancy_len, uint32_t link, uint16_t train);
 
-/* The first refusal of an image over a number of links by 6 to 9; 2 where these are fewer than 2 or more than 4,000. */
+/* The first refusal of an image, of either width, over a number of links by 6, 7, 22, 8, 9; 2 where these are fewer than 2 or more than
+ * 4,000. */
 uint32_t lavtoeu_image_fault(const uint8_t *image, size_t image_len, uint32_t links);
 
 /* The first refusal of an image by 6 to 9 over 4,000 links, then 29: an est distance, a distance of the header or a path offset is
@@ -156,6 +167,28 @@ uint32_t lavtoeu_view(const uint8_t *table, size_t table_len, const uint32_t *oc
 /* Marks an Arrive link of that path for the train of the slot, or releases it where marks is 0, whoever holds it. Refused by 1, 2, 22,
  * 14, 26, 27. */
 uint32_t lavtoeu_act(const uint8_t *table, size_t table_len, uint32_t *occupancy, size_t occupancy_len, const uint8_t *yard, size_t yard_len, uint16_t slot, uint32_t link, uint32_t marks);
+/* Trains of six digits: the calls over an occupancy of u32 trains, for images of either width. A wide image has 1 in the header's byte
+ * 42 and diverge records of 8 bytes. Trains are at most 65,535 where an image of the call is narrow, in a check any of the yard's, and
+ * 999,999 otherwise; a larger one is refused by 22. The calls over u16 trains, the sheet and the replay refuse a wide image by 6; those
+ * without an occupancy (lavtoeu_image_fault, the page, the ceilings, the profile) take both widths, and 22 stands behind 7 in them. */
+
+/* lavtoeu_mark over u32 trains. Refused by 1, 2, 3, then by 22: the train or one of the occupancy is above 999,999. */
+uint32_t lavtoeu_mark_wide(const uint8_t *table, size_t table_len, uint32_t *occupancy, size_t occupancy_len, uint32_t link, uint32_t train);
+
+/* lavtoeu_update over u32 trains. Refused as it is, and by 22: the moved train or one of the occupancy, between 6 and 7; a train of a
+ * diverge record, its index the place, between 7 and 8. */
+uint32_t lavtoeu_update_wide(uint8_t *image, size_t image_len, const uint32_t *occupancy, size_t occupancy_len, const uint32_t *blocking, size_t blocking_len, uint32_t moved, uint32_t local, uint16_t limit, uint64_t *answer, size_t answer_len);
+
+/* lavtoeu_check over u32 trains. Where any image of the yard is wide, the report has 24 bytes for each slot: u16 code, place, rounds, 0;
+ * u32 strays, faults, holder, met. Refused as lavtoeu_check is, and by 22 between 14 and 15. */
+uint32_t lavtoeu_check_wide(uint8_t *yard, size_t yard_len, const uint32_t *occupancy, size_t occupancy_len, const uint32_t *blocking, size_t blocking_len, uint32_t moved, uint16_t begin, uint32_t local, uint16_t limit, uint8_t *report, size_t report_len, uint64_t *answer, size_t answer_len);
+
+/* Writes a narrow image wide, every number kept. Refused by 6, also where the image is wide already or out has not the wide size, 7, 22,
+ * 8, 9 over 4,000 links. */
+uint32_t lavtoeu_widen(const uint8_t *image, size_t image_len, uint8_t *out, size_t out_len);
+
+/* Writes a wide image narrow. Refused as lavtoeu_widen is, the widths changed over, then by 23: a train above 65,535. */
+uint32_t lavtoeu_narrow(const uint8_t *image, size_t image_len, uint8_t *out, size_t out_len);
 
 #ifdef __cplusplus
 }

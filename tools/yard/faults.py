@@ -2,7 +2,7 @@
 import math
 import struct
 
-from yard import EST, HEADER, NODE, TYPES, real_word
+from yard import EST, HEADER, LARGEST_TRAIN, NODE, TYPES, WIDTH, diverge_size, diverges_of, is_wide, real_word
 
 LARGEST = 1e12
 
@@ -18,7 +18,8 @@ class Image:
         self.ests = [dict(zip(("dist", "next", "alt", "prev", "prev-alt", "link", "type"), struct.unpack_from("<d5IB", part, HEADER + EST * i))) for i in range(e)]
         nodes = HEADER + EST * e
         self.nodes = [dict(zip(("offset", "time", "link", "est", "auth", "type"), struct.unpack_from("<2d2IHB", part, nodes + NODE * i))) for i in range(n)]
-        self.diverges = list(struct.iter_unpack("<2H", part[nodes + NODE * e:nodes + NODE * e + 4 * m]))
+        self.wide = is_wide(part)
+        self.diverges = diverges_of(part)
 
 
 def kind(record):
@@ -45,9 +46,14 @@ def layout_faults(x):
         if r["type"] > 2:
             yield 0, f"{'est record' if i < e else 'path node'} {i if i < e else i - e} has the type {r['type']}, and there are 0 to 2"
     nodes = HEADER + EST * e
-    unused = [(42, 48, "of the header"), *((HEADER + EST * i + 29, HEADER + EST * (i + 1), f"of est record {i}") for i in range(e))]
+    record, diverges = diverge_size(x.wide), nodes + NODE * e
+    if not x.wide and x.part[WIDTH] == 1:
+        yield 0, f"byte {WIDTH} of its header is 1, for a wide image, and it has not the size of one"
+    unused = [(WIDTH + x.wide, 48, "of the header"), *((HEADER + EST * i + 29, HEADER + EST * (i + 1), f"of est record {i}") for i in range(e))]
     unused += [(nodes + NODE * i + 27, nodes + NODE * (i + 1), f"of path node {i}") for i in range(n)]
-    unused += [(nodes + NODE * n, nodes + NODE * e, "behind the path"), (nodes + NODE * e + 4 * m, len(x.part), "behind the diverge nodes")]
+    unused += [(nodes + NODE * n, diverges, "behind the path")]
+    unused += [(diverges + record * i + 6, diverges + record * (i + 1), f"of diverge record {i}") for i in range(m if x.wide else 0)]
+    unused += [(diverges + record * m, len(x.part), "behind the diverge nodes")]
     for at, end, where in unused:
         for i in range(at, end):
             if x.part[i]:
@@ -88,6 +94,12 @@ def value_faults(x, links):
     for what, v, top in (("fixed", x.fixed, n), ("free", x.free, n), ("front", x.front, n - 1), ("back", x.back, n - 1)):
         if v > top:
             yield 0, f"its {what} is {v}, and may be {top} at most"
+
+
+def train_faults(x):
+    for i, (train, _) in enumerate(x.diverges):
+        if train > LARGEST_TRAIN:
+            yield i, f"diverge node {i} has train {train}, and the largest is {LARGEST_TRAIN}"
 
 
 def cycle_faults(x):
@@ -138,10 +150,10 @@ def within(x, links):
 
 
 def refused(number, place, image, links):
-    """What the record at the place of refusal 6 to 9 has wrong; None where this reading finds nothing there."""
+    """What the record at the place of refusal 6 to 9 has wrong, by 22 of a diverge record; None where this reading finds nothing there."""
     if number > 7 and not within(image, links):
         return None
-    faults = {6: layout_faults, 8: cycle_faults, 9: order_faults}.get(number) or (lambda x: value_faults(x, links))
+    faults = {6: layout_faults, 8: cycle_faults, 9: order_faults, 22: train_faults}.get(number) or (lambda x: value_faults(x, links))
     at, why = next(faults(image), (None, None))
     return why if at == place else None
 

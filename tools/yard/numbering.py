@@ -6,9 +6,7 @@ import re
 import struct
 
 import programs
-from yard import EST, HEADER, NODE, Words, Wrong, Yard, drawn_whole, in_file, once, options, plain, read_file, tell, text_of, train_lines, train_text, write_out
-
-LARGEST = 65535  # the largest train
+from yard import EST, HEADER, LARGEST_TRAIN, NARROW_TRAIN, NODE, Words, Wrong, Yard, diverge_size, drawn_whole, in_file, is_wide, once, options, plain, read_file, tell, text_of, train_lines, train_text, write_out
 
 
 class Numbering:
@@ -42,14 +40,15 @@ def read_numbering(text):
         if not words.more():
             continue
         kind = words.word(["links", "slots", "link", "train"], "a word")
-        n = words.number(16, "the number")
+        bits = 32 if kind == "train" else 16
+        n = words.number(bits, "the number")
         if kind in ("links", "slots"):
             once(said, kind, number)
             count[kind] = n
         else:
             once(said, f"{kind} {n} is", number)
             words.word(["is"], "the word 'is'")
-            new[kind][n] = words.number(16, "the new number")
+            new[kind][n] = words.number(bits, "the new number")
             once(said, f"{kind} is {new[kind][n]}", number)
         words.end()
     for kind in ("links", "slots"):
@@ -61,6 +60,8 @@ def read_numbering(text):
     numbering.new = new
     if 0 in new["train"].values():
         raise Wrong(0, "a train has the new number 0, which means none")
+    if any(max(t, n) > LARGEST_TRAIN and t != n for t, n in new["train"].items()):
+        raise Wrong(0, f"a train above {LARGEST_TRAIN} has another number: these stay themselves")
     return numbering
 
 
@@ -85,10 +86,20 @@ def in_any_order(seed, links):
     return [links[i] for i in shuffled(seed, "blocking", range(len(links)))]
 
 
+def trains_at(part):
+    """Where an image has trains, and the form of each: the header's and those of its diverge records."""
+    e, q, wide = *(struct.unpack_from("<I", part, at)[0] for at in (4, 16)), is_wide(part)
+    at = HEADER + (EST + NODE) * e
+    return [(32, "<H"), *((at + diverge_size(wide) * i, "<I" if wide else "<H") for i in range(q))]
+
+
 def image_trains(part):
-    """The trains of an image: the header's and those of its diverge records."""
-    e, q = struct.unpack_from("<I", part, 4)[0], struct.unpack_from("<I", part, 16)[0]
-    return [struct.unpack_from("<H", part, at)[0] for at in (32, *range(HEADER + (EST + NODE) * e, HEADER + (EST + NODE) * e + 4 * q, 4))]
+    return [struct.unpack_from(form, part, at)[0] for at, form in trains_at(part)]
+
+
+def largest(parts):
+    """The largest train that a numbering gives: six digits where every image is wide."""
+    return LARGEST_TRAIN if parts and all(map(is_wide, parts)) else NARROW_TRAIN
 
 
 def fresh(seed, yard, parts):
@@ -101,8 +112,11 @@ def fresh(seed, yard, parts):
     met = {t for t, _ in yard.occupied.values()} | {t for part in parts for t in image_trains(part)} | {yard.numbers["moved"]}
     met |= {call[3] for call in [*yard.steps, yard.call] if call and call[0] == "mark"}
     met |= {call[2]["moved"] for call in yard.steps if call[0] == "check" and "moved" in call[2]}
-    for t in sorted(t for t in met if t > slots):
-        lots = (slots + 1 + drawn_lot(seed, "train", t, again) % (LARGEST - slots) for again in itertools.count())
+    top, in_headers = largest(parts), {image_trains(part)[0] for part in parts}
+    numbering.new["train"].update({t: t for t in met if t > top})  # 22 refuses it under every numbering
+    for t in sorted(t for t in met if slots < t <= top):
+        room = (NARROW_TRAIN if t in in_headers else top) - slots
+        lots = (slots + 1 + drawn_lot(seed, "train", t, again) % room for again in itertools.count())
         numbering.new["train"][t] = next(n for n in lots if n not in numbering.new["train"].values())
     return numbering
 
@@ -122,12 +136,15 @@ def drawn_parts(yard):
 def renumbered_image(part, numbering):
     """The same bytes but for the header's train, the links of est and path records and the trains of diverge records."""
     out = bytearray(part)
-    e, q = struct.unpack_from("<I", part, 4)[0], struct.unpack_from("<I", part, 16)[0]
+    e = struct.unpack_from("<I", part, 4)[0]
     nodes, diverges = HEADER + EST * e, HEADER + (EST + NODE) * e
     for at in (*range(HEADER + 24, nodes, EST), *range(nodes + 16, diverges, NODE)):
         struct.pack_into("<I", out, at, numbering.link(struct.unpack_from("<I", part, at)[0]))
-    for at in (32, *range(diverges, diverges + 4 * q, 4)):
-        struct.pack_into("<H", out, at, numbering.train(struct.unpack_from("<H", part, at)[0]))
+    for at, form in trains_at(part):
+        train = numbering.train(struct.unpack_from(form, part, at)[0])
+        if form == "<H" and train > NARROW_TRAIN:
+            raise Wrong(0, f"the new number {train} of a train has no room in 16 bits, which a header and a narrow image have for it")
+        struct.pack_into(form, out, at, train)
     return bytes(out)
 
 
@@ -241,7 +258,7 @@ def premises(yard, sheet):
     if yard.occupied.get(0, (0, 0))[0]:
         bad.append((yard.said.get("occupied 0", 0), "entry 0 of the occupancy is not empty"))
     if sheet is None:
-        return bad + [(0, "the strays are not known")]
+        return bad + [(0, "the strays are not known" + (": no sheet takes a wide image" if yard.is_wide() else ""))]
     return bad + [(0, f"slot {row[0]} has strays: {row[4]}") for row in sheet[1:] if row[4] != "0"]
 
 
@@ -271,9 +288,9 @@ def put(files):
 
 
 def sheet_if_built(yard, folder):
-    """The program's sheet; None where the program cannot be run, and for a mark, a release or a replay, which have none."""
+    """The program's sheet; None where the program cannot be run, and for a wide yard, a mark, a release or a replay, which have none."""
     try:
-        return None if yard.call and yard.call[0] in ("mark", "replay") else programs.sheet(yard, folder)
+        return None if yard.is_wide() or yard.call and yard.call[0] in ("mark", "replay") else programs.sheet(yard, folder)
     except Wrong as w:
         tell(f"{w.name}: {w.why}")
         return None

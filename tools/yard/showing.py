@@ -22,12 +22,14 @@ REFUSALS = {
     13: "an assert, an index, an unwrap or a difference of the Rust fails",
     14: "the yard's header does not fit, or slot t does not hold train t",
     15: "the moved train is none of the slots, or begin is outside them",
-    16: "the report has not 20 bytes for each slot",
+    16: "the report has not 20 bytes for each slot, 24 in a check over trains of 32 bits where an image is wide",
     17: "the bundle is too long, its size or its parts do not fit, or local is neither 0 nor 1",
     18: "the page has fewer than 40 bytes for each node of the path",
     19: "the recording is malformed, or the list has not one entry for each step",
     22: "a train is too large",
     28: "a game has a link twice, link 0 or one that there is not, more than 8 links or more than 6 turns",
+    22: "a train is above 999,999, or above 65,535 beside a narrow image",
+    23: "a train of the image is above 65,535 and does not go narrow",
     29: "a value outside the training track profile",
 }
 WORDS = {
@@ -60,6 +62,7 @@ def row_words(row, after, links, occupancy):
     else:
         out = [f"refused-{code - 16} at place {place}: {refusal(code - 16)}"]
         why = faults.refused(code - 16, place, after, links) if 22 <= code <= 25 and after else None
+        why = "it is a wide image, which no sheet takes" if code == 22 and after and after.wide else why
         out += [why] if why else []
     out += [f"held by train {holder}"] if holder else []
     out += [f"it met train {met} first"] if met else []

@@ -1,7 +1,7 @@
 //! The image of one train as a value: the part of ALTRIOS's TrainDisp that the calls work on.
 
 use crate::layout::*;
-use crate::{est_bytes, image_size, judge, lay_out, Est, EstType, Order, Refusal};
+use crate::{est_bytes, image_size, is_wide, judge, lay_out, wide_image_size, Est, EstType, Order, Refusal};
 
 /// A node of the path (DispNode).
 #[derive(Clone, Copy, Debug, PartialEq)]
@@ -24,10 +24,10 @@ impl Default for Node {
     }
 }
 
-/// A diverge node (DivergeNode): at this path node the train left its shortest way for this train.
+/// A diverge node (DivergeNode): at this path node the train left its shortest way for this train, at most 65,535 in a narrow image.
 #[derive(Clone, Copy, Debug, Default, PartialEq, Eq)]
 pub struct Diverge {
-    pub train: u16,
+    pub train: u32,
     pub node: u16,
 }
 
@@ -78,6 +78,8 @@ pub struct Image {
     pub diverges: Vec<Diverge>,
     /// Q, room for diverge nodes, 2 to 1,024. TrainDisp has no bound.
     pub room: u32,
+    /// Is it a wide image, whose diverge records have 32 bits for a train?
+    pub wide: bool,
 }
 
 impl Image {
@@ -89,35 +91,37 @@ impl Image {
         Image::from_bytes(&bytes)
     }
 
-    /// The image in bytes, as [`update`](crate::update), [`judge`] and [`yard`](crate::yard) take it. Refused by 6 where the train
-    /// is 0 or a list has another length than its field says; 7 to 9 are left to [`judge`] and the calls.
+    /// The image in bytes, as [`update`](crate::update), or where it is wide [`update_wide`](crate::update_wide), [`judge`] and
+    /// [`yard`](crate::yard) take it. Refused by 6 where the train is 0 or a list has another length than its field says, by 23
+    /// where it is narrow and a train of its diverge nodes is above 65,535; 7 to 9 are left to [`judge`] and the calls.
     pub fn to_bytes(&self) -> Result<Vec<u8>, Refusal> {
         let (e, n, m, q) = (self.ests.len(), self.path.len(), self.diverges.len(), self.room as usize);
         let fits = (1..=MAX_ESTS).contains(&e) && (1..=e).contains(&n) && (2..=q).contains(&m) && q <= MAX_ROOM;
         if !fits || self.train == 0 {
             return Err(Refusal { number: 6, place: 0 });
         }
+        if !self.wide && self.diverges.iter().any(|d| d.train as usize > MAX_NARROW_TRAIN) {
+            return Err(Refusal { number: 23, place: 0 });
+        }
+        let size = if self.wide { wide_image_size(e, q) } else { image_size(e, q) };
         let path_at = IMAGE_HEADER + EST_RECORD * e;
         let diverge_at = path_at + PATH_RECORD * e;
         let mut out = vec![];
-        put_words(&mut out, &[image_size(e, q), e, n, m, q, IMAGE_HEADER, path_at, diverge_at]);
+        put_words(&mut out, &[size, e, n, m, q, IMAGE_HEADER, path_at, diverge_at]);
         [self.train, self.fixed, self.free, self.front, self.back].iter().for_each(|x| out.extend(x.to_le_bytes()));
-        out.extend([0; 6]);
+        out.extend([self.wide as u8, 0, 0, 0, 0, 0]);
         out.extend(self.search.to_le_bytes());
         out.extend(self.fixed_max.to_le_bytes());
         out.extend(est_bytes(&self.ests));
         self.path.iter().for_each(|x| put_node(&mut out, x));
         out.resize(diverge_at, 0);
-        for d in &self.diverges {
-            out.extend(d.train.to_le_bytes());
-            out.extend(d.node.to_le_bytes());
-        }
-        out.resize(image_size(e, q), 0);
+        self.diverges.iter().for_each(|d| put_diverge(&mut out, d, self.wide));
+        out.resize(size, 0);
         Ok(out)
     }
 
-    /// The image that the bytes hold. Refused by 6 just where the calls refuse them by 6; 7 to 9 are left to [`judge`] and the
-    /// calls. [`Image::to_bytes`] gives the same bytes back.
+    /// The image that the bytes hold, of either width. Refused by 6 just where [`judge`] refuses them by 6; 7 to 9 are left to it
+    /// and to the calls. [`Image::to_bytes`] gives the same bytes back.
     pub fn from_bytes(bytes: &[u8]) -> Result<Image, Refusal> {
         // The links play no part in 6.
         match judge(bytes, MAX_LINKS as u32) {
@@ -128,6 +132,7 @@ impl Image {
         let (e, n, m) = (count(4), count(8), count(12));
         let path_at = IMAGE_HEADER + EST_RECORD * e;
         let diverge_at = path_at + PATH_RECORD * e;
+        let wide = is_wide(bytes);
         Ok(Image {
             train: half(bytes, 32),
             fixed: half(bytes, 34),
@@ -138,8 +143,9 @@ impl Image {
             fixed_max: float(bytes, 56),
             ests: (0..e).map(|i| est_from(bytes, IMAGE_HEADER + EST_RECORD * i)).collect(),
             path: (0..n).map(|i| node_from(bytes, path_at + PATH_RECORD * i)).collect(),
-            diverges: (0..m).map(|i| diverge_from(bytes, diverge_at + DIVERGE_RECORD * i)).collect(),
+            diverges: (0..m).map(|i| diverge_from(bytes, diverge_at, i, wide)).collect(),
             room: word(bytes, 16),
+            wide,
         })
     }
 }
@@ -184,6 +190,19 @@ fn put_node(out: &mut Vec<u8>, x: &Node) {
     out.extend([x.est_type as u8, 0, 0, 0, 0, 0]);
 }
 
-fn diverge_from(bytes: &[u8], at: usize) -> Diverge {
-    Diverge { train: half(bytes, at), node: half(bytes, at + 2) }
+/// The train has 16 bits, in a wide image 32 and two spare bytes behind the node.
+fn diverge_from(bytes: &[u8], first: usize, i: usize, wide: bool) -> Diverge {
+    if wide {
+        let at = first + WIDE_DIVERGE_RECORD * i;
+        return Diverge { train: word(bytes, at), node: half(bytes, at + 4) };
+    }
+    let at = first + DIVERGE_RECORD * i;
+    Diverge { train: half(bytes, at) as u32, node: half(bytes, at + 2) }
+}
+
+fn put_diverge(out: &mut Vec<u8>, d: &Diverge, wide: bool) {
+    let train = d.train.to_le_bytes();
+    out.extend(if wide { &train[..] } else { &train[..2] });
+    out.extend(d.node.to_le_bytes());
+    out.extend(if wide { &[0, 0][..] } else { &[] });
 }

@@ -18,6 +18,17 @@ pub const YARD_OFFSET: usize = 4;
 /// The row of a slot in a report.
 pub const REPORT_RECORD: usize = 20;
 
+/// The diverge record of a wide image, and the row of a slot in the report of a yard that has one.
+pub const WIDE_DIVERGE_RECORD: usize = 8;
+pub const WIDE_REPORT_RECORD: usize = 24;
+
+/// Where an image's header has its width: 1 in a wide one.
+pub const WIDTH_AT: usize = 42;
+
+/// The largest train beside a narrow image, and beside wide ones alone.
+pub const MAX_NARROW_TRAIN: usize = 65_535;
+pub const MAX_TRAIN: usize = 999_999;
+
 /// The words of an update's answer, and of a check's.
 pub const UPDATE_WORDS: usize = 7;
 pub const CHECK_WORDS: usize = 3;

@@ -26,6 +26,7 @@ pub mod raw;
 mod recording;
 mod table;
 mod version;
+mod wide;
 
 pub use game::{closer_can_force, Game};
 pub use candidate::{Candidate, View};
@@ -34,6 +35,10 @@ pub use parts::{bundle, parts};
 pub use recording::{replay, Check, Recording};
 pub use table::{links, table, Link};
 pub use version::{version, VERSION, VERSION_TEXT};
+pub use wide::{
+    check_wide, check_wide_into, is_wide, mark_wide, narrow, report_record, update_wide, update_wide_into, wide_image_size, wide_rows,
+    widen, WideMove, WideRow, WideSlot,
+};
 
 use std::fmt;
 
@@ -78,6 +83,7 @@ impl Refusal {
             28 => "bad links or turns of a game",
             26 => "no accepted image in the candidate's slot",
             27 => "not of the candidate's path",
+            23 => "a train that has no room in a narrow image",
             29 => "outside the training track profile",
             _ => "no number of a refusal",
         }
@@ -159,7 +165,8 @@ pub fn lay_out(est: &[u8], order: Order, image: &mut [u8]) -> Result<(), Refusal
     })
 }
 
-/// Refusals 6 to 9 of an image over a number of links, or 2 where these are fewer than 2 or more than 4,000.
+/// Refusals 6 to 9 of an image of either width over a number of links, 22 between 7 and 8, or 2 where the links are fewer than 2 or more
+/// than 4,000.
 pub fn judge(image: &[u8], links: u32) -> Result<(), Refusal> {
     // SAFETY: the pointer goes with its own length, and the function keeps to it.
     Refusal::of(unsafe { raw::lavtoeu_image_fault(image.as_ptr(), image.len(), links) })
@@ -213,7 +220,13 @@ pub struct Updated {
 /// Updates the free path of the train of an image.
 pub fn update(image: &mut [u8], m: Move) -> Updated {
     let mut words = [0; layout::UPDATE_WORDS];
-    let status = update_into(image, m, &mut words).map(|()| match words[0] {
+    let answer = update_into(image, m, &mut words);
+    updated_of(answer, words)
+}
+
+/// An update by its words.
+fn updated_of(answer: Result<(), Refusal>, words: [u64; layout::UPDATE_WORDS]) -> Updated {
+    let status = answer.map(|()| match words[0] {
         4 => Status::Blocked,
         5 => Status::Faulty(words[1]),
         _ => Status::Success,
@@ -316,10 +329,15 @@ pub enum Checked {
 pub fn check(yard: &mut [u8], m: Move, begin: u16, report: &mut [u8]) -> Result<Checked, Refusal> {
     let mut words = [0; layout::CHECK_WORDS];
     check_into(yard, m, begin, report, &mut words)?;
-    Ok(match words[0] {
+    Ok(checked_of(words))
+}
+
+/// A check by its words.
+fn checked_of(words: [u64; layout::CHECK_WORDS]) -> Checked {
+    match words[0] {
         0 => Checked::Done { deadlock: words[1] != 0, next: words[2] as u16 },
         n => Checked::Erred(n),
-    })
+    }
 }
 
 /// [`check`] with its answer in words, as many as there is room for: the number of slots that erred and, where it is 0, 1 for a

@@ -74,6 +74,38 @@ extern "C" {
         answer: *mut u64,
         answer_len: usize,
     ) -> u32;
+    pub fn lavtoeu_mark_wide(table: *const u8, table_len: usize, occupancy: *mut u32, occupancy_len: usize, link: u32, train: u32) -> u32;
+    pub fn lavtoeu_update_wide(
+        image: *mut u8,
+        image_len: usize,
+        occupancy: *const u32,
+        occupancy_len: usize,
+        blocking: *const u32,
+        blocking_len: usize,
+        moved: u32,
+        local: u32,
+        limit: u16,
+        answer: *mut u64,
+        answer_len: usize,
+    ) -> u32;
+    pub fn lavtoeu_check_wide(
+        yard: *mut u8,
+        yard_len: usize,
+        occupancy: *const u32,
+        occupancy_len: usize,
+        blocking: *const u32,
+        blocking_len: usize,
+        moved: u32,
+        begin: u16,
+        local: u32,
+        limit: u16,
+        report: *mut u8,
+        report_len: usize,
+        answer: *mut u64,
+        answer_len: usize,
+    ) -> u32;
+    pub fn lavtoeu_widen(image: *const u8, image_len: usize, out: *mut u8, out_len: usize) -> u32;
+    pub fn lavtoeu_narrow(image: *const u8, image_len: usize, out: *mut u8, out_len: usize) -> u32;
     pub fn lavtoeu_page(image: *const u8, image_len: usize, page: *mut u8, page_len: usize) -> u32;
     pub fn lavtoeu_view(
         table: *const u8,

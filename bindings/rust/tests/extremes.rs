@@ -226,6 +226,11 @@ fn a_pointer_with_length_0_may_be_null() {
         assert_eq!(raw::lavtoeu_page(null(), 0, null_mut(), 0), 6);
         assert_eq!(raw::lavtoeu_replay(null(), 0, null(), 0, null_mut(), 0, null_mut(), 0, null_mut(), 0), 19);
         assert_eq!(raw::lavtoeu_closer_can_force(null(), 0, null(), 0, 1, 0, 1, null(), 0, 0, null_mut(), 0), 2);
+        assert_eq!(raw::lavtoeu_mark_wide(null(), 0, null_mut(), 0, 1, 1), 1);
+        assert_eq!(raw::lavtoeu_update_wide(null_mut(), 0, null(), 0, null(), 0, 1, 0, 1, null_mut(), 0), 2);
+        assert_eq!(raw::lavtoeu_check_wide(null_mut(), 0, null(), 0, null(), 0, 1, 1, 0, 1, null_mut(), 0, null_mut(), 0), 2);
+        assert_eq!(raw::lavtoeu_widen(null(), 0, null_mut(), 0), 6);
+        assert_eq!(raw::lavtoeu_narrow(null(), 0, null_mut(), 0), 6);
         assert_eq!(raw::lavtoeu_ceiling(null(), 0, null_mut(), 0), 6);
         assert_eq!(raw::lavtoeu_yard_ceiling(null(), 0, 1, null_mut(), 0), 14);
         assert_eq!(raw::lavtoeu_view(null(), 0, null(), 0, null(), 0, 1, 0, null_mut(), 0, null_mut(), 0), 1);

@@ -95,9 +95,13 @@ fn of_the_diverge_nodes() {
     let at = |train, node| Diverge { train, node };
     assert_eq!(changed(|x| x.diverges[0] = at(1, 0)), refused(9, 0));
     assert_eq!(changed(|x| x.diverges[0] = at(0, 1)), refused(9, 0));
-    for train in [0, 9, u16::MAX] {
+    for train in [0, 9, 65_535] {
         assert_eq!(changed(|x| x.diverges[2] = at(train, 4)), Ok(()));
         assert_eq!(changed(|x| x.diverges[2] = at(train, 3)), refused(9, 2));
+    }
+    // A wide image has room for six digits.
+    for (train, answer) in [(0, Ok(())), (999_999, Ok(())), (1_000_000, refused(22, 2)), (u32::MAX, refused(22, 2))] {
+        assert_eq!(changed(|x| (x.wide, x.diverges[2]) = (true, at(train, 4))), answer);
     }
     for node in 1..4 {
         assert_eq!(changed(|x| x.diverges[1] = at(9, node)), Ok(()));

@@ -112,6 +112,11 @@ const BOUNDS: &[(&str, usize)] = &[
     ("closer_can_force", 192 << 10),
     ("view", 20 << 10),
     ("act", 20 << 10),
+    ("mark_wide", 1 << 10),
+    ("update_wide", 128 << 10),
+    ("check_wide", 128 << 10),
+    ("widen", 20 << 10),
+    ("narrow", 20 << 10),
 ];
 
 /// The stack of each call of `BOUNDS` over images that `image` makes of a train's number.
@@ -160,7 +165,23 @@ fn stacks(image: fn(u16) -> Vec<u8>, m: Move) -> Vec<usize> {
     let (forced, games) = stack_of(|| closer_can_force(&one, game));
     assert_eq!(forced, Ok(true));
     assert_eq!((viewed.is_ok(), acted), (true, Ok(())));
-    vec![versions, marks, judges, lays, updates, checks, sheets, pages, profiles, ceilings, yard_ceilings, replays, games, views, acts]
+
+    let mut wide = vec![0; wide_image_size(header.ests.len(), header.room as usize)];
+    let (widened, widens) = stack_of(|| widen(&one, &mut wide));
+    let (narrowed, narrows) = stack_of(|| narrow(&wide, &mut spare));
+    assert_eq!((widened, narrowed), (Ok(()), Ok(())));
+    let occupancy: Vec<u32> = m.occupancy.iter().map(|&train| train as u32).collect();
+    let (marked, wide_marks) = stack_of(|| mark_wide(&table, &mut occupancy.clone(), 1, 999_999));
+    let told = WideMove { occupancy: &occupancy, blocking: m.blocking, moved: 2, local: m.local, limit: m.limit };
+    let mut yard = lavtoeu::yard(&[&wide, &laid_out(2, 4)]);
+    let mut report = [0; 2 * WIDE_REPORT_RECORD];
+    let (checked, wide_checks) = stack_of(|| check_wide(&mut yard, told, 1, &mut report));
+    let (updated, wide_updates) = stack_of(|| update_wide(&mut wide, told));
+    assert_eq!((marked, updated.status), (Ok(()), Ok(Status::Success)));
+    assert_eq!(checked, Ok(Checked::Done { deadlock: false, next: 1 }));
+    let wides = [wide_marks, wide_updates, wide_checks, widens, narrows];
+    let others = [versions, marks, judges, lays, updates, checks, sheets, pages, profiles, ceilings, yard_ceilings, replays, games, views, acts];
+    [&others[..], &wides].concat()
 }
 
 #[test]

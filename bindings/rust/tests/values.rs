@@ -39,7 +39,7 @@ fn a_type(number: u64) -> EstType {
 fn any_image(seed: u64) -> Image {
     let mut next = numbers(seed);
     let float = |n: u64| f64::from_bits(n.wrapping_mul(0x9e37_79b9_7f4a_7c15));
-    let e = 1 + next(MAX_ESTS as u64);
+    let (e, wide) = (1 + next(MAX_ESTS as u64), seed % 2 == 1);
     let room = 2 + next(MAX_ROOM as u64 - 1);
     let est = |next: &mut dyn FnMut(u64) -> u64| Est {
         est_type: a_type(next(3)),
@@ -69,8 +69,9 @@ fn any_image(seed: u64) -> Image {
         fixed_max: float(next(1 << 31)),
         ests: (0..e).map(|_| est(&mut next)).collect(),
         path: (0..n).map(|_| node(&mut next)).collect(),
-        diverges: (0..m).map(|_| Diverge { train: next(1 << 16) as u16, node: next(1 << 16) as u16 }).collect(),
+        diverges: (0..m).map(|_| Diverge { train: next(if wide { 1 << 32 } else { 1 << 16 }) as u32, node: next(1 << 16) as u16 }).collect(),
         room: room as u32,
+        wide,
     }
 }
 
@@ -128,8 +129,9 @@ fn values_of_every_kind_come_back() {
 fn an_image_is_read_unless_6_refuses_it() {
     let mut updated = laid_out(1, 4);
     assert_eq!(update(&mut updated, MOVE).status, Ok(Status::Success));
+    let wide = Image { wide: true, ..Image::from_bytes(&updated).unwrap() }.to_bytes().unwrap();
     let mut read = 0;
-    for bytes in [laid_out(1, 4), updated].iter().flat_map(|bytes| damaged(bytes)) {
+    for bytes in [laid_out(1, 4), updated, wide].iter().flat_map(|bytes| damaged(bytes)) {
         match Image::from_bytes(&bytes) {
             Ok(image) => assert_eq!(image.to_bytes(), Ok(bytes.clone())),
             Err(refusal) => assert_eq!(refusal, Refusal { number: 6, place: 0 }),
@@ -143,6 +145,9 @@ fn an_image_is_read_unless_6_refuses_it() {
 #[test]
 fn lists_that_an_image_cannot_hold_are_refused() {
     let image = Image::from_bytes(&laid_out(1, 4)).unwrap();
+    let large = Image { diverges: [Diverge::default(), Diverge { train: 65_536, node: 3 }].to_vec(), ..image.clone() };
+    assert_eq!(large.to_bytes(), Err(Refusal { number: 23, place: 0 }));
+    assert!(Image { wide: true, ..large }.to_bytes().is_ok());
     let wrong: [fn(&mut Image); 9] = [
         |x| x.train = 0,
         |x| x.ests.clear(),

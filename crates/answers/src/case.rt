@@ -25,9 +25,20 @@ pub(crate) const CEILING: u32 = 15;
 pub(crate) const YARD_CEILING: u32 = 16;
 
 pub(crate) const GAME: u32 = 22;
+
 pub(crate) const VIEW: u32 = 24;
 
 pub(crate) const ACT: u32 = 25;
+
+pub(crate) const WIDE_MARK: u32 = 17;
+
+pub(crate) const WIDE_UPDATE: u32 = 18;
+
+pub(crate) const WIDE_CHECK: u32 = 19;
+
+pub(crate) const WIDEN: u32 = 20;
+
+pub(crate) const NARROW: u32 = 21;
 
 // ---- the head: size, operation, tag, line, 8 arguments, 4 lengths of inputs, 8 numbers of the answer, 2 lengths of outputs
 

@@ -1,7 +1,8 @@
-// A check of a yard. Arguments: moved, begin, local, limit.
+// A check of a yard over an occupancy of u16 or of u32 entries; the other one is empty. Arguments: moved, begin, local, limit.
 use crate::case;
 use crate::print;
 use link_rules::link_idx::NarrowTrainIdx;
+use link_rules::link_idx::TrainIdx;
 use yard_check::check;
 use yard_check::check::Answer;
 
@@ -16,6 +17,13 @@ pub(crate) fn answer(head: &[u8], body: &[u8], sums: bool) -> bool {
 
 fn answer_on(head: &[u8], body: &[u8], yard: &mut [u8], sums: bool) -> bool {
     case::copy(yard, case::first_input(head, body));
+    if case::operation(head) == case::WIDE_CHECK {
+        return answer_wide(head, body, yard, sums);
+    }
+    answer_narrow(head, body, yard, sums)
+}
+
+fn answer_narrow(head: &[u8], body: &[u8], yard: &mut [u8], sums: bool) -> bool {
     let mut room = case::no_trains();
     let n = case::second_input(head, body).len() / 2;
     if 8192 < n {
@@ -26,7 +34,27 @@ fn answer_on(head: &[u8], body: &[u8], yard: &mut [u8], sums: bool) -> bool {
 
 fn answer_over(head: &[u8], body: &[u8], yard: &mut [u8], occ: &mut [u16], sums: bool) -> bool {
     case::u16s(occ, case::second_input(head, body), 0, 2);
-    answer_from(head, body, yard, occ, sums)
+    answer_from(head, body, yard, occ, &[], sums)
+}
+
+fn answer_wide(head: &[u8], body: &[u8], yard: &mut [u8], sums: bool) -> bool {
+    let mut room = case::no_links();
+    let n = case::second_input(head, body).len() / 4;
+    if 8192 < n {
+        return print::unread();
+    }
+    answer_wide_over(head, body, yard, &mut room[..n], sums)
+}
+
+fn answer_wide_over(
+    head: &[u8],
+    body: &[u8],
+    yard: &mut [u8],
+    occ: &mut [u32],
+    sums: bool,
+) -> bool {
+    case::u32s(occ, case::second_input(head, body));
+    answer_from(head, body, yard, &[], occ, sums)
 }
 
 // From a yard and an occupancy that are there.
@@ -34,7 +62,8 @@ pub(crate) fn answer_from(
     head: &[u8],
     body: &[u8],
     yard: &mut [u8],
-    occ: &[u16],
+    narrow: &[u16],
+    wide: &[u32],
     sums: bool,
 ) -> bool {
     let mut room = case::no_links();
@@ -42,14 +71,15 @@ pub(crate) fn answer_from(
     if 8192 < n {
         return print::unread();
     }
-    answer_by(head, body, yard, occ, &mut room[..n], sums)
+    answer_by(head, body, yard, narrow, wide, &mut room[..n], sums)
 }
 
 fn answer_by(
     head: &[u8],
     body: &[u8],
     yard: &mut [u8],
-    occ: &[u16],
+    narrow: &[u16],
+    wide: &[u32],
     blocking: &mut [u32],
     sums: bool,
 ) -> bool {
@@ -59,20 +89,30 @@ fn answer_by(
     if 65536 < n {
         return print::unread();
     }
-    answer_with(head, body, yard, occ, blocking, &mut room[..n], sums)
+    answer_with(
+        head,
+        body,
+        yard,
+        narrow,
+        wide,
+        blocking,
+        &mut room[..n],
+        sums,
+    )
 }
 
 fn answer_with(
     head: &[u8],
     body: &[u8],
     yard: &mut [u8],
-    occ: &[u16],
+    narrow: &[u16],
+    wide: &[u32],
     blocking: &[u32],
     report: &mut [u8],
     sums: bool,
 ) -> bool {
     case::copy(report, case::fourth_input(head, body));
-    if !print_answer(head, yard, occ, blocking, report) {
+    if !print_answer(checked(head, yard, narrow, wide, blocking, report)) {
         return false;
     }
     if !sums {
@@ -84,19 +124,28 @@ fn answer_with(
     false
 }
 
-// Makes the call and prints its answer.
-fn print_answer(
+fn checked(
     head: &[u8],
     yard: &mut [u8],
-    occ: &[u16],
+    narrow: &[u16],
+    wide: &[u32],
     blocking: &[u32],
     report: &mut [u8],
-) -> bool {
-    let moved = NarrowTrainIdx((case::argument(head, 0) % 65536) as u16);
+) -> Answer {
+    let moved = case::argument(head, 0);
     let begin = begin_of(case::argument(head, 1));
     let local = 0 < case::argument(head, 2);
     let limit = (case::argument(head, 3) % 65536) as u16;
-    match check::check_deadlock(yard, occ, blocking, moved, begin, local, limit, report) {
+    if case::operation(head) == case::WIDE_CHECK {
+        let moved = TrainIdx(moved);
+        return check::check_wide(yard, wide, blocking, moved, begin, local, limit, report);
+    }
+    let moved = NarrowTrainIdx((moved % 65536) as u16);
+    check::check_deadlock(yard, narrow, blocking, moved, begin, local, limit, report)
+}
+
+fn print_answer(answer: Answer) -> bool {
+    match answer {
         Answer::Refused(r) => print::refused(r),
         Answer::Erred(n) => print::number(b"erred ", n as u64),
         Answer::Done { deadlock, next } => print_done(deadlock, next),

@@ -1,6 +1,8 @@
-// A lay out. Arguments: train, room for diverge nodes, links, and the halves of the two distance settings.
+// A lay out or a conversion: an image is written over the second input. Arguments of a lay out: train, room for diverge nodes, links, and the
+// halves of the two distance settings.
 use crate::case;
 use crate::print;
+use conversion;
 use disp_structs::Metres;
 use disp_structs::floats;
 use link_rules::link_idx::NarrowTrainIdx;
@@ -19,6 +21,25 @@ pub(crate) fn answer(head: &[u8], body: &[u8], sums: bool) -> bool {
 
 fn answer_in(head: &[u8], body: &[u8], image: &mut [u8], sums: bool) -> bool {
     case::copy(image, case::second_input(head, body));
+    print_written(
+        written(head, case::first_input(head, body), image),
+        image,
+        sums,
+    )
+}
+
+// What refuses the call; number 0 where it is done.
+fn written(head: &[u8], from: &[u8], image: &mut [u8]) -> Refusal {
+    if case::operation(head) == case::WIDEN {
+        return conversion::widen(from, image);
+    }
+    if case::operation(head) == case::NARROW {
+        return conversion::narrow(from, image);
+    }
+    laid_out(head, from, image)
+}
+
+fn laid_out(head: &[u8], ests: &[u8], image: &mut [u8]) -> Refusal {
     let settings = Settings {
         train_idx: NarrowTrainIdx((case::argument(head, 0) % 65536) as u16),
         dist_disp_path_search: Metres(setting(case::argument(head, 3), case::argument(head, 4))),
@@ -26,20 +47,16 @@ fn answer_in(head: &[u8], body: &[u8], image: &mut [u8], sums: bool) -> bool {
         diverge_room: case::argument(head, 1),
         links: case::argument(head, 2),
     };
-    match train_disp::lay_out(case::first_input(head, body), settings, image) {
-        Answer::Done => print_laid(
-            Refusal {
-                number: 0,
-                place: 0,
-            },
-            image,
-            sums,
-        ),
-        Answer::Refused(r) => print_laid(r, image, sums),
+    match train_disp::lay_out(ests, settings, image) {
+        Answer::Done => Refusal {
+            number: 0,
+            place: 0,
+        },
+        Answer::Refused(r) => r,
     }
 }
 
-fn print_laid(f: Refusal, image: &[u8], sums: bool) -> bool {
+fn print_written(f: Refusal, image: &[u8], sums: bool) -> bool {
     if !print::fault(f) {
         return false;
     }

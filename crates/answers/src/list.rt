@@ -78,7 +78,7 @@ fn answer_call(
         return mark::answer_from(head, table, occ, sums);
     }
     if case::operation(head) == case::CHECK {
-        return check::answer_from(head, body, yard, occ, sums);
+        return check::answer_from(head, body, yard, occ, &[], sums);
     }
     print::unread()
 }

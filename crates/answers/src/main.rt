@@ -179,13 +179,22 @@ fn answer(head: &[u8], body: &[u8], sums: bool) -> bool {
     if operation == case::MARK {
         return mark::answer(head, body, sums);
     }
-    if operation == case::LAY_OUT {
+    if operation == case::WIDE_MARK {
+        return mark::answer_wide(head, body, sums);
+    }
+    if writes_image(operation) {
         return lay_out::answer(head, body, sums);
     }
     if operation == case::UPDATE {
         return update::answer(head, body, sums);
     }
+    if operation == case::WIDE_UPDATE {
+        return update::answer(head, body, sums);
+    }
     if operation == case::CHECK {
+        return check::answer(head, body, sums);
+    }
+    if operation == case::WIDE_CHECK {
         return check::answer(head, body, sums);
     }
     if operation == case::SHEET {
@@ -222,6 +231,16 @@ fn answer_candidate(head: &[u8], body: &[u8], sums: bool) -> bool {
         return act::answer(head, body, sums);
     }
     leaf::answer(head, body, sums)
+}
+
+fn writes_image(operation: u32) -> bool {
+    if operation == case::WIDEN {
+        return true;
+    }
+    if operation == case::NARROW {
+        return true;
+    }
+    operation == case::LAY_OUT
 }
 
 // The training track profile, of which nothing is left but its answer.

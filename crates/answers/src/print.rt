@@ -87,6 +87,20 @@ pub(crate) fn sum_of_u16s(col: &[u16], n: usize) -> u64 {
     sum
 }
 
+// Of the bytes of numbers of 32 bits.
+pub(crate) fn sum_of_u32s(col: &[u32]) -> u64 {
+    let mut sum: u64 = 1;
+    let mut i = 0;
+    while i < col.len() {
+        let low = with(sum, (col[i] % 256) as u8);
+        let second = with(low, (col[i] / 256 % 256) as u8);
+        let third = with(second, (col[i] / 65536 % 256) as u8);
+        sum = with(third, (col[i] / 16777216 % 256) as u8);
+        i += 1;
+    }
+    sum
+}
+
 // The checksum of a buffer at the end of a line.
 pub(crate) fn sum_line(words: &[u8], bytes: &[u8]) -> bool {
     number_line(words, sum_of(bytes))

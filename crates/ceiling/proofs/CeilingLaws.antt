@@ -9,7 +9,8 @@ use lib.Dec.{eqb}
 use borrow.Author.Tests.{ne-eqb}
 use Rattle.link_rules.specs.Refusals.{noRefusal, refused, orElse}
 use Rattle.link_rules.specs.declared.refusal.Refusal.{Refusal}
-use Rattle.image_fault.specs.ImageFault.{imageFault}
+use Rattle.image_fault.specs.ImageFault.{faultWith}
+use Rattle.image_fault.specs.declared.Widths.the-variants.{Either}
 use Rattle.image_fault.proofs.AcceptLaws as Clean
 use Rattle.yard_check.specs.Yard as Yard
 use Rattle.yard_check.specs.Yard.{yardFits, slotCount, partOf}
@@ -29,7 +30,7 @@ told-refused f n q = ap (λ (k : ℕ). record { fault = f; steps = k }) (go (f .
 pub told-steps : (f : Refusal) (n : ℕ) → f .number ≡ 0 → _≡_ {A = StepCeiling} (record { fault = f; steps = n }) (toldBy f n)
 told-steps f n q = ap (λ (k : ℕ). record { fault = f; steps = stepsUnless k n }) (sym q)
 
-module _ (img : List ℕ) (f : Refusal) (e : f ≡ imageFault img 4000) where
+module _ (img : List ℕ) (f : Refusal) (e : f ≡ faultWith Either noRefusal img 4000) where
   pub image-refused : (f .number ≡ 0 → ⊥) → _≡_ {A = StepCeiling} (record { fault = f; steps = 0 }) (ceilingOf img)
   unfolding ceilingOf
   image-refused z = told-refused f (roundCeiling img) z ∙ ap (λ (r : Refusal). toldBy r (roundCeiling img)) e
@@ -52,10 +53,10 @@ module _ (yard : List ℕ) (limit : ℕ) (f : Refusal) (e : f ≡ yardFault yard
 -- E is at most 512 where the image is accepted
 pub ceiling-few : (img : List ℕ) → ceilingOf img .steps ≤ 1537
 unfolding ceilingOf
-ceiling-few img = go (imageFault img 4000 .number) refl
+ceiling-few img = go (faultWith Either noRefusal img 4000 .number) refl
   where
-    go : (k : ℕ) → imageFault img 4000 .number ≡ k → stepsUnless k (roundCeiling img) ≤ 1537
-    go zero e = omega (arith, Clean.fits-counts img (Clean.accepted img 4000 e .fits) .few-est)
+    go : (k : ℕ) → faultWith Either noRefusal img 4000 .number ≡ k → stepsUnless k (roundCeiling img) ≤ 1537
+    go zero e = omega (arith, Clean.fits-counts img (Clean.accepted-in Either img 4000 e .fits) .few-est)
     go (suc k) e = omega arith
 
 -- 1,537 times 65,536

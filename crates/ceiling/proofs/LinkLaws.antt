@@ -6,13 +6,13 @@ use Prim.Native.Nat.{ℕ, zero, suc, _+_, _≤_, _<_}
 use native.Mathlib.Omega.{arith}
 use lib.Dec.{ltb, eqb}
 use borrow.Author.Tests.{ltb-true, lt-ltb}
-use Rattle.link_rules.specs.Refusals.{refusedUnless, orElse}
+use Rattle.link_rules.specs.Refusals.{noRefusal, refusedUnless, orElse}
 use Rattle.link_rules.specs.declared.refusal.Refusal.{Refusal}
 use Rattle.disp_structs.specs.declared.LinkEvent.{LinkEvent}
 use Rattle.image.specs.Fields.{estDistField, nodeOffsetField, nodeTimeField, readIn, readFirst}
 use Rattle.image.specs.Image.{estCount, pathCount, estPlace, nodePlace, estAt, nodeAt}
-use Rattle.image_fault.specs.ImageFault.{lengthFault, layoutFault, firstUnfit, floatFits, timeFits, eventFits, estLinksFit, estFits, nodeFits, headerFits, valueFault, cycleFault, routeFault, faultWith, imageFault}
-use Rattle.image_fault.specs.declared.Widths.the-variants.{Narrow}
+use Rattle.image_fault.specs.ImageFault.{lengthFault, layoutFault, firstUnfit, floatFits, timeFits, eventFits, estLinksFit, estFits, nodeFits, headerFits, valueFault, cycleFault, routeFault, faultWith}
+use Rattle.image_fault.specs.declared.Widths.{Widths}
 use Rattle.image_fault.proofs.ScanLaws.{both, step-fit}
 use Rattle.image_fault.proofs.AcceptLaws as Clean
 
@@ -68,11 +68,11 @@ module _ (l m : ℕ) (le : l ≤ m) where
 
 -- ---- the image
 
-pub more-links : (bs : List ℕ) (l : ℕ) → imageFault bs l .number ≡ 0 → imageFault bs 4000 .number ≡ 0
+pub more-links : (v : Widths) (bs : List ℕ) (l : ℕ) → faultWith v noRefusal bs l .number ≡ 0 → faultWith v noRefusal bs 4000 .number ≡ 0
 unfolding faultWith
-more-links bs l h =
-    let a = Clean.accepted bs l h in
-    or-clean (lengthFault 4000) (orElse (layoutFault Narrow bs) (orElse (valueFault bs 4000) (orElse (cycleFault bs) (routeFault bs)))) refl
-    (or-clean (layoutFault Narrow bs) (orElse (valueFault bs 4000) (orElse (cycleFault bs) (routeFault bs))) (Clean.or-else-clean (layoutFault Narrow bs) _ (Clean.or-else-clean (lengthFault l) _ h .1) .0)
+more-links v bs l h =
+    let a = Clean.accepted-in v bs l h in
+    or-clean (lengthFault 4000) (orElse (layoutFault v bs) (orElse (valueFault bs 4000) (orElse (cycleFault bs) (routeFault bs)))) refl
+    (or-clean (layoutFault v bs) (orElse (valueFault bs 4000) (orElse (cycleFault bs) (routeFault bs))) (Clean.or-else-clean (layoutFault v bs) _ (Clean.or-else-clean (lengthFault l) _ h .1) .0)
     (or-clean (valueFault bs 4000) (orElse (cycleFault bs) (routeFault bs)) (value-more l 4000 (a .links .1) bs (a .values))
     (or-clean (cycleFault bs) (routeFault bs) (a .cycle) (a .route))))

@@ -10,11 +10,12 @@ use lib.ListN.{length}
 use Rattle.link_rules.specs.Refusals.{noRefusal, refused}
 use Rattle.link_rules.proofs.OctetLaws.{Bytes}
 use Rattle.image.specs.Codec.{decoded}
-use Rattle.image_fault.specs.ImageFault.{lengthFault, imageFault}
-use Rattle.image_fault.proofs.AcceptLaws.{or-else-clean}
+use Rattle.image_fault.specs.ImageFault.{lengthFault, faultWith}
+use Rattle.image_fault.proofs.AcceptLaws.{or-else-clean, either-accepted}
 use Rattle.update_definition.specs.Update.{Updated, updateFreePath}
-use Rattle.update_definition.specs.UpdateImage.{UpdatedImage, blockingFault, orderFault, callFault, answerBy, linkIdxs, updateFaultIn, updateFault, updatedImageIn, updatedImage}
-use Rattle.image_fault.specs.declared.Widths.the-variants.{Narrow}
+use Rattle.update_definition.specs.UpdateImage.{UpdatedImage, blockingFault, orderFault, callFault, answerBy, linkIdxs, updateFaultIn, updatedImageIn}
+use Rattle.image_fault.specs.declared.Widths.{Widths}
+use Rattle.update_laws.proofs.UpdateClean.{update-clean}
 use Rattle.update_laws.proofs.UpdateCounts.{image-counts}
 use Rattle.update_laws.proofs.UpdateSteps.{image-paced}
 use Rattle.yard_check.specs.Yard as Yard
@@ -27,34 +28,35 @@ use Rattle.ceiling.proofs.LinkLaws.{or-clean, more-links}
 -- ---- an update
 
 -- an image that is accepted over some links has its ceiling
-ceiling-is : (img : List ℕ) (l : ℕ) → imageFault img l .number ≡ 0 → roundCeiling img ≡ ceilingOf img .steps
+ceiling-is : (v : Widths) (img : List ℕ) (l : ℕ) → faultWith v noRefusal img l .number ≡ 0 → roundCeiling img ≡ ceilingOf img .steps
 unfolding ceilingOf
-ceiling-is img l h = ap (λ (k : ℕ). stepsUnless k (roundCeiling img)) (sym (more-links img l h))
+ceiling-is v img l h = ap (λ (k : ℕ). stepsUnless k (roundCeiling img)) (sym (either-accepted v img 4000 (more-links v img l h)))
 
-module _ (img occ blocking : List ℕ) (moved : ℕ) (local : Bool) (limit : ℕ) (b : Bytes img) where
+-- in a call that takes the widths v
+module _ (v : Widths) (img occ blocking : List ℕ) (moved : ℕ) (local : Bool) (limit : ℕ) (b : Bytes img) where
   abbrev after : UpdatedImage
-  after = updatedImage img occ blocking moved local limit
+  after = updatedImageIn v img occ blocking moved local limit
 
   -- of a refused update too
   pub update-within : after .answer .tally .steps ≤ after .answer .tally .rounds * ceilingOf img .steps
   unfolding updatedImageIn updateFaultIn
-  update-within = go (updateFault img occ blocking moved limit .number) refl
+  update-within = go (updateFaultIn v img occ blocking moved limit .number) refl
     where
       u : Updated
       u = updateFreePath occ (linkIdxs blocking) (record { 0 = moved }) local limit (decoded img)
 
-      go : (k : ℕ) → updateFault img occ blocking moved limit .number ≡ k → after .answer .tally .steps ≤ after .answer .tally .rounds * ceilingOf img .steps
+      go : (k : ℕ) → updateFaultIn v img occ blocking moved limit .number ≡ k → after .answer .tally .steps ≤ after .answer .tally .rounds * ceilingOf img .steps
       go zero e =
-          subst (λ (c : ℕ). after .answer .tally .steps ≤ after .answer .tally .rounds * c) (ceiling-is img (length occ) (or-else-clean (callFault occ blocking moved limit) (imageFault img (length occ)) e .1))
-          (image-paced Narrow img occ blocking moved local limit b)
+          subst (λ (c : ℕ). after .answer .tally .steps ≤ after .answer .tally .rounds * c) (ceiling-is v img (length occ) (update-clean v img occ blocking moved limit e .image))
+          (image-paced v img occ blocking moved local limit b)
       go (suc k) e =
-          let z : after .answer .tally .steps ≡ 0 = ap (λ (n : ℕ). answerBy n (updateFault img occ blocking moved limit) u img .answer .tally .steps) e in
+          let z : after .answer .tally .steps ≡ 0 = ap (λ (n : ℕ). answerBy n (updateFaultIn v img occ blocking moved limit) u img .answer .tally .steps) e in
           omega (arith, z)
 
   -- hence at most the ceiling times the limit
   pub update-limit : after .answer .tally .steps ≤ ceilingOf img .steps * limit
   update-limit =
-      omega (arith, update-within, mul-le-mul-right (ceilingOf img .steps) (image-counts Narrow img occ blocking moved local limit b .rounds), mul-comm limit (ceilingOf img .steps))
+      omega (arith, update-within, mul-le-mul-right (ceilingOf img .steps) (image-counts v img occ blocking moved local limit b .rounds), mul-comm limit (ceilingOf img .steps))
 
 -- ---- a check
 
@@ -73,8 +75,8 @@ module _ (yard occ : List ℕ) (a : CheckArgs) (bytes : Bytes yard) (ok : Fits y
   unfolding slotSteps
   slot-within t l m =
       unless-within (ltb t (a .begin)) _ _
-      (visit-within (imageFault (partOf yard t) (length occ) .number) (isFinished (partOf yard t)) (eqb t (a .moved)) _ _
-      (update-limit (partOf yard t) occ (a .blocking) (a .moved) (a .local) (a .limit) (part-bytes yard ok t l m bytes)))
+      (visit-within (faultWith (a .widths) noRefusal (partOf yard t) (length occ) .number) (isFinished (partOf yard t)) (eqb t (a .moved)) _ _
+      (update-limit (a .widths) (partOf yard t) occ (a .blocking) (a .moved) (a .local) (a .limit) (part-bytes yard ok t l m bytes)))
 
   slots-within : (n : ℕ) → n ≤ slotCount yard → checkSteps yard occ a n ≤ slotsCeiling yard (a .limit) n
   unfolding checkSteps slotsCeiling

@@ -7,8 +7,9 @@ use lib.ListN.{length}
 use Rattle.link_rules.specs.Refusals.{noRefusal, refused, orElse}
 use Rattle.link_rules.specs.declared.refusal.Refusal.{Refusal}
 use Rattle.image.specs.Image.{estCount}
-use Rattle.image_fault.specs.ImageFault.{imageFault}
-use Rattle.update_definition.specs.UpdateImage.{updatedImage}
+use Rattle.image_fault.specs.ImageFault.{faultWith}
+use Rattle.image_fault.specs.declared.Widths.the-variants.{Either}
+use Rattle.update_definition.specs.UpdateImage.{updatedImageIn}
 use Rattle.yard_check.specs.Yard as Yard
 use Rattle.yard_check.specs.Yard.{slotCount, partOf}
 use Rattle.yard_check.specs.Check.{CheckArgs, isFinished}
@@ -28,9 +29,9 @@ toldBy f n = record { fault = f; steps = stepsUnless (f .number) n }
 abbrev pub roundCeiling : List ℕ → ℕ
 roundCeiling img = 3 * estCount img + 1
 
--- 6 to 9 over 4,000 links
+-- 6 to 9 and 22 over 4,000 links, in images of either width
 unfoldable pub ceilingOf : List ℕ → StepCeiling
-ceilingOf img = toldBy (imageFault img 4000) (roundCeiling img)
+ceilingOf img = toldBy (faultWith Either noRefusal img 4000) (roundCeiling img)
 
 -- ---- a yard
 
@@ -48,7 +49,7 @@ yardCeilingOf yard limit = toldBy (yardFault yard limit) (slotsCeiling yard limi
 
 -- ---- the steps of a check: their sum over the slots that are updated
 
--- as visitBy has it: a slot that is refused by 6 to 9, finished or moved is not updated
+-- as visitBy has it: a slot that is refused by 6 to 9 or 22, finished or moved is not updated
 abbrev pub visitSteps : ℕ → Bool → Bool → ℕ → ℕ
 visitSteps (suc n) isDone isMoved steps = 0
 visitSteps zero true isMoved steps = 0
@@ -59,8 +60,8 @@ visitSteps zero false false steps = steps
 unfoldable pub slotSteps : List ℕ → List ℕ → CheckArgs → ℕ → ℕ
 slotSteps yard occ a t =
     let img = partOf yard t in
-    let steps = updatedImage img occ (a .blocking) (a .moved) (a .local) (a .limit) .answer .tally .steps in
-    let visit = visitSteps (imageFault img (length occ) .number) (isFinished img) (eqb t (a .moved)) steps in
+    let steps = updatedImageIn (a .widths) img occ (a .blocking) (a .moved) (a .local) (a .limit) .answer .tally .steps in
+    let visit = visitSteps (faultWith (a .widths) noRefusal img (length occ) .number) (isFinished img) (eqb t (a .moved)) steps in
     cond (ltb t (a .begin)) 0 visit
 
 -- slots 1 to n

@@ -2,6 +2,7 @@
 // Every function here is proved, the crate assumes nothing of its own, and no public function has a `requires`.
 use image::codec;
 use image_fault;
+use image_fault::Widths;
 use link_rules::link_idx::TrainIdx;
 use link_rules::refusal::Refusal;
 use yard_check::yard;
@@ -32,11 +33,15 @@ fn round_ceiling(image: &[u8]) -> u64
     3 * (codec::est_count(image) as u64) + 1
 }
 
-// What no round of an update of the image can exceed; refused by 6 to 9 over 4,000 links.
+// What no round of an update of the image, of either width, can exceed; refused by 6 to 9 and 22 over 4,000 links.
 pub fn ceiling(image: &[u8]) -> StepCeiling
     ensures { λ r. ⌜ r ≡ ceilingOf (now (image .entry)) ⌝ }
 {
-    let fault = image_fault::image_fault(image, 4000);
+    let none = Refusal {
+        number: 0,
+        place: 0,
+    };
+    let fault = image_fault::fault_with(image, 4000, Widths::Either, none);
     let steps = round_ceiling(image);
     if fault.number != 0 {
         return told(fault, 0);

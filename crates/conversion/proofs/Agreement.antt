@@ -1,15 +1,15 @@
 -- Where no train exceeds 65,535, an update over u32 entries answers and leaves what one over u16 entries does; so does the update of the
 -- image written wide, whose image is then the one that is left, written wide. Assumes nothing.
 use mathlib.Core.Path.{_≡_, refl, sym, ap, subst, _∙_}
-use mathlib.Core.Bool.{Bool, true, false}
+use mathlib.Core.Bool.{Bool, true, false, _&&_}
 use mathlib.Core.List.{List, [], _∷_}
-use Prim.Native.Nat.{ℕ, zero, suc}
+use Prim.Native.Nat.{ℕ, zero, suc, _≤_}
 use native.Mathlib.Omega.{arith}
-use lib.Dec.{leb}
+use lib.Dec.{leb, lit<}
 use lib.ListN.{length}
-use borrow.Author.Tests.{le-leb, lt-leb}
+use borrow.Author.Tests.{le-leb, lt-leb, leb-true, ne-eqb}
 use Rattle.link_rules.specs.Octets.{leAt}
-use Rattle.link_rules.specs.Refusals.{noRefusal}
+use Rattle.link_rules.specs.Refusals.{noRefusal, orElse}
 use Rattle.link_rules.specs.declared.refusal.Refusal.{Refusal}
 use Rattle.link_rules.proofs.OctetLaws.{Bytes}
 use Rattle.disp_structs.specs.Train.{Train}
@@ -17,19 +17,24 @@ use Rattle.est_times.proofs.Counting.{clash}
 use Rattle.image.specs.Image.{isWide, largestTrain}
 use Rattle.image.specs.Codec.{decoded, encoded, storedInto}
 use Rattle.image.proofs.CodecLaws.{Keeps, width-read, encoded-wide}
-use Rattle.image_fault.specs.ImageFault.{trainFits, imageFits, faultWith, imageFault}
+use Rattle.image_fault.specs.ImageFault.{lengthFault, layoutFault, trainFits, imageFits, valueFault, cycleFault, routeFault, faultWith, imageFault}
+use Rattle.image_fault.specs.declared.Widths.{Widths}
 use Rattle.image_fault.specs.declared.Widths.the-variants.{Narrow, Either}
-use Rattle.image_fault.proofs.AcceptLaws.{stored-accepted}
+use Rattle.image_fault.proofs.AcceptLaws.{or-else-clean, or-else-none, refused-clean, own-clean, accepted-in, accepted-narrow, clean-trains, good-image, stored-accepted}
+use Rattle.image_fault.proofs.ScanLaws.{both}
 use Rattle.update_definition.specs.Fits.{TrainsUpTo, TrainsWithin}
 use Rattle.update_definition.specs.Update.{Status, Success, Blocked, Faulty, Refused, Updated, updateFreePath}
-use Rattle.update_definition.specs.UpdateImage.{UpdatedImage, callFault, entriesUpTo, givenFault, leftImage, answerBy, storedAnswer, linkIdxs, updateFaultIn, updatedImageIn, updateFault, updatedImage, updatedImageWide}
+use Rattle.update_definition.specs.UpdateImage.{UpdatedImage, callFault, entriesUpTo, givenFault, leftImage, answerBy, storedAnswer, refusedAnswer, linkIdxs, updateFaultIn, updatedImageIn, updateFault, updatedImage, updatedImageWide}
 use Rattle.update_laws.specs.AfterRound.{Leaves}
 use Rattle.update_laws.specs.FitsGood.{TrainFits}
 use Rattle.update_laws.proofs.BytesAccepted.{narrow-held}
 use Rattle.update_laws.proofs.Updates.{StaysFit}
-use Rattle.update_laws.proofs.UpdateAnswers.{call-refused, not-refused}
+use Rattle.update_laws.proofs.UpdateAnswers.{call-refused, image-refused, not-refused}
 use Rattle.update_laws.proofs.UpdateLeaves.{keeps, fit-held, left-passes, leaves}
-use Rattle.conversion.proofs.RoundTrips.{widened-held, widened-kept}
+use Rattle.conversion.specs.Conversion.{outFault, widenFault}
+use Rattle.conversion.specs.WidthsAgree.{WideAlike, UpdatesAgree}
+use Rattle.conversion.proofs.WidenedFaults.{values-same, trains-none}
+use Rattle.conversion.proofs.RoundTrips.{widened-held, widened-kept, widened-bytes, widened-clean}
 
 -- ---- 22
 
@@ -72,13 +77,8 @@ module _ (img occ blocking : List ℕ) (moved : ℕ) (local : Bool) (limit : ℕ
 
 -- ---- the image written wide
 
--- the same answer, and the image that is left written wide
-pub record WideAlike (a b : UpdatedImage) : Type 0 where
-  pub answer : b .answer ≡ a .answer
-  pub image : b .image ≡ encoded true (decoded (a .image))
-
 module _ (img occ blocking : List ℕ) (moved : ℕ) (local : Bool) (limit : ℕ) (w : TrainsWithin 65535 occ moved) (b : Bytes img)
-    (ok : imageFault img (length occ) .number ≡ 0) (b′ : Bytes (encoded true (decoded img))) (ok′ : faultWith Either noRefusal (encoded true (decoded img)) (length occ) .number ≡ 0) where
+    (ok : imageFault img (length occ) .number ≡ 0) where
   abbrev img′ : List ℕ
   img′ = encoded true (decoded img)
 
@@ -93,6 +93,12 @@ module _ (img occ blocking : List ℕ) (moved : ℕ) (local : Bool) (limit : ℕ
 
   wide : isWide img′ ≡ true
   wide = encoded-wide true (decoded img) (widened-held img (length occ) b ok)
+
+  b′ : Bytes img′
+  b′ = widened-bytes img (length occ) b ok
+
+  ok′ : faultWith Either noRefusal img′ (length occ) .number ≡ 0
+  ok′ = widened-clean img (length occ) b ok
 
   -- what is left
   stored : (t : Train) → StaysFit (length occ) (largestTrain img) (decoded img) t → storedInto t img′ ≡ encoded true t
@@ -123,3 +129,78 @@ module _ (img occ blocking : List ℕ) (moved : ℕ) (local : Bool) (limit : ℕ
       go (suc n) e =
           rw (call-refused Narrow img occ blocking moved local limit n e, call-refused Either img′ occ blocking moved local limit n e)
           (record { answer = refl; image = refl })
+
+-- ---- an image that goes wide, over an occupancy of any length
+
+laid : (x : Widths) (bs : List ℕ) → faultWith x noRefusal bs 4000 .number ≡ 0 → layoutFault x bs .number ≡ 0
+unfolding faultWith
+laid x bs h = or-else-clean (layoutFault x bs) (orElse (valueFault bs 4000) (orElse (cycleFault bs) (routeFault bs))) h .0
+
+module _ (img occ blocking : List ℕ) (moved : ℕ) (local : Bool) (limit : ℕ) (w : TrainsWithin 65535 occ moved) (b : Bytes img) (ok : imageFault img 4000 .number ≡ 0) where
+  abbrev wide-img : List ℕ
+  wide-img = encoded true (decoded img)
+
+  abbrev l : ℕ
+  l = length occ
+
+  -- both are refused by 7 alike, and neither by what does not depend on L
+  values : valueFault wide-img l ≡ valueFault img l
+  values =
+      let c = accepted-in Narrow img 4000 ok in
+      let c′ = accepted-in Either wide-img 4000 (widened-clean img 4000 b ok) in
+      values-same wide-img img (good-image wide-img (c′ .fits) 4000 (c′ .values) (widened-bytes img 4000 b ok)) (good-image img (c .fits) 4000 (c .values) b) (widened-kept img 4000 b ok .0) l
+      (trains-none wide-img (clean-trains wide-img 4000 (c′ .values))) (trains-none img (clean-trains img 4000 (c .values)))
+
+  -- refused by 7
+  module _ (lo : 2 ≤ l) (hi : l ≤ 4000) (n : ℕ) (v : valueFault img l .number ≡ suc n) where
+    by-values : (x : Widths) (bs : List ℕ) → layoutFault x bs .number ≡ 0 → valueFault bs l ≡ valueFault img l → faultWith x noRefusal bs l ≡ valueFault img l
+    unfolding faultWith
+    by-values x bs f e =
+        rw (le-leb 2 l lo, le-leb l 4000 hi)
+        (or-else-none (layoutFault x bs) (orElse (valueFault bs l) (orElse (cycleFault bs) (routeFault bs))) f
+        ∙ (ap (λ (r : Refusal). orElse r (orElse (cycleFault bs) (routeFault bs))) e ∙ rw (ne-eqb (valueFault img l .number) 0 (λ q. omega (arith, v, q)))))
+
+    refused-alike : callFault occ blocking moved limit .number ≡ 0 → WideAlike (updatedImage img occ blocking moved local limit) (updatedImageWide wide-img occ blocking moved local limit)
+    refused-alike e =
+        let f = by-values Narrow img (laid Narrow img ok) refl in
+        let f′ = ap (λ (r : Refusal). faultWith Either r wide-img l) (given-none wide-img occ moved w) ∙ by-values Either wide-img (laid Either wide-img (widened-clean img 4000 b ok)) values in
+        let r = image-refused Narrow img occ blocking moved local limit n e (ap (λ (x : Refusal). x .number) f ∙ v) ∙ ap (λ (x : Refusal). refusedAnswer x img) f in
+        let r′ = image-refused Either wide-img occ blocking moved local limit n e (ap (λ (x : Refusal). x .number) f′ ∙ v) ∙ ap (λ (x : Refusal). refusedAnswer x wide-img) f′ in
+        rw (r, r′) (record { answer = refl; image = refl })
+
+  -- accepted over l links
+  over : 2 ≤ l → l ≤ 4000 → valueFault img l .number ≡ 0 → imageFault img l .number ≡ 0
+  unfolding faultWith
+  over lo hi v =
+      let c = accepted-in Narrow img 4000 ok in
+      rw (le-leb 2 l lo, le-leb l 4000 hi)
+      (ap (λ (r : Refusal). r .number)
+      (or-else-none (layoutFault Narrow img) (orElse (valueFault img l) (orElse (cycleFault img) (routeFault img))) (laid Narrow img ok)
+      ∙ (or-else-none (valueFault img l) (orElse (cycleFault img) (routeFault img)) v ∙ or-else-none (cycleFault img) (routeFault img) (c .cycle)))
+      ∙ c .route)
+
+  pub goes-wide-agrees : WideAlike (updatedImage img occ blocking moved local limit) (updatedImageWide wide-img occ blocking moved local limit)
+  unfolding callFault
+  goes-wide-agrees = go (callFault occ blocking moved limit .number) refl
+    where
+      by-value : callFault occ blocking moved limit .number ≡ 0 → (lo : 2 ≤ l) (hi : l ≤ 4000) (k : ℕ) → valueFault img l .number ≡ k
+          → WideAlike (updatedImage img occ blocking moved local limit) (updatedImageWide wide-img occ blocking moved local limit)
+      by-value e lo hi zero v = widened-agrees img occ blocking moved local limit w b (over lo hi v)
+      by-value e lo hi (suc n) v = refused-alike lo hi n v e
+
+      go : (k : ℕ) → callFault occ blocking moved limit .number ≡ k → WideAlike (updatedImage img occ blocking moved local limit) (updatedImageWide wide-img occ blocking moved local limit)
+      go zero e =
+          let x = both (leb 2 l) (leb l 4000) (refused-clean (leb 2 l && leb l 4000) 2 (lit< tt) (or-else-clean (lengthFault l) _ e .0)) in
+          by-value e (leb-true 2 l (x .0)) (leb-true l 4000 (x .1)) (valueFault img l .number) refl
+      go (suc n) e =
+          rw (call-refused Narrow img occ blocking moved local limit n e, call-refused Either wide-img occ blocking moved local limit n e)
+          (record { answer = refl; image = refl })
+
+pub updates-agree : UpdatesAgree
+unfolding widenFault
+updates-agree img size occ blocking moved local limit b h w =
+    let ok = own-clean Narrow (outFault true img size) img 4000 h .1 in
+    record {
+      entries = narrow-agrees img occ blocking moved local limit w (accepted-narrow img 4000 ok);
+      widened = goes-wide-agrees img occ blocking moved local limit w b ok;
+    }

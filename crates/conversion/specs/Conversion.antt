@@ -4,10 +4,12 @@ use Prim.Native.Nat.{ℕ}
 use mathlib.Core.Bool.{Bool, true, false, cond}
 use mathlib.Core.List.{List}
 use lib.Dec.{leb, eqb}
+use lib.ListN.{length}
 use Rattle.link_rules.specs.Network.{allBelow}
 use Rattle.link_rules.specs.Refusals.{refusedUnless, orElse}
 use Rattle.link_rules.specs.declared.refusal.Refusal.{Refusal}
 use Rattle.image.specs.Image.{estCount, divergeCount, divergeRoom, isWide, imageSize, largestOf, divergeAt}
+use Rattle.image.specs.Codec.{decoded, encoded}
 use Rattle.image_fault.specs.ImageFault.{faultWith}
 use Rattle.image_fault.specs.declared.Widths.the-variants.{Narrow, Either}
 
@@ -32,3 +34,10 @@ narrowFault img size =
 -- a refusal leaves the output
 abbrev pub leftBy : (f : Refusal) (new was : List ℕ) → List ℕ
 leftBy f new was = cond (eqb (f .number) 0) new was
+
+-- the output that going wide and going narrow leave
+abbrev pub afterWiden : (img out : List ℕ) → List ℕ
+afterWiden img out = leftBy (widenFault img (length out)) (encoded true (decoded img)) out
+
+abbrev pub afterNarrow : (img out : List ℕ) → List ℕ
+afterNarrow img out = leftBy (narrowFault img (length out)) (encoded false (decoded img)) out

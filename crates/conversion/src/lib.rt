@@ -18,7 +18,7 @@ ghost use Rattle.image.specs.Codec.{wideNumber, decoded, encoded};
 ghost use Rattle.image_fault.specs.ImageFault.{faultWith};
 ghost use Rattle.image_fault.specs.declared.Widths.the-variants.{Either};
 ghost use Rattle.image_store.specs.Stored.{divergesInto};
-ghost use Rattle.conversion.specs.Conversion.{outFault, widenFault, narrowFault, fitsNarrow, leftBy};
+ghost use Rattle.conversion.specs.Conversion.{outFault, widenFault, narrowFault, fitsNarrow, afterWiden, afterNarrow};
 
 // The first n bytes of an image.
 fn copy_front(image: &[u8], out: &mut [u8], n: usize)
@@ -81,7 +81,7 @@ fn out_fault(image: &[u8], wide: bool, size: usize) -> Refusal
 // Writes a narrow image wide. Refused by 6 to 9: then out is not changed.
 pub fn widen(image: &[u8], out: &mut [u8]) -> Refusal
     ensures { λ r. ⌜ (r ≡ widenFault (now (image .entry)) (length (now (out .entry))))
-        × (now (out .exit) ≡ leftBy r (encoded true (decoded (now (image .entry)))) (now (out .entry))) ⌝ }
+        × (now (out .exit) ≡ afterWiden (now (image .entry)) (now (out .entry))) ⌝ }
 {
     let own = out_fault(image, true, out.len());
     let f = image_fault::fault_with(image, 4000, Widths::Narrow, own);
@@ -113,7 +113,7 @@ fn trains_fit(image: &[u8], m: u32) -> bool
     true
 }
 
-// Refusals 6 to 9, 22 and 23.
+// Refusals 6 to 9, 22 and 23, which is asked of an image that has none of the others: until then its count may be any number.
 fn narrow_fault(image: &[u8], size: usize) -> Refusal
     ensures { λ r. ⌜ r ≡ narrowFault (now (image .entry)) size ⌝ }
 {
@@ -122,14 +122,17 @@ fn narrow_fault(image: &[u8], size: usize) -> Refusal
         out_fault(image, false, size),
     );
     let f = image_fault::fault_with(image, 4000, Widths::Either, own);
+    if f.number != 0 {
+        return f;
+    }
     let fits = trains_fit(image, codec::diverge_count(image));
-    refusal::or_else(f, refusal::refused_unless(fits, 23))
+    refusal::refused_unless(fits, 23)
 }
 
 // Writes a wide image narrow. Refused by 6 to 9, 22 and 23: then out is not changed.
 pub fn narrow(image: &[u8], out: &mut [u8]) -> Refusal
     ensures { λ r. ⌜ (r ≡ narrowFault (now (image .entry)) (length (now (out .entry))))
-        × (now (out .exit) ≡ leftBy r (encoded false (decoded (now (image .entry)))) (now (out .entry))) ⌝ }
+        × (now (out .exit) ≡ afterNarrow (now (image .entry)) (now (out .entry))) ⌝ }
 {
     let f = narrow_fault(image, out.len());
     if f.number != 0 {

@@ -1,18 +1,22 @@
 // The calls for C and Rust. A function named `lavtoeu_` and so on is exported under that name, takes numbers and slices (a pointer
 // and a length), is total for every argument, and calls one proved function of another crate; the others serve these.
 pub mod version;
+pub mod wide;
 
 ghost use mathlib.Core.Path.{_≡_};
 ghost use Rattle.link_rules.specs.AdvanceRewind.{markOf};
-ghost use Rattle.image_fault.specs.ImageFault.{imageFault};
+ghost use Rattle.image_fault.specs.ImageFault.{faultWith};
+ghost use Rattle.image_fault.specs.declared.Widths.the-variants.{Either};
+ghost use Rattle.link_rules.specs.Refusals.{noRefusal};
 ghost use Rattle.track_profile.specs.Profile.{profileFault};
 ghost use Rattle.ceiling.specs.Ceiling.{ceilingOf, yardCeilingOf};
 ghost use Rattle.game.specs.Game.{verdictOf};
 ghost use Rattle.train_disp.specs.TrainDisp.{laidOut};
 ghost use lib.ListN.{set};
+ghost use mathlib.Core.List.{[]};
 ghost use Rattle.update_definition.specs.Update.{holderIn};
 ghost use Rattle.update_definition.specs.UpdateImage.{updatedImage};
-ghost use Rattle.update_free_path.specs.Updates.{statusOf};
+ghost use Rattle.update_free_path.specs.Updates.{statusOf, updatedOf};
 ghost use Rattle.yard_check.specs.Check.{checked};
 ghost use Rattle.yard_check.specs.Checks.{answeredOf};
 ghost use Rattle.yard_check.specs.Sheet.{sheetText};
@@ -25,12 +29,14 @@ ghost use Rattle.free_path_c.specs.Words.{answerWord, faultWord, setting
 ghost use Rattle.free_path_c.specs.Words.{viewWords, ToldView};
 use candidate;
 use candidate::Viewed;
+ghost use Rattle.free_path_c.specs.Words.{answerWord, faultWord, settingsOf, flagOf, statusWord, codeOf, errorsOf, updateWords, Told, ceilingWords, ToldCeiling, checkWord, bitOf, threeWords, checkWords, ToldCheck, ToldReplay};
 use ceiling;
 use ceiling::StepCeiling;
 use disp_structs::Metres;
 use game;
 use game::Verdict;
 use image_fault;
+use image_fault::Widths;
 use link_rules::advance_rewind;
 use link_rules::link_idx::LinkIdx;
 use link_rules::link_idx::NarrowTrainIdx;
@@ -42,6 +48,7 @@ use sitting;
 use train_disp::Settings;
 use update_free_path;
 use update_free_path::answer::Status;
+use update_free_path::answer::Updated;
 use yard_check::check;
 use yard_check::sheet;
 
@@ -63,12 +70,17 @@ fn answer_word(answer: Answer) -> u32
     }
 }
 
-// The first refusal of an image over a number of links by 6 to 9: 0, or the number with its place in the upper 16 bits.
+// The first refusal of an image of either width over a number of links by 6 to 9 and 22, since it is given no occupancy: 0, or the number with its
+// place in the upper 16 bits.
 #[no_mangle]
 pub extern "C" fn lavtoeu_image_fault(image: &[u8], links: u32) -> u32
-    ensures { λ r. ⌜ r ≡ faultWord (imageFault (now (image .entry)) links) ⌝ }
+    ensures { λ r. ⌜ r ≡ faultWord (faultWith Either noRefusal (now (image .entry)) links) ⌝ }
 {
-    fault_word(image_fault::image_fault(image, links))
+    let none = Refusal {
+        number: 0,
+        place: 0,
+    };
+    fault_word(image_fault::fault_with(image, links, Widths::Either, none))
 }
 
 fn fault_word(f: Refusal) -> u32
@@ -77,7 +89,7 @@ fn fault_word(f: Refusal) -> u32
     (f.number as u32) + 65536 * (f.place as u32)
 }
 
-// The first refusal of an image by 6 to 9 over 4,000 links, then 29 where a distance or an offset is outside the training track profile. Answers as lavtoeu_image_fault does.
+// The first refusal of an image of either width by 6 to 9 and 22 over 4,000 links, then 29 where a distance or an offset is outside the training track profile. Answers as lavtoeu_image_fault does.
 #[no_mangle]
 pub extern "C" fn lavtoeu_profile(image: &[u8]) -> u32
     ensures { λ r. ⌜ r ≡ faultWord (profileFault (now (image .entry))) ⌝ }
@@ -85,7 +97,8 @@ pub extern "C" fn lavtoeu_profile(image: &[u8]) -> u32
     fault_word(track_profile::profile_fault(image))
 }
 
-// The ceiling of search steps in a round of an update of the image: refused by 6 to 9 over 4,000 links, else the first word of `answer` gets it.
+// The ceiling of search steps in a round of an update of the image, of either width: refused by 6 to 9 and 22 over 4,000 links, else the first word of
+// `answer` gets it.
 // Answers as lavtoeu_image_fault does; a refused call leaves `answer`.
 #[no_mangle]
 pub extern "C" fn lavtoeu_ceiling(image: &[u8], answer: &mut [u64]) -> u32
@@ -164,6 +177,13 @@ pub extern "C" fn lavtoeu_update(
         flag_of(local),
         limit,
     );
+    put_update(answer, x)
+}
+
+// The seven words, and the word that is returned.
+fn put_update(answer: &mut [u64], x: Updated) -> u32
+    ensures { λ r. ⌜ (r ≡ statusWord (statusOf (x .status))) × (now (answer .exit) ≡ updateWords (updatedOf x []) (now (answer .entry))) ⌝ }
+{
     let s = x.status;
     put_word(answer, 0, code_of(s));
     put_word(answer, 1, errors_of(s));
@@ -370,7 +390,7 @@ pub extern "C" fn lavtoeu_sheet(bundle: &[u8], text: &mut [u8]) -> usize
     sheet::sheet(bundle, text)
 }
 
-// Writes the page of an image's path: a line of 40 bytes for each node. Answers as lavtoeu_mark does.
+// Writes the page of the path of an image of either width: a line of 40 bytes for each node. Answers as lavtoeu_mark does.
 #[no_mangle]
 pub extern "C" fn lavtoeu_page(image: &[u8], page: &mut [u8]) -> u32
     ensures { λ r. ⌜ (r ≡ faultWord (pageFault (now (image .entry)) (now (page .entry)))) × (now (page .exit) ≡ pageAfter drawingRule (now (image .entry)) (now (page .entry))) ⌝ }

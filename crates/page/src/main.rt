@@ -1,5 +1,5 @@
 // Reads an image on standard input and prints the page of its path (requests Q-1 and Q-8), or `refused` and the number.
-// The largest image has 36,928 bytes. One more is read, so that a longer input is refused by 6.
+// The largest image, a wide one, has 41,024 bytes. One more is read, so that a longer input is refused by 6.
 ghost use mathlib.Core.Path.{_≡_};
 ghost use lib.ListN.{length};
 use image::codec;
@@ -8,10 +8,10 @@ use libc::STDIN_FILENO;
 use libc::STDOUT_FILENO;
 use path_page;
 
-fn input_room() -> [u8; 36929]
-    ensures { λ r. ⌜ 36929 ≡ length r ⌝ }
+fn input_room() -> [u8; 41025]
+    ensures { λ r. ⌜ 41025 ≡ length r ⌝ }
 {
-    [0u8; 36929]
+    [0u8; 41025]
 }
 
 // 512 lines, as many as a path has nodes.

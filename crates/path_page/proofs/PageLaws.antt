@@ -16,11 +16,12 @@ use Rattle.disp_structs.specs.declared.DispNode.{DispNode}
 use Rattle.disp_structs.specs.declared.EstType.{EstType}
 use Rattle.disp_structs.specs.declared.EstType.the-variants.{Arrive, Clear, Fake}
 use Rattle.image.specs.Image.{estCount, pathCount, nodePlace, nodeFrom, nodeAt}
-use Rattle.image_fault.specs.ImageFault.{imageFault, floatFits}
+use Rattle.image_fault.specs.ImageFault.{floatFits, faultWith}
+use Rattle.image_fault.specs.declared.Widths.the-variants.{Either}
 use Rattle.image_fault.specs.CodeFacts.{CountsFit}
 use Rattle.link_rules.specs.Refusals.{refused, noRefusal}
 use Rattle.link_rules.specs.declared.refusal.Refusal.{Refusal}
-use Rattle.image_fault.proofs.AcceptLaws.{accepted, fits-counts, node-fits, clean-node, clean-link}
+use Rattle.image_fault.proofs.AcceptLaws.{accepted-in, fits-counts, node-fits, clean-node, clean-link}
 use Rattle.image_fault.proofs.ScanLaws.{both}
 use Rattle.text.specs.Ascii.{ascii, decimal, signed, lineEnd}
 use Rattle.text.specs.Columns.{signedIn, rightIn}
@@ -134,17 +135,17 @@ module _ (t : Ties) (node : ℕ → DispNode) where
 -- ---- refusals
 
 module _ (t : Ties) (img page : List ℕ) where
-  pub image-refused : (imageFault img mostLinks .number ≡ 0 → ⊥) → pageFault img page ≡ imageFault img mostLinks
+  pub image-refused : (faultWith Either noRefusal img mostLinks .number ≡ 0 → ⊥) → pageFault img page ≡ faultWith Either noRefusal img mostLinks
   unfolding pageFault
-  image-refused h = rw (ne-eqb (imageFault img mostLinks .number) 0 h)
+  image-refused h = rw (ne-eqb (faultWith Either noRefusal img mostLinks .number) 0 h)
 
-  pub too-short : imageFault img mostLinks .number ≡ 0 → length page < 40 * pathCount img → pageFault img page ≡ refused 18 0
+  pub too-short : faultWith Either noRefusal img mostLinks .number ≡ 0 → length page < 40 * pathCount img → pageFault img page ≡ refused 18 0
   unfolding pageFault
-  too-short z h = rw (eq-eqb (imageFault img mostLinks .number) 0 z, lt-ltb (length page) (40 * pathCount img) h)
+  too-short z h = rw (eq-eqb (faultWith Either noRefusal img mostLinks .number) 0 z, lt-ltb (length page) (40 * pathCount img) h)
 
-  pub not-refused : imageFault img mostLinks .number ≡ 0 → 40 * pathCount img ≤ length page → pageFault img page ≡ noRefusal
+  pub not-refused : faultWith Either noRefusal img mostLinks .number ≡ 0 → 40 * pathCount img ≤ length page → pageFault img page ≡ noRefusal
   unfolding pageFault
-  not-refused z h = rw (eq-eqb (imageFault img mostLinks .number) 0 z, le-ltb (length page) (40 * pathCount img) h)
+  not-refused z h = rw (eq-eqb (faultWith Either noRefusal img mostLinks .number) 0 z, le-ltb (length page) (40 * pathCount img) h)
 
   -- a refused call leaves the page
   pub stays : (f : Refusal) → pageFault img page ≡ f → (f .number ≡ 0 → ⊥) → page ≡ pageAfter t img page
@@ -155,12 +156,12 @@ module _ (t : Ties) (img page : List ℕ) where
   unfolding pageAfter
   done e = rw (eq-eqb (pageFault img page .number) 0 e, pageAfter)
 
-  pub image-accepted : pageFault img page .number ≡ 0 → imageFault img mostLinks .number ≡ 0
-  image-accepted z = go (eqb (imageFault img mostLinks .number) 0) refl
+  pub image-accepted : pageFault img page .number ≡ 0 → faultWith Either noRefusal img mostLinks .number ≡ 0
+  image-accepted z = go (eqb (faultWith Either noRefusal img mostLinks .number) 0) refl
     where
-      go : (b : Bool) → eqb (imageFault img mostLinks .number) 0 ≡ b → imageFault img mostLinks .number ≡ 0
-      go true e = eqb-true (imageFault img mostLinks .number) 0 e
-      go false e = sym (ap (λ (f : Refusal). f .number) (image-refused (eqb-false (imageFault img mostLinks .number) 0 e))) ∙ z
+      go : (b : Bool) → eqb (faultWith Either noRefusal img mostLinks .number) 0 ≡ b → faultWith Either noRefusal img mostLinks .number ≡ 0
+      go true e = eqb-true (faultWith Either noRefusal img mostLinks .number) 0 e
+      go false e = sym (ap (λ (f : Refusal). f .number) (image-refused (eqb-false (faultWith Either noRefusal img mostLinks .number) 0 e))) ∙ z
 
   -- where nothing is refused, the page has room for the lines
   pub lines-room : pageFault img page .number ≡ 0 → 40 * pathCount img ≤ length page
@@ -180,9 +181,9 @@ five n h = right-is 4 n h
 fourteen : (minus : Bool) (n : ℕ) → n ≤ 1000000000000 → signedIn 14 minus n ≡ padded 14 (signed minus n)
 fourteen minus n h = with-sign 12 minus n (let k : n < 10000000000000 = omega arith in k)
 
-module _ (img : List ℕ) (ok : imageFault img mostLinks .number ≡ 0) where
+module _ (img : List ℕ) (ok : faultWith Either noRefusal img mostLinks .number ≡ 0) where
   counts : CountsFit img
-  counts = fits-counts img (accepted img mostLinks ok .fits)
+  counts = fits-counts img (accepted-in Either img mostLinks ok .fits)
 
   module _ (i : ℕ) (h : i < pathCount img) where
     abbrev x : DispNode
@@ -192,13 +193,13 @@ module _ (img : List ℕ) (ok : imageFault img mostLinks .number ≡ 0) where
     unfolding nodeFrom floatFits
     offset-reached =
         let b = leAt 8 img (nodePlace (estCount img) i) in
-        both (leb (b % 0x8000_0000_0000_0000) 0x7ff0_0000_0000_0000) _ (node-fits img mostLinks i (clean-node img mostLinks (accepted img mostLinks ok .values) i h) .offset) .1
+        both (leb (b % 0x8000_0000_0000_0000) 0x7ff0_0000_0000_0000) _ (node-fits img mostLinks i (clean-node img mostLinks (accepted-in Either img mostLinks ok .values) i h) .offset) .1
 
     link-below : x .«link_event» .«link_idx» .0 < 100000
-    link-below = omega (arith, clean-link img mostLinks (accepted img mostLinks ok .values) i h)
+    link-below = omega (arith, clean-link img mostLinks (accepted-in Either img mostLinks ok .values) i h)
 
     est-below : x .«est_idx» .0 < 100000
-    est-below = omega (arith, counts .few-est, node-fits img mostLinks i (clean-node img mostLinks (accepted img mostLinks ok .values) i h) .est)
+    est-below = omega (arith, counts .few-est, node-fits img mostLinks i (clean-node img mostLinks (accepted-in Either img mostLinks ok .values) i h) .est)
 
     node-below : i < 100000
     node-below = omega (arith, counts .few-path, counts .few-est)

@@ -1,4 +1,4 @@
--- The page of a path (requests Q-1 and Q-8): refusals 6 to 9 and 18, then a line of 39 columns and a line end for each node. Assumes nothing.
+-- The page of a path (requests Q-1, Q-8 and Q-6): refusals 6 to 9, 22 and 18, then a line of 39 columns and a line end for each node. Assumes nothing.
 use Prim.Native.Nat.{ℕ, zero, suc, _*_}
 use mathlib.Core.Bool.{true, false, cond}
 use mathlib.Core.List.{List, [], _∷_, _++_}
@@ -8,7 +8,8 @@ use Rattle.disp_structs.specs.declared.DispNode.{DispNode}
 use Rattle.disp_structs.specs.declared.EstType.{EstType}
 use Rattle.disp_structs.specs.declared.EstType.the-variants.{Arrive, Clear, Fake}
 use Rattle.image.specs.Image.{pathCount, nodeAt}
-use Rattle.image_fault.specs.ImageFault.{imageFault}
+use Rattle.image_fault.specs.ImageFault.{faultWith}
+use Rattle.image_fault.specs.declared.Widths.the-variants.{Either}
 use Rattle.link_rules.specs.Refusals.{orElse, refused, noRefusal}
 use Rattle.link_rules.specs.declared.refusal.Refusal.{Refusal}
 use Rattle.text.specs.Ascii.{ascii, lineEnd}
@@ -56,9 +57,9 @@ unfoldable pub pageLines : Ties → (ℕ → DispNode) → ℕ → List ℕ
 pageLines t node zero = []
 pageLines t node (suc n) = pageLines t node n ++ lineOf t n (node n)
 
--- 6 to 9 with their places, then 18
+-- 6 to 9 with their places, 22 at the end of 7, in images of either width; then 18
 unfoldable pub pageFault : (img page : List ℕ) → Refusal
-pageFault img page = orElse (imageFault img mostLinks) (cond (ltb (length page) (40 * pathCount img)) (refused 18 0) noRefusal)
+pageFault img page = orElse (faultWith Either noRefusal img mostLinks) (cond (ltb (length page) (40 * pathCount img)) (refused 18 0) noRefusal)
 
 -- the lines, and behind them what the page has there
 abbrev pub printed : (t : Ties) (node : ℕ → DispNode) (n : ℕ) (page : List ℕ) → List ℕ

@@ -1,9 +1,10 @@
-// The page of a path (requests Q-1 and Q-8): a line of 40 bytes for each node, read through the image's reader, its offset in whole metres from the bits.
+// The page of a path (requests Q-1, Q-8 and Q-6): a line of 40 bytes for each node, read through the image's reader, its offset in whole metres from the bits.
 // Every function here is proved, and the crate assumes nothing of its own. No public function has a `requires`.
 use disp_structs::DispNode;
 use disp_structs::EstType;
 use image::codec;
 use image_fault;
+use image_fault::Widths;
 use image_reader;
 use link_rules::refusal::Refusal;
 use metres::Ties;
@@ -84,11 +85,15 @@ fn put_lines(ties: Ties, text: &mut [u8], image: &[u8], n: u32) -> usize
     count
 }
 
-// The page of an image's path, or the refusal; a refused call leaves the page.
+// The page of the path of an image of either width, or the refusal; a refused call leaves the page.
 pub fn page(image: &[u8], page: &mut [u8]) -> Refusal
     ensures { λ r. ⌜ (r ≡ pageFault (now (image .entry)) (now (page .entry))) × (now (page .exit) ≡ pageAfter drawingRule (now (image .entry)) (now (page .entry))) ⌝ }
 {
-    let fault = image_fault::image_fault(image, 4000);
+    let none = Refusal {
+        number: 0,
+        place: 0,
+    };
+    let fault = image_fault::fault_with(image, 4000, Widths::Either, none);
     if fault.number != 0 {
         return fault;
     }

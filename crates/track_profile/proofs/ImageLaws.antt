@@ -11,7 +11,8 @@ use Rattle.link_rules.proofs.TableLaws.{all-at}
 use Rattle.disp_structs.specs.Floats.{realOf}
 use Rattle.disp_structs.specs.declared.Metres.{Metres}
 use Rattle.image.specs.Image.{estCount, pathCount, distDispPathSearch, distFixedMax, estFrom, nodeFrom, nodePlace}
-use Rattle.image_fault.specs.ImageFault.{imageFault}
+use Rattle.image_fault.specs.ImageFault.{faultWith}
+use Rattle.image_fault.specs.declared.Widths.the-variants.{Either}
 use Rattle.link_rules.specs.Refusals.{noRefusal, refused}
 use Rattle.link_rules.specs.declared.refusal.Refusal.{Refusal}
 use Rattle.image_fault.proofs.AcceptLaws as Clean
@@ -57,7 +58,7 @@ image-sound bs h =
 pub in-profile : (bs : List ℕ) → profileFault bs ≡ noRefusal → DistsInProfile bs × OffsetsInProfile bs
 unfolding profileFault
 in-profile bs h =
-    let c = Clean.or-else-clean (imageFault bs 4000) (cond (imageInProfile bs) noRefusal (refused 29 0)) (ap (λ (f : Refusal). f .number) h) in
+    let c = Clean.or-else-clean (faultWith Either noRefusal bs 4000) (cond (imageInProfile bs) noRefusal (refused 29 0)) (ap (λ (f : Refusal). f .number) h) in
     image-sound bs (go (imageInProfile bs) (c .1))
   where
     go : (t : Bool) → cond t noRefusal (refused 29 0) .number ≡ 0 → t ≡ true

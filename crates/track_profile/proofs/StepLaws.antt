@@ -26,14 +26,13 @@ use Rattle.link_rules.proofs.OctetLaws.{Bytes}
 use Rattle.disp_structs.specs.Listed.{listed}
 use Rattle.image.specs.Image.{estCount, pathCount, largestTrain, estAt, nodeAt}
 use Rattle.image.specs.Codec.{decoded}
-use Rattle.image_fault.specs.ImageFault.{imageFault}
-use Rattle.image_fault.proofs.AcceptLaws as Clean
 use Rattle.update_laws.specs.AfterRound.{Leaves}
 use Rattle.update_laws.specs.FitsGood.{TrainFits}
 use Rattle.update_laws.proofs.Updates.{StaysFit}
-use Rattle.update_definition.specs.UpdateImage.{UpdatedImage, callFault, linkIdxs, answerBy, updateFaultIn, updateFault, updatedImageIn, updatedImage}
+use Rattle.update_definition.specs.UpdateImage.{UpdatedImage, linkIdxs, answerBy, updateFaultIn, updatedImageIn}
 use Rattle.update_laws.proofs.PathReads.{listed-read, read-listed}
-use Rattle.image_fault.specs.declared.Widths.the-variants.{Narrow}
+use Rattle.image_fault.specs.declared.Widths.{Widths}
+use Rattle.update_laws.proofs.UpdateClean.{update-clean}
 use Rattle.update_laws.proofs.UpdateLeaves.{leaves, left-holds}
 use Rattle.track_profile.specs.Profile.{InProfile, distAt, offsetAt}
 use Rattle.track_profile.specs.ExactSteps.{StepsExact, SuccessIsExact, estOf}
@@ -188,21 +187,21 @@ module _ (bs : List ℕ) (right : badPath (decoded bs .«est_times») (decoded b
 
 -- ---- the theorem
 
-module _ (img occ blocking : List ℕ) (moved : ℕ) (local : Bool) (limit : ℕ) where
+module _ (v : Widths) (img occ blocking : List ℕ) (moved : ℕ) (local : Bool) (limit : ℕ) where
   abbrev after : UpdatedImage
-  after = updatedImage img occ blocking moved local limit
+  after = updatedImageIn v img occ blocking moved local limit
 
   abbrev train-left : Updated
   train-left = updateFreePath occ (linkIdxs blocking) (record { 0 = moved }) local limit (decoded img)
 
-  success-told : after .answer .status ≡ Success → (updateFault img occ blocking moved limit .number ≡ 0) × (train-left .answer .status ≡ Success)
+  success-told : after .answer .status ≡ Success → (updateFaultIn v img occ blocking moved limit .number ≡ 0) × (train-left .answer .status ≡ Success)
   unfolding updatedImageIn
-  success-told h = go (updateFault img occ blocking moved limit .number) refl h
+  success-told h = go (updateFaultIn v img occ blocking moved limit .number) refl h
     where
-      go : (k : ℕ) → updateFault img occ blocking moved limit .number ≡ k → answerBy k (updateFault img occ blocking moved limit) train-left img .answer .status ≡ Success
-          → (updateFault img occ blocking moved limit .number ≡ 0) × (train-left .answer .status ≡ Success)
+      go : (k : ℕ) → updateFaultIn v img occ blocking moved limit .number ≡ k → answerBy k (updateFaultIn v img occ blocking moved limit) train-left img .answer .status ≡ Success
+          → (updateFaultIn v img occ blocking moved limit .number ≡ 0) × (train-left .answer .status ≡ Success)
       go zero e h = (e, h)
-      go (suc k) e h = other-no (Refused (updateFault img occ blocking moved limit)) refl h
+      go (suc k) e h = other-no (Refused (updateFaultIn v img occ blocking moved limit)) refl h
 
   same-listed : {A : Type 0} (n k : ℕ) (f g : ℕ → A) → listed n f ≡ listed k g → (i : ℕ) → i < n → (i < k) × (g i ≡ f i)
   same-listed n k f g e i l = listed-read k g i (subst (λ (xs : List _). at xs i ≡ ok (f i)) e (read-listed n f i l))
@@ -212,15 +211,15 @@ module _ (img occ blocking : List ℕ) (moved : ℕ) (local : Bool) (limit : ℕ
   unfolding updateFaultIn
   success-ests b top low w h =
       let k = success-told h in
-      let c = Clean.or-else-clean (callFault occ blocking moved limit) (imageFault img (length occ)) (k .0) .1 in
-      let f = subst (λ (s : Status). Leaves (StaysFit (length occ) (largestTrain img) (decoded img)) (TrainFits (largestTrain img)) (decoded img) s (train-left .train)) (k .1) (leaves Narrow img (length occ) b c occ blocking moved local limit top low w) in
-      ap (λ (t : Train). t .«est_times») (left-holds Narrow img occ blocking moved local limit b top low w (k .0)) ∙ f .stays .same .ests
+      let c = update-clean v img occ blocking moved limit (k .0) .image in
+      let f = subst (λ (s : Status). Leaves (StaysFit (length occ) (largestTrain img) (decoded img)) (TrainFits (largestTrain img)) (decoded img) s (train-left .train)) (k .1) (leaves v img (length occ) b c occ blocking moved local limit top low w) in
+      ap (λ (t : Train). t .«est_times») (left-holds v img occ blocking moved local limit b top low w (k .0)) ∙ f .stays .same .ests
 
   -- needed of the image before are its est distances alone, of the image after its offsets
   pub success-exact : Bytes img → (top : ℕ) → top ≤ largestTrain img → TrainsWithin top occ moved → DistsInProfile img → after .answer .status ≡ Success → OffsetsInProfile (after .image) → StepsExact (after .image)
   success-exact b top low w ds h os =
       let k = success-told h in
-      let e = left-holds Narrow img occ blocking moved local limit b top low w (k .0) in
+      let e = left-holds v img occ blocking moved local limit b top low w (k .0) in
       let r = update-right occ (linkIdxs blocking) (record { 0 = moved }) local limit (decoded img) (k .1) in
       steps-exact (after .image) (subst (λ (t : Train). badPath (t .«est_times») (t .«disp_path») ≡ ok 0) (sym e) r) kept os
     where
@@ -230,4 +229,4 @@ module _ (img occ blocking : List ℕ) (moved : ℕ) (local : Bool) (limit : ℕ
           subst (λ (x : EstTime). InProfile (x .«dist_to_next» .0)) (z .1) (ds i (z .0))
 
 pub success-is-exact : SuccessIsExact
-success-is-exact top img occ blocking moved local limit b low w p h q = success-exact img occ blocking moved local limit b top low w (in-profile img p .0) h (in-profile (after img occ blocking moved local limit .image) q .1)
+success-is-exact v top img occ blocking moved local limit b low w p h q = success-exact v img occ blocking moved local limit b top low w (in-profile img p .0) h (in-profile (after v img occ blocking moved local limit .image) q .1)

@@ -12,7 +12,8 @@ use Rattle.image.specs.Image.{pathCount, largestTrain, estAt, nodeAt}
 use Rattle.link_rules.specs.Refusals.{noRefusal}
 use Rattle.update_definition.specs.Fits.{TrainsWithin}
 use Rattle.update_definition.specs.Update.{Success}
-use Rattle.update_definition.specs.UpdateImage.{updatedImage}
+use Rattle.image_fault.specs.declared.Widths.{Widths}
+use Rattle.update_definition.specs.UpdateImage.{updatedImageIn}
 use Rattle.track_profile.specs.Profile.{unitsOf, distAt, offsetAt, profileFault}
 
 -- ---- near
@@ -51,12 +52,12 @@ StepsExact bs = (i : ℕ) → i + 1 < pathCount bs → StepExact bs i
 
 -- ---- an update
 
--- the image is of u8; the trains of the occupancy and the moved one are up to top, of which the image holds every one
+-- of a call that takes the widths w; the image is of u8; the trains of the occupancy and the moved one are up to top, of which the image holds every one
 abbrev pub SuccessIsExact : Type 0
 SuccessIsExact =
-    (top : ℕ) (image occupancy blocking : List ℕ) (moved : ℕ) (local : Bool) (limit : ℕ)
+    (w : Widths) (top : ℕ) (image occupancy blocking : List ℕ) (moved : ℕ) (local : Bool) (limit : ℕ)
     → ((i : ℕ) → getD image i 0 < 256) → top ≤ largestTrain image → TrainsWithin top occupancy moved
     → profileFault image ≡ noRefusal
-    → updatedImage image occupancy blocking moved local limit .answer .status ≡ Success
-    → profileFault (updatedImage image occupancy blocking moved local limit .image) ≡ noRefusal
-    → StepsExact (updatedImage image occupancy blocking moved local limit .image)
+    → updatedImageIn w image occupancy blocking moved local limit .answer .status ≡ Success
+    → profileFault (updatedImageIn w image occupancy blocking moved local limit .image) ≡ noRefusal
+    → StepsExact (updatedImageIn w image occupancy blocking moved local limit .image)

@@ -7,7 +7,8 @@ use lib.Dec.{leb, eqb}
 use lib.Ieee.{Float, nan, inf, fin, up, down}
 use Rattle.link_rules.specs.Network.{allBelow}
 use Rattle.image.specs.Image.{estCount, pathCount, distDispPathSearch, distFixedMax, estAt, nodeAt}
-use Rattle.image_fault.specs.ImageFault.{imageFault}
+use Rattle.image_fault.specs.ImageFault.{faultWith}
+use Rattle.image_fault.specs.declared.Widths.the-variants.{Either}
 use Rattle.link_rules.specs.Refusals.{noRefusal, refused, orElse}
 use Rattle.link_rules.specs.declared.refusal.Refusal.{Refusal}
 
@@ -55,6 +56,6 @@ imageInProfile bs =
     allBelow (estCount bs) (λ i. inProfile (distAt bs i))
     && (inProfile (distDispPathSearch bs .0) && (inProfile (distFixedMax bs .0) && allBelow (pathCount bs) (λ i. inProfile (offsetAt bs i))))
 
--- 6 to 9 over 4,000 links, then 29
+-- 6 to 9 and 22 over 4,000 links, in images of either width; then 29
 unfoldable pub profileFault : List ℕ → Refusal
-profileFault bs = orElse (imageFault bs 4000) (cond (imageInProfile bs) noRefusal (refused 29 0))
+profileFault bs = orElse (faultWith Either noRefusal bs 4000) (cond (imageInProfile bs) noRefusal (refused 29 0))

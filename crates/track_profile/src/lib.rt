@@ -2,6 +2,8 @@
 // Every function here is proved, the crate assumes nothing of its own, and no function has a `requires`.
 use disp_structs::floats;
 use image::codec;
+use image_fault;
+use image_fault::Widths;
 use link_rules::octets;
 use link_rules::refusal::Refusal;
 ghost use mathlib.Core.Path.{_≡_};
@@ -11,11 +13,15 @@ ghost use Rattle.disp_structs.specs.Floats.{realOf};
 ghost use Rattle.image.specs.Image.{nodePlace};
 ghost use Rattle.track_profile.specs.Profile.{inProfile, imageInProfile, profileFault};
 
-// The first refusal of an image by 6 to 9 over 4,000 links; then 29 where a value of it is outside the profile.
+// The first refusal of an image of either width by 6 to 9 and 22 over 4,000 links; then 29 where a value of it is outside the profile.
 pub fn profile_fault(image: &[u8]) -> Refusal
     ensures { λ r. ⌜ r ≡ profileFault (now (image .entry)) ⌝ }
 {
-    let f = image_fault::image_fault(image, 4000);
+    let none = Refusal {
+        number: 0,
+        place: 0,
+    };
+    let f = image_fault::fault_with(image, 4000, Widths::Either, none);
     if f.number != 0 {
         return f;
     }

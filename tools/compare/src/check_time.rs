@@ -17,7 +17,7 @@ const SLOTS: usize = 63;
 const ESTS: usize = 512;
 
 /// A yard of trains of one kind over the first one's arguments, none of which is refused.
-fn full_yard(mut make: impl FnMut() -> UpdateCase) -> CheckCase {
+pub fn full_yard(mut make: impl FnMut() -> UpdateCase) -> CheckCase {
     let first = make();
     let mut images = vec![];
     while images.len() < SLOTS {

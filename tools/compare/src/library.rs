@@ -2,19 +2,18 @@
 
 use crate::candidates;
 use crate::replays;
-use lavtoeu::{Game, Move, Order, Refusal};
-use oracle::cases::{
-    Case, ACT, CEILING, CHECK, GAME, LAY_OUT, MARK, PAGE, PROFILE, REPLAY, SHEET, UPDATE, VIEW, YARD_CEILING,
-};
+use lavtoeu::{Game, Move, Order, Refusal, WideMove};
+use oracle::cases::*;
 use oracle::gen::UpdateCase;
-use oracle::layout::{u16_bytes, u16s, u32s};
+use oracle::layout::{u16_bytes, u16s, u32_bytes, u32s};
 use oracle::model::CheckArgs;
+use oracle::wide::WideArgs;
 
 /// Where the answer of an operation has the refusal's number.
 pub fn number_at(op: u32) -> usize {
     match op {
-        MARK | LAY_OUT | PAGE | PROFILE | CEILING | YARD_CEILING | REPLAY | GAME => 0,
-        VIEW | ACT => 0,
+        MARK | LAY_OUT | PAGE | PROFILE | CEILING | YARD_CEILING | REPLAY | GAME | VIEW | ACT => 0,
+        WIDE_MARK | WIDEN | NARROW => 0,
         _ => 1,
     }
 }
@@ -34,6 +33,11 @@ pub fn answered(asked: &Case) -> Case {
         GAME => game(&mut case),
         VIEW => candidates::view(&mut case),
         ACT => candidates::act(&mut case),
+        WIDE_MARK => wide_mark(&mut case),
+        WIDE_UPDATE => wide_update(&mut case),
+        WIDE_CHECK => wide_check(&mut case),
+        WIDEN => convert(&mut case, lavtoeu::widen),
+        NARROW => convert(&mut case, lavtoeu::narrow),
         PROFILE => (case.answer[0], case.answer[1]) = numbers(lavtoeu::profile(&case.ins[0])),
         CEILING => number(&mut case, lavtoeu::ceiling(&asked.ins[0])),
         YARD_CEILING => number(&mut case, lavtoeu::yard_ceiling(&asked.ins[0], asked.args[0] as u16)),
@@ -99,7 +103,12 @@ fn update(case: &mut Case) {
         limit: limit as u16,
     };
     let mut answer = vec![0; lavtoeu::layout::UPDATE_WORDS];
-    let (number, place) = numbers(lavtoeu::update_into(&mut image, told, &mut answer));
+    let done = lavtoeu::update_into(&mut image, told, &mut answer);
+    put_update(case, done, &answer, image);
+}
+
+fn put_update(case: &mut Case, done: Result<(), Refusal>, answer: &[u64], image: Vec<u8>) {
+    let (number, place) = numbers(done);
     let [code, errors, rounds, strays, steps, holder, met] = answer[..] else {
         panic!("{} words", answer.len())
     };
@@ -121,7 +130,12 @@ fn check(case: &mut Case) {
     let (occ, blocking) = (u16s(&case.ins[1]), u32s(&case.ins[2]));
     let (told, begin) = told_check(&case.check_args(&occ, &blocking));
     let mut answer = vec![u64::MAX; 3];
-    let (number, place) = numbers(lavtoeu::check_into(&mut yard, told, begin, &mut report, &mut answer));
+    let done = lavtoeu::check_into(&mut yard, told, begin, &mut report, &mut answer);
+    put_check(case, done, answer, [yard, report]);
+}
+
+fn put_check(case: &mut Case, done: Result<(), Refusal>, mut answer: Vec<u64>, left: [Vec<u8>; 2]) {
+    let (number, place) = numbers(done);
     // A refused check leaves the words as they were, and the oracle writes 0 for them.
     if number != 0 && answer == [u64::MAX; 3] {
         answer.fill(0);
@@ -132,7 +146,46 @@ fn check(case: &mut Case) {
         _ => 2,
     };
     case.answer = [kind, number, place, small(answer[0]), small(answer[1]), small(answer[2]), 0, 0];
-    case.outs = [yard, report];
+    case.outs = left;
+}
+
+fn wide_mark(case: &mut Case) {
+    let mut occ = u32s(&case.ins[1]);
+    let answer = lavtoeu::mark_wide(&case.ins[0], &mut occ, case.args[0], case.args[1]);
+    (case.answer[0], case.answer[1]) = numbers(answer);
+    case.outs = [u32_bytes(&occ), vec![]];
+}
+
+fn wide_told<'a>(a: &WideArgs<'a>) -> WideMove<'a> {
+    WideMove { occupancy: a.occ, blocking: a.blocking, moved: a.moved, local: a.local, limit: a.limit }
+}
+
+fn wide_update(case: &mut Case) {
+    let mut image = case.ins[0].clone();
+    let (occ, blocking) = (u32s(&case.ins[1]), u32s(&case.ins[2]));
+    let [moved, local, limit, ..] = case.args;
+    let args =
+        WideArgs { occ: &occ, blocking: &blocking, moved, begin: 0, local: local != 0, limit: limit as u16 };
+    let mut answer = vec![0; lavtoeu::layout::UPDATE_WORDS];
+    let done = lavtoeu::update_wide_into(&mut image, wide_told(&args), &mut answer);
+    put_update(case, done, &answer, image);
+}
+
+fn wide_check(case: &mut Case) {
+    let (mut yard, mut report) = (case.ins[0].clone(), case.ins[3].clone());
+    let (occ, blocking) = (u32s(&case.ins[1]), u32s(&case.ins[2]));
+    let args = case.wide_args(&occ, &blocking);
+    let begin = u16::try_from(args.begin).unwrap_or(u16::MAX);
+    let mut answer = vec![u64::MAX; 3];
+    let done = lavtoeu::check_wide_into(&mut yard, wide_told(&args), begin, &mut report, &mut answer);
+    put_check(case, done, answer, [yard, report]);
+}
+
+fn convert(case: &mut Case, by: fn(&[u8], &mut [u8]) -> Result<(), Refusal>) {
+    let mut out = case.ins[1].clone();
+    let answer = by(&case.ins[0], &mut out);
+    (case.answer[0], case.answer[1]) = numbers(answer);
+    case.outs = [out, vec![]];
 }
 
 /// The text of a bundle. 4,096 bytes hold every sheet.

@@ -13,6 +13,8 @@ mod tally;
 mod time;
 mod update_time;
 mod updates;
+mod wide_lists;
+mod wide_time;
 
 use oracle::cases::Case;
 use oracle::rng::Rng;
@@ -40,15 +42,21 @@ const KINDS: &[(&str, fn(&mut Run))] = &[
     ("check-large", |r| r.call(checks::large)),
     ("sheet", |r| r.call(calls::sheet)),
     ("sheet-damaged", |r| r.call(checks::damaged_sheet)),
-    ("page", |r| r.call(calls::page)),
-    ("profile", |r| r.call(calls::profile)),
-    ("ceiling", |r| r.call(calls::ceiling)),
-    ("yard-ceiling", |r| r.call(calls::yard_ceiling)),
+    ("page", |r| r.of_some_width(calls::page)),
+    ("profile", |r| r.of_some_width(calls::profile)),
+    ("ceiling", |r| r.of_some_width(calls::ceiling)),
+    ("yard-ceiling", |r| r.of_some_width(calls::yard_ceiling)),
     ("replay", |r| r.call(calls::replay)),
     ("game", |r| r.call(wide_calls::game)),
     ("view", |r| r.call(calls::view)),
     ("act", |r| r.call(calls::act)),
     ("candidate", |r| candidates::pair(&mut r.rng, &mut r.tally)),
+    ("mark-wide", |r| r.call(wide_calls::mark)),
+    ("update-wide", |r| r.call(wide_calls::update)),
+    ("check-wide", |r| r.call(wide_calls::check)),
+    ("widen", |r| r.call(wide_calls::widen)),
+    ("narrow", |r| r.call(wide_calls::narrow)),
+    ("list-wide", |r| wide_lists::list(&mut r.rng, &mut r.tally)),
 ];
 
 const TIMES: &[(&str, fn(u64))] = &[
@@ -59,6 +67,7 @@ const TIMES: &[(&str, fn(u64))] = &[
     ("replay-time", replays::time),
     ("game-time", game_time::run),
     ("candidate-time", candidates::time),
+    ("wide-time", wide_time::run),
 ];
 
 impl Run {
@@ -69,6 +78,12 @@ impl Run {
 
     fn call(&mut self, make: fn(&mut Rng) -> Case) {
         self.tally.add(&make(&mut self.rng));
+    }
+
+    /// A call without an occupancy takes images of both widths.
+    fn of_some_width(&mut self, make: fn(&mut Rng) -> Case) {
+        let case = make(&mut self.rng);
+        self.tally.add(&wide_calls::of_some_width(&mut self.rng, case));
     }
 
     fn update(&mut self, next: fn(&mut Updates) -> (Source, Case)) {
@@ -82,6 +97,7 @@ impl Run {
         let case = calls::some_train(rng);
         let links = case.occ.len();
         let image = if rng.chance(50) { case.damaged(rng).image } else { case.image };
+        let image = wide_calls::image_of_some_width(rng, &image);
         self.tally.add_image(&image.into_boxed_slice(), links);
     }
 }

@@ -58,10 +58,10 @@ pub fn answer(case: &mut Case) {
 }
 
 const MARKS: usize = 1_000;
-const LINKS: usize = 4_000;
+pub const LINKS: usize = 4_000;
 
 /// A table of the most links, each with a flip and the lockout beside it.
-fn table() -> Vec<u8> {
+pub fn table() -> Vec<u8> {
     let link = |l: usize| Link { flip: (l ^ 1) as u32, lockouts: vec![((l + 2) % LINKS) as u32] };
     lavtoeu::table(&(0..LINKS).map(link).collect::<Vec<_>>())
 }

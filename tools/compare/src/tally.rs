@@ -2,16 +2,18 @@
 
 use crate::library;
 use crate::updates::Source;
-use oracle::cases::{Case, CHECK, GAME, PAGE, REPLAY, UPDATE, VIEW};
-use oracle::layout::{read_image, u16s};
-use oracle::model::{row_at, LINKS, ROW};
+use oracle::cases::{Case, CHECK, GAME, PAGE, REPLAY, UPDATE, VIEW, WIDE_CHECK, WIDE_UPDATE};
+use oracle::layout::{read_any, u16s, u32_at};
+use oracle::model::LINKS;
+use oracle::wide::{row_at, row_size};
 use std::collections::BTreeMap;
 
 /// The number of cases whose answers differ, how many were refused by each number (0: by none), how updates and checks
 /// ended, how often a slot of a check has each code, in how many updates and slots a train was met and in how many of them
 /// another than the moved one, how many updates came from each generator, of pages how many lines there were and at how many
 /// the offset is an exact half of a metre, of replays how many steps were refused by each number (0: by none), of views how many
-/// links are taken, and of pairs of sittings how often they agree and do not agree after an act, by whether it is a mark.
+/// links are taken, of pairs of sittings how often they agree and do not agree after an act, by whether it is a mark, and of lists
+/// how many calls matched their renumbered twins.
 #[derive(Default)]
 pub struct Tally {
     pub differ: u64,
@@ -26,21 +28,22 @@ pub struct Tally {
     steps: BTreeMap<u16, u64>,
     taken: u64,
     agreements: BTreeMap<(bool, bool), u64>,
+    matched: u64,
 }
 
 /// How an update or a check ends that is not refused.
 fn end_of(judged: &Case) -> Option<&'static str> {
     let [kind, _, _, _, deadlock, ..] = judged.answer;
     match (judged.op, kind, deadlock) {
-        (UPDATE, 0, _) => Some("success"),
-        (UPDATE, 1, _) => Some("blocked"),
-        (UPDATE, 2, _) => Some("faulty"),
-        (CHECK, 0, 0) => Some("no deadlock"),
-        (CHECK, 0, _) => Some("deadlock"),
-        (CHECK, 1, _) => Some("erred"),
         (GAME, 0, _) => {
             Some(["the closer cannot force it", "the closer can force it"][judged.answer[2] as usize])
         }
+        (UPDATE | WIDE_UPDATE, 0, _) => Some("success"),
+        (UPDATE | WIDE_UPDATE, 1, _) => Some("blocked"),
+        (UPDATE | WIDE_UPDATE, 2, _) => Some("faulty"),
+        (CHECK | WIDE_CHECK, 0, 0) => Some("no deadlock"),
+        (CHECK | WIDE_CHECK, 0, _) => Some("deadlock"),
+        (CHECK | WIDE_CHECK, 1, _) => Some("erred"),
         _ => None,
     }
 }
@@ -57,11 +60,12 @@ impl Tally {
         end_of(&judged).into_iter().for_each(|end| count(&mut self.ends, end));
         let number = judged.answer[library::number_at(judged.op)];
         count(&mut self.refused, number);
-        if judged.op == CHECK && number == 0 {
-            let rows = (0..judged.outs[1].len() / ROW).map(|i| row_at(&judged.outs[1], i));
+        if (judged.op == CHECK || judged.op == WIDE_CHECK) && number == 0 {
+            let wide = judged.outs[1].len() != row_size(false) * u32_at(&judged.outs[0], 4) as usize;
+            let rows = (0..judged.outs[1].len() / row_size(wide)).map(|i| row_at(&judged.outs[1], i, wide));
             rows.for_each(|row| self.add_row(row.code, row.met, judged.args[0]));
         }
-        if judged.op == UPDATE {
+        if judged.op == UPDATE || judged.op == WIDE_UPDATE {
             self.add_met(judged.answer[7], judged.args[0]);
         }
         if judged.op == PAGE && number == 0 {
@@ -110,7 +114,7 @@ impl Tally {
     }
 
     fn add_lines(&mut self, image: &[u8]) {
-        let path = read_image(image, LINKS).expect("an accepted image").path;
+        let path = read_any(image, LINKS).expect("an accepted image").path;
         self.lines += path.len() as u64;
         self.halves += path.iter().filter(|x| x.offset.fract().abs() == 0.5).count() as u64;
     }
@@ -120,15 +124,25 @@ impl Tally {
         self.add(asked);
     }
 
-    /// Refusals 6 to 9 of an image.
+    /// Refusals 6 to 9 of an image of either width.
     pub fn add_image(&mut self, image: &[u8], links: usize) {
-        let judged = match read_image(image, links) {
+        let judged = match read_any(image, links) {
             Ok(_) => (0, 0),
             Err(r) => (r.number as u32, r.place),
         };
         count(&mut self.refused, judged.0);
         if library::numbers(lavtoeu::judge(image, links as u32)) != judged {
             self.differs(image);
+        }
+    }
+
+    /// Whether a call and its renumbered twin match, in what they answer and in what they leave.
+    pub fn add_matched(&mut self, same: bool, call: &Case) {
+        self.matched += same as u64;
+        if !same {
+            let mut bytes = vec![];
+            call.write(&mut bytes);
+            self.differs(&bytes);
         }
     }
 
@@ -160,6 +174,9 @@ impl Tally {
         for ((marks, agree), n) in &self.agreements {
             let (act, not) = (if *marks { "mark" } else { "release" }, if *agree { "" } else { "not " });
             println!("  after a {act} the sittings {not}agree: {n}");
+        }
+        if self.matched > 0 {
+            println!("  calls that match their twins: {}", self.matched);
         }
         if self.lines > 0 {
             println!("  lines: {}, exact halves among their offsets: {}", self.lines, self.halves);

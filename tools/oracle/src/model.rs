@@ -723,7 +723,7 @@ pub fn lines(t: &Train, round: Rounding) -> String {
 }
 
 pub fn page(image: &[u8], page: &mut [u8], round: Rounding) -> Result<(), Refusal> {
-    let t = read_image(image, LINKS)?;
+    let t = read_any(image, LINKS)?;
     let size = 40 * t.path.len();
     if page.len() < size {
         return Err(refusal(18));
@@ -756,7 +756,7 @@ pub fn in_profile(x: f64) -> bool {
 }
 
 pub fn profile(image: &[u8]) -> Result<(), Refusal> {
-    let t = read_image(image, LINKS)?;
+    let t = read_any(image, LINKS)?;
     let distances = t.est.iter().map(|x| x.dist_to_next);
     let settings = [t.dist_disp_path_search, t.dist_fixed_max];
     let offsets = t.path.iter().map(|x| x.offset);
@@ -771,7 +771,7 @@ pub fn profile(image: &[u8]) -> Result<(), Refusal> {
 
 /// The most entries into the search loop in a round, from the image alone.
 pub fn ceiling(image: &[u8]) -> Result<u64, Refusal> {
-    let t = read_image(image, LINKS)?;
+    let t = read_any(image, LINKS)?;
     Ok(3 * t.est.len() as u64 + 1)
 }
 

@@ -1,7 +1,7 @@
 //! Random calls of Q-6: the calls of the other generators with wide images and trains of up to six digits, some damaged.
 
 use crate::calls::{self, wrong_arguments};
-use crate::cases::Case;
+use crate::cases::{Case, YARD_CEILING};
 use crate::game::Game;
 use crate::gen::*;
 use crate::layout::*;
@@ -173,6 +173,35 @@ pub fn widened_yard(rng: &mut Rng, yard: &[u8], occ: &[u16]) -> (Vec<u8>, Vec<u3
     let turn = Turn::new(rng, parts.len(), top);
     let images: Vec<Vec<u8>> = parts.into_iter().zip(&wide).map(|(p, &w)| turn.image(&yard[p], w)).collect();
     (yard_of(&images), turn.all(occ))
+}
+
+/// An image in the other width now and then, some of these with a train that is too large.
+pub fn image_of_some_width(rng: &mut Rng, image: &[u8]) -> Vec<u8> {
+    match laid_out(image) {
+        Ok(t) if rng.chance(30) => {
+            let mut t = Train { wide: true, ..t };
+            if rng.chance(10) {
+                let i = rng.below(t.div.len());
+                t.div[i].train = rng.pick(&[999_999, 1_000_000, u32::MAX]);
+            }
+            image_of(&t)
+        }
+        _ => image.to_vec(),
+    }
+}
+
+/// A call without an occupancy, its image or images of either width.
+pub fn of_some_width(rng: &mut Rng, mut case: Case) -> Case {
+    case.ins[0] = match read_yard(&case.ins[0]) {
+        Some(parts) if case.op == YARD_CEILING => {
+            let images: Vec<Vec<u8>> =
+                parts.into_iter().map(|p| image_of_some_width(rng, &case.ins[0][p])).collect();
+            yard_of(&images)
+        }
+        _ if case.op == YARD_CEILING => return case,
+        _ => image_of_some_width(rng, &case.ins[0]),
+    };
+    case
 }
 
 /// The length of a report for a yard, 16 refuses all others.

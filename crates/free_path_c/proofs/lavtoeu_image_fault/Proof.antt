@@ -4,14 +4,14 @@ use borrow.Author.Needs.{needs}
 use Rattle.free_path_c.proofs.lavtoeu_image_fault.Statement.{statement}
 use Rattle.free_path_c.proofs.lavtoeu_image_fault.Tie as tie
 
-image-fault-requires : tie.Need-image-fault-requires
-image-fault-requires c κs = search needs
+fault-with-requires : tie.Need-fault-with-requires
+fault-with-requires c κs = search needs
 
 fault-word-requires : tie.Need-fault-word-requires
 fault-word-requires c κs = search needs
 
 returns : tie.Need-returns
-returns c = c .fault-word .ensures ∙ ap faultWord (c .before .image-fault .ensures)
+returns c = c .fault-word .ensures ∙ ap faultWord (c .before .fault-with .ensures)
 
 pub lavtoeu-image-fault-spec : {M : Type 1} → statement M
-lavtoeu-image-fault-spec = tie.close (tie.spec image-fault-requires fault-word-requires returns)
+lavtoeu-image-fault-spec = tie.close (tie.spec fault-with-requires fault-word-requires returns)

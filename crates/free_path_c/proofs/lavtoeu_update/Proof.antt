@@ -13,66 +13,26 @@ flag-of-requires c κs = search needs
 update-free-path-requires : tie.Need-update-free-path-requires
 update-free-path-requires c κs = search needs
 
-code-of-requires : tie.Need-code-of-requires
-code-of-requires c κs = search needs
-
-put-word-requires : tie.Need-put-word-requires
-put-word-requires c κs = search needs
-
-errors-of-requires : tie.Need-errors-of-requires
-errors-of-requires c κs = search needs
-
-put-word-requires-2 : tie.Need-put-word-requires-2
-put-word-requires-2 c κs = search needs
-
-cast-put-word : tie.Need-cast-put-word
-cast-put-word c = search needs
-
-put-word-requires-3 : tie.Need-put-word-requires-3
-put-word-requires-3 c κs = search needs
-
-put-word-requires-4 : tie.Need-put-word-requires-4
-put-word-requires-4 c κs = search needs
-
-put-word-requires-5 : tie.Need-put-word-requires-5
-put-word-requires-5 c κs = search needs
-
-holder-in-requires : tie.Need-holder-in-requires
-holder-in-requires c κs = search needs
-
-put-word-requires-6 : tie.Need-put-word-requires-6
-put-word-requires-6 c κs = search needs
-
-cast-put-word-2 : tie.Need-cast-put-word-2
-cast-put-word-2 c = search needs
-
-put-word-requires-7 : tie.Need-put-word-requires-7
-put-word-requires-7 c κs = search needs
-
-status-word-requires : tie.Need-status-word-requires
-status-word-requires c κs = search needs
+put-update-requires : tie.Need-put-update-requires
+put-update-requires c κs = search needs
 
 same-length : tie.Need-same-length
-same-length c = c .before .before .before .before .before .before .before .before .before .before .before .before .before .before .before .before .before .before .before .before .before .before .before .before .before .before .before .before .before .before .before .before .before .before .before .image .given
+same-length c = search needs
 
 same-length-2 : tie.Need-same-length-2
-same-length-2 c =
-    c .before .before .answer7 .given
-    ∙ c .before .before .before .before .before .before .before .answer6 .given
-    ∙ c .before .before .before .before .before .before .before .before .before .before .before .before .answer5 .given
-    ∙ c .before .before .before .before .before .before .before .before .before .before .before .before .before .before .before .before .answer4 .given
-    ∙ c .before .before .before .before .before .before .before .before .before .before .before .before .before .before .before .before .before .before .before .before .answer3 .given
-    ∙ c .before .before .before .before .before .before .before .before .before .before .before .before .before .before .before .before .before .before .before .before .before .before .before .before .before .answer2 .given
-    ∙ c .before .before .before .before .before .before .before .before .before .before .before .before .before .before .before .before .before .before .before .before .before .before .before .before .before .before .before .before .before .before .answer .given
+same-length-2 c = search needs
 
 returns : tie.Need-returns
 returns c =
-    let a = c .before .before .before .before .before .before .before .before .before .before .before .before .before .before .before .before .before .before .before .before .before .before .before .before .before .before .before .before .before .before .before .before .before .before .before .before .before .before .before .before .before .before .before .args in
-    let e = c .before .before .before .before .before .before .before .before .before .before .before .before .before .before .before .before .before .before .before .before .before .before .before .before .before .before .before .before .before .before .before .before .before .before .before .before .update-free-path .ensures ∙ ap (λ (b : Bool). updatedImage (now (a .image)) (now (a .occupancy)) (now (a .blocking)) (a .moved) b (a .limit)) (c .before .before .before .before .before .before .before .before .before .before .before .before .before .before .before .before .before .before .before .before .before .before .before .before .before .before .before .before .before .before .before .before .before .before .before .before .before .flag-of .ensures) in
+    let a = c .before .before .before .before .before .before .before .before .before .before .before .before .before .args in
+    let e =
+    c .before .before .before .before .before .before .update-free-path .ensures
+    ∙ ap (λ (b : Bool). updatedImage (now (a .image)) (now (a .occupancy)) (now (a .blocking)) (a .moved) b (a .limit)) (c .before .before .before .before .before .before .before .flag-of .ensures) in
+    let w = c .before .before .put-update .ensures in
     record {
-      word = c .status-word .ensures ∙ ap (λ (u : UpdatedImage). statusWord (u .answer .status)) e;
+      word = w .0 ∙ ap (λ (u : UpdatedImage). statusWord (u .answer .status)) e;
       bytes = ap (λ (u : UpdatedImage). u .image) e;
-      words = rw (c .before .before .before .put-word7 .ensures, c .before .before .before .before .before .before .before .before .put-word6 .ensures, c .before .before .before .before .before .before .before .before .before .holder-in .ensures, c .before .before .before .before .before .before .before .before .before .before .before .before .before .put-word5 .ensures, c .before .before .before .before .before .before .before .before .before .before .before .before .before .before .before .before .before .put-word4 .ensures, c .before .before .before .before .before .before .before .before .before .before .before .before .before .before .before .before .before .before .before .before .before .put-word3 .ensures, c .before .before .before .before .before .before .before .before .before .before .before .before .before .before .before .before .before .before .before .before .before .before .before .before .before .before .put-word2 .ensures, c .before .before .before .before .before .before .before .before .before .before .before .before .before .before .before .before .before .before .before .before .before .before .before .before .before .before .before .errors-of .ensures, c .before .before .before .before .before .before .before .before .before .before .before .before .before .before .before .before .before .before .before .before .before .before .before .before .before .before .before .before .before .before .before .put-word .ensures, c .before .before .before .before .before .before .before .before .before .before .before .before .before .before .before .before .before .before .before .before .before .before .before .before .before .before .before .before .before .before .before .before .code-of .ensures) (ap (λ (u : UpdatedImage). updateWords u (now (a .answer))) e);
+      words = w .1 ∙ ap (λ (u : UpdatedImage). updateWords u (now (a .answer))) e;
     }
 
 pub lavtoeu-update-spec : {M : Type 1} → statement M
@@ -81,19 +41,7 @@ lavtoeu-update-spec =
     (tie.spec
     flag-of-requires
     update-free-path-requires
-    code-of-requires
-    put-word-requires
-    errors-of-requires
-    put-word-requires-2
-    cast-put-word
-    put-word-requires-3
-    put-word-requires-4
-    put-word-requires-5
-    holder-in-requires
-    put-word-requires-6
-    cast-put-word-2
-    put-word-requires-7
-    status-word-requires
+    put-update-requires
     same-length
     same-length-2
     returns)

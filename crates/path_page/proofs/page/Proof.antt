@@ -4,8 +4,9 @@ use native.Mathlib.Omega.{arith}
 use lib.ListN.{length}
 use denote.Ref.{now}
 use Rattle.image.specs.Image.{pathCount, nodeAt}
-use Rattle.image_fault.specs.ImageFault.{imageFault}
-use Rattle.link_rules.specs.Refusals.{refused}
+use Rattle.image_fault.specs.ImageFault.{faultWith}
+use Rattle.image_fault.specs.declared.Widths.the-variants.{Either}
+use Rattle.link_rules.specs.Refusals.{noRefusal, refused}
 use Rattle.link_rules.specs.declared.refusal.Refusal.{Refusal}
 use Rattle.path_page.specs.Page.{drawingRule, mostLinks, printed}
 use Rattle.path_page.proofs.PageLaws.{offset-reached, lines-put, image-refused, too-short, not-refused, stays, done}
@@ -13,18 +14,18 @@ use borrow.Author.Needs.{needs}
 use Rattle.path_page.proofs.page.Statement.{statement}
 use Rattle.path_page.proofs.page.Tie as tie
 
-image-fault-requires : tie.Need-image-fault-requires
-image-fault-requires c κs = search needs
+fault-with-requires : tie.Need-fault-with-requires
+fault-with-requires c κs = search needs
 
 returns : tie.Need-returns
 returns c =
     let a = c .before .before .before .before .before .args in
     let img = now (a .image) in
     let page = now (a .page) in
-    let h = c .before .before .image-fault .ensures in
-    let bad : imageFault img mostLinks .number ≡ 0 → ⊥ = λ k. c .if1 .taken (ap (λ (f : Refusal). f .number) h ∙ k) in
+    let h = c .before .before .fault-with .ensures in
+    let bad : faultWith Either noRefusal img mostLinks .number ≡ 0 → ⊥ = λ k. c .if1 .taken (ap (λ (f : Refusal). f .number) h ∙ k) in
     let e = image-refused drawingRule img page bad in
-    (h ∙ sym e, stays drawingRule img page (imageFault img mostLinks) e bad)
+    (h ∙ sym e, stays drawingRule img page (faultWith Either noRefusal img mostLinks) e bad)
 
 path-count-requires : tie.Need-path-count-requires
 path-count-requires c κs = search needs
@@ -40,7 +41,7 @@ returns-2 c =
     let a = c .before .before .before .before .before .before .before .args in
     let img = now (a .image) in
     let page = now (a .page) in
-    let z : imageFault img mostLinks .number ≡ 0 = sym (ap (λ (f : Refusal). f .number) (c .before .before .before .before .image-fault .ensures)) ∙ c .before .before .if1 .left in
+    let z : faultWith Either noRefusal img mostLinks .number ≡ 0 = sym (ap (λ (f : Refusal). f .number) (c .before .before .before .before .fault-with .ensures)) ∙ c .before .before .if1 .left in
     let l : length page < 40 * pathCount img = omega (arith, c .if2 .taken, c .before .path-count .ensures) in
     let e = too-short drawingRule img page z l in
     (sym e, stays drawingRule img page (refused 18 0) e (λ k. (omega arith)))
@@ -48,7 +49,7 @@ returns-2 c =
 put-lines-requires : tie.Need-put-lines-requires
 put-lines-requires c κs i h =
     let img = now (c .before .before .before .before .before .before .before .before .args .image) in
-    let z : imageFault img mostLinks .number ≡ 0 = sym (ap (λ (f : Refusal). f .number) (c .before .before .before .before .before .image-fault .ensures)) ∙ c .before .before .before .if1 .left in
+    let z : faultWith Either noRefusal img mostLinks .number ≡ 0 = sym (ap (λ (f : Refusal). f .number) (c .before .before .before .before .before .fault-with .ensures)) ∙ c .before .before .before .if1 .left in
     let l : i < pathCount img = omega (arith, h, c .before .before .path-count .ensures) in
     offset-reached img z i l
 
@@ -61,8 +62,8 @@ returns-3 c =
     let img = now (a .image) in
     let page = now (a .page) in
     let n = c .before .before .before .before .before .path-count in
-    let f = c .before .before .before .before .before .before .before .before .image-fault in
-    let z : imageFault img mostLinks .number ≡ 0 = sym (ap (λ (g : Refusal). g .number) (f .ensures)) ∙ c .before .before .before .before .before .before .if1 .left in
+    let f = c .before .before .before .before .before .before .before .before .fault-with in
+    let z : faultWith Either noRefusal img mostLinks .number ≡ 0 = sym (ap (λ (g : Refusal). g .number) (f .ensures)) ∙ c .before .before .before .before .before .before .if1 .left in
     let room : 40 * n .result ≤ length page = c .before .before .before .before .if2 .left in
     let e = not-refused drawingRule img page z (omega (arith, room, n .ensures)) in (
       sym e,
@@ -74,7 +75,7 @@ pub page-spec : {M : Type 1} → statement M
 page-spec =
     tie.close
     (tie.spec
-    image-fault-requires
+    fault-with-requires
     returns
     path-count-requires
     cast-if2

@@ -13,14 +13,14 @@ abbrev μ-loop : tie.MeasureT-loop
 loop-holds : tie.Need-loop-holds Inv-loop μ-loop
 loop-holds c = search needs
 
-mul-held : tie.Need-mul-held Inv-loop μ-loop
-mul-held c = search needs
+mul-narrow-held : tie.Need-mul-narrow-held Inv-loop μ-loop
+mul-narrow-held c = search needs
 
-shared-slice-read-held : tie.Need-shared-slice-read-held Inv-loop μ-loop
-shared-slice-read-held c = search needs
+shared-slice-read-narrow-held : tie.Need-shared-slice-read-narrow-held Inv-loop μ-loop
+shared-slice-read-narrow-held c = search needs
 
-held-requires : tie.Need-held-requires Inv-loop μ-loop
-held-requires c κs = search needs
+narrow-held-requires : tie.Need-narrow-held-requires Inv-loop μ-loop
+narrow-held-requires c κs = search needs
 
 returns : tie.Need-returns Inv-loop μ-loop
 returns c = search needs
@@ -44,9 +44,9 @@ print-held-spec =
     Inv-loop
     μ-loop
     loop-holds
-    mul-held
-    shared-slice-read-held
-    held-requires
+    mul-narrow-held
+    shared-slice-read-narrow-held
+    narrow-held-requires
     returns
     add-i
     loop-less

@@ -2,11 +2,11 @@ use mathlib.Core.Path.{sym}
 use lib.Seq.{length-take-le}
 use native.Mathlib.Omega.{arith}
 use borrow.Author.Needs.{needs}
-use Rattle.answers.proofs.update.answer_on.Statement.{statement}
-use Rattle.answers.proofs.update.answer_on.Tie as tie
+use Rattle.answers.proofs.check.answer_wide.Statement.{statement}
+use Rattle.answers.proofs.check.answer_wide.Tie as tie
 
-no-trains-requires : tie.Need-no-trains-requires
-no-trains-requires c κs = search needs
+no-links-requires : tie.Need-no-links-requires
+no-links-requires c κs = search needs
 
 second-input-requires : tie.Need-second-input-requires
 second-input-requires c κs = search needs
@@ -20,11 +20,11 @@ returns c = search needs
 array-borrow-prefix-room : tie.Need-array-borrow-prefix-room
 array-borrow-prefix-room c = search needs
 
-slice-aggregate-answer-over : tie.Need-slice-aggregate-answer-over
-slice-aggregate-answer-over c = sym (length-take-le _ (c .before .before .before .before .no-trains .result) (omega arith))
+slice-aggregate-answer-wide-over : tie.Need-slice-aggregate-answer-wide-over
+slice-aggregate-answer-wide-over c = sym (length-take-le _ (c .before .before .before .before .no-links .result) (omega arith))
 
-answer-over-requires : tie.Need-answer-over-requires
-answer-over-requires c κs = search needs
+answer-wide-over-requires : tie.Need-answer-wide-over-requires
+answer-wide-over-requires c κs = search needs
 
 same-length : tie.Need-same-length
 same-length c = search needs
@@ -32,16 +32,16 @@ same-length c = search needs
 returns-2 : tie.Need-returns-2
 returns-2 c = search needs
 
-pub answer-on-spec : {M : Type 1} → statement M
-answer-on-spec =
+pub answer-wide-spec : {M : Type 1} → statement M
+answer-wide-spec =
     tie.close
     (tie.spec
-    no-trains-requires
+    no-links-requires
     second-input-requires
     unread-requires
     returns
     array-borrow-prefix-room
-    slice-aggregate-answer-over
-    answer-over-requires
+    slice-aggregate-answer-wide-over
+    answer-wide-over-requires
     same-length
     returns-2)

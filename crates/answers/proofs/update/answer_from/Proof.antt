@@ -2,23 +2,14 @@ use mathlib.Core.Path.{sym}
 use lib.Seq.{length-take-le}
 use native.Mathlib.Omega.{arith}
 use borrow.Author.Needs.{needs}
-use Rattle.answers.proofs.update.answer_over.Statement.{statement}
-use Rattle.answers.proofs.update.answer_over.Tie as tie
-
-second-input-requires : tie.Need-second-input-requires
-second-input-requires c κs = search needs
-
-u16s-requires : tie.Need-u16s-requires
-u16s-requires c κs = search needs
+use Rattle.answers.proofs.update.answer_from.Statement.{statement}
+use Rattle.answers.proofs.update.answer_from.Tie as tie
 
 no-links-requires : tie.Need-no-links-requires
 no-links-requires c κs = search needs
 
 third-input-requires : tie.Need-third-input-requires
 third-input-requires c κs = search needs
-
-same-length : tie.Need-same-length
-same-length c = search needs
 
 unread-requires : tie.Need-unread-requires
 unread-requires c κs = search needs
@@ -30,34 +21,27 @@ array-borrow-prefix-room : tie.Need-array-borrow-prefix-room
 array-borrow-prefix-room c = search needs
 
 slice-aggregate-answer-by : tie.Need-slice-aggregate-answer-by
-slice-aggregate-answer-by c = sym (length-take-le _ (c .before .before .before .before .before .no-links .result) (omega arith))
+slice-aggregate-answer-by c = sym (length-take-le _ (c .before .before .before .before .no-links .result) (omega arith))
 
 answer-by-requires : tie.Need-answer-by-requires
 answer-by-requires c κs = search needs
 
-same-length-2 : tie.Need-same-length-2
-same-length-2 c = search needs
-
-same-length-3 : tie.Need-same-length-3
-same-length-3 c = search needs
+same-length : tie.Need-same-length
+same-length c = search needs
 
 returns-2 : tie.Need-returns-2
 returns-2 c = search needs
 
-pub answer-over-spec : {M : Type 1} → statement M
-answer-over-spec =
+pub answer-from-spec : {M : Type 1} → statement M
+answer-from-spec =
     tie.close
     (tie.spec
-    second-input-requires
-    u16s-requires
     no-links-requires
     third-input-requires
     unread-requires
-    same-length
     returns
     array-borrow-prefix-room
     slice-aggregate-answer-by
     answer-by-requires
-    same-length-2
-    same-length-3
+    same-length
     returns-2)

@@ -2,23 +2,14 @@ use mathlib.Core.Path.{sym}
 use lib.Seq.{length-take-le}
 use native.Mathlib.Omega.{arith}
 use borrow.Author.Needs.{needs}
-use Rattle.answers.proofs.check.answer_on.Statement.{statement}
-use Rattle.answers.proofs.check.answer_on.Tie as tie
-
-first-input-requires : tie.Need-first-input-requires
-first-input-requires c κs = search needs
-
-copy-requires : tie.Need-copy-requires
-copy-requires c κs = search needs
+use Rattle.answers.proofs.check.answer_narrow.Statement.{statement}
+use Rattle.answers.proofs.check.answer_narrow.Tie as tie
 
 no-trains-requires : tie.Need-no-trains-requires
 no-trains-requires c κs = search needs
 
 second-input-requires : tie.Need-second-input-requires
 second-input-requires c κs = search needs
-
-same-length : tie.Need-same-length
-same-length c = search needs
 
 unread-requires : tie.Need-unread-requires
 unread-requires c κs = search needs
@@ -35,25 +26,22 @@ slice-aggregate-answer-over c = sym (length-take-le _ (c .before .before .before
 answer-over-requires : tie.Need-answer-over-requires
 answer-over-requires c κs = search needs
 
-same-length-2 : tie.Need-same-length-2
-same-length-2 c = search needs
+same-length : tie.Need-same-length
+same-length c = search needs
 
 returns-2 : tie.Need-returns-2
 returns-2 c = search needs
 
-pub answer-on-spec : {M : Type 1} → statement M
-answer-on-spec =
+pub answer-narrow-spec : {M : Type 1} → statement M
+answer-narrow-spec =
     tie.close
     (tie.spec
-    first-input-requires
-    copy-requires
     no-trains-requires
     second-input-requires
     unread-requires
-    same-length
     returns
     array-borrow-prefix-room
     slice-aggregate-answer-over
     answer-over-requires
-    same-length-2
+    same-length
     returns-2)

@@ -1,14 +1,14 @@
 use Prim.Native.Nat.{_-_, _≤_}
 use lib.ListN.{length}
 use borrow.Author.Needs.{needs}
-use Rattle.answers.proofs.act.print_held.Statement.{statement}
-use Rattle.answers.proofs.act.print_held.Tie as tie
+use Rattle.answers.proofs.mark.print_wide_held.Statement.{statement}
+use Rattle.answers.proofs.mark.print_wide_held.Tie as tie
 
 abbrev Inv-loop : tie.InvT-loop
-Inv-loop occ i₀ i = i ≤ length occ
+Inv-loop occupancy i₀ i = i ≤ length occupancy
 
 abbrev μ-loop : tie.MeasureT-loop
-μ-loop occ i₀ i = length occ - i
+μ-loop occupancy i₀ i = length occupancy - i
 
 loop-holds : tie.Need-loop-holds Inv-loop μ-loop
 loop-holds c = search needs
@@ -37,8 +37,8 @@ loop-again c = search needs
 returns-2 : tie.Need-returns-2 Inv-loop μ-loop
 returns-2 c = search needs
 
-pub print-held-spec : {M : Type 1} → statement M
-print-held-spec =
+pub print-wide-held-spec : {M : Type 1} → statement M
+print-wide-held-spec =
     tie.close
     (tie.spec
     Inv-loop
