@@ -167,6 +167,24 @@ uint32_t lavtoeu_view(const uint8_t *table, size_t table_len, const uint32_t *oc
 /* Marks an Arrive link of that path for the train of the slot, or releases it where marks is 0, whoever holds it. Refused by 1, 2, 22,
  * 14, 26, 27. */
 uint32_t lavtoeu_act(const uint8_t *table, size_t table_len, uint32_t *occupancy, size_t occupancy_len, const uint8_t *yard, size_t yard_len, uint16_t slot, uint32_t link, uint32_t marks);
+
+/* Taking a check back. The bytes of an undo record before its two yards, their fields, and the bytes of the record of a yard. */
+enum { LAVTOEU_UNDO_RECORD_HEADER = 16 };
+typedef struct { uint32_t filled, slots, old_at, written_at; } lavtoeu_undo_record_header;
+#define LAVTOEU_UNDO_RECORD_SIZE(yard_len) (LAVTOEU_UNDO_RECORD_HEADER + 2 * (yard_len))
+
+/* Checks a yard as lavtoeu_check does, and fills the record: u32 bytes filled, S, offsets of both yards; then the old yard and the one
+ * written. Refused by 20 where the record has fewer than 16 bytes plus twice the yard, then as lavtoeu_check is; a refused check changes
+ * nothing. Bytes beyond the record stay. */
+uint32_t lavtoeu_check_recorded(uint8_t *yard, size_t yard_len, const uint16_t *occupancy, size_t occupancy_len, const uint32_t *blocking, size_t blocking_len, uint16_t moved, uint16_t begin, uint32_t local, uint16_t limit, uint8_t *report, size_t report_len, uint8_t *record, size_t record_len, uint64_t *answer, size_t answer_len);
+
+/* Checks a yard as lavtoeu_check_wide does, and fills the record. Refused by 20, then as lavtoeu_check_wide is. */
+uint32_t lavtoeu_check_recorded_wide(uint8_t *yard, size_t yard_len, const uint32_t *occupancy, size_t occupancy_len, const uint32_t *blocking, size_t blocking_len, uint32_t moved, uint16_t begin, uint32_t local, uint16_t limit, uint8_t *report, size_t report_len, uint8_t *record, size_t record_len, uint64_t *answer, size_t answer_len);
+
+/* Gives the yard back that the record's check was given, while the yard is what that check wrote; the occupancy is not rewound. Refused
+ * by 21; then nothing is changed. Bytes beyond the record go unread. */
+uint32_t lavtoeu_undo(uint8_t *yard, size_t yard_len, const uint8_t *record, size_t record_len);
+
 /* Trains of six digits: the calls over an occupancy of u32 trains, for images of either width. A wide image has 1 in the header's byte
  * 42 and diverge records of 8 bytes. Trains are at most 65,535 where an image of the call is narrow, in a check any of the yard's, and
  * 999,999 otherwise; a larger one is refused by 22. The calls over u16 trains, the sheet and the replay refuse a wide image by 6; those

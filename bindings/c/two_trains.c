@@ -17,6 +17,7 @@ _Static_assert(sizeof(lavtoeu_recording_header) == LAVTOEU_RECORDING_HEADER, "re
 _Static_assert(sizeof(lavtoeu_step) == LAVTOEU_STEP_RECORD, "step");
 _Static_assert(sizeof(lavtoeu_wide_diverge) == LAVTOEU_WIDE_DIVERGE_RECORD, "wide diverge");
 _Static_assert(sizeof(lavtoeu_wide_row) == LAVTOEU_WIDE_REPORT_RECORD, "wide row");
+_Static_assert(sizeof(lavtoeu_undo_record_header) == LAVTOEU_UNDO_RECORD_HEADER, "undo record header");
 
 enum { LINKS = 5, SLOTS = 2, FIRST = LAVTOEU_IMAGE_SIZE(5, 4), SECOND = LAVTOEU_IMAGE_SIZE(2, 2) };
 enum { FIRST_AT = LAVTOEU_YARD_HEADER + LAVTOEU_YARD_OFFSET * SLOTS, SECOND_AT = FIRST_AT + FIRST, YARD = SECOND_AT + SECOND };

@@ -158,7 +158,7 @@ def renumbered_call(call, numbering):
         return (kind, line, {name: [numbering.link(l) for l in n] if name == "blocking" else n for name, n in told.items()})
     if kind == "act":
         given[2] = numbering.link(given[2])
-    if kind in ("report", "replay") or not given or not 1 <= given[0] <= numbering.slots:
+    if kind in ("report", "replay", "recorded") or not given or not 1 <= given[0] <= numbering.slots:
         return (kind, line, *given)
     given[1:] = [[numbering.link(l) for l in x] if isinstance(x, list) else x for x in given[1:]]
     return (kind, line, numbering.train(given[0]), *given[1:])
@@ -172,6 +172,9 @@ def kept_bytes(yard):
     for line, at, data in yard.patches:
         if at + len(data) > 32 or any(24 <= i < 26 for i in range(at, at + len(data))):
             raise Wrong(line, "a bundle-byte of the moved train or behind the bundle's header cannot be renumbered")
+    for line, at, data in yard.record_patches:
+        if at + len(data) > 16:
+            raise Wrong(line, "a record-byte behind the undo record's header cannot be renumbered")
     for line, at, data in yard.recording_patches:
         if at + len(data) > 12:
             raise Wrong(line, "a recording-byte behind the recording's header cannot be renumbered")
@@ -249,7 +252,7 @@ def premises(yard, sheet):
         bad += [(line, "entry 0 of the occupancy is not empty") for line in [yard.said.get("occupied 0")] if line and yard.occupied[0][0]]
         checks = any(step[0] == "check" for step in yard.steps)
         return bad + [(0, "the strays of its checks are not known")] if checks else bad
-    if yard.call is not None and yard.call[0] != "report":
+    if yard.call is not None and yard.call[0] not in ("report", "recorded"):
         return bad + [(yard.call[1], "the promise is about marks, releases and checks, not about this call")]
     if sheet is not None and sheet[0][0] == "refused":
         return bad + [(0, f"the yard is refused by {sheet[0][1]}") for n in ("2", "14", "17") if n == sheet[0][1]]

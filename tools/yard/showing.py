@@ -26,10 +26,11 @@ REFUSALS = {
     17: "the bundle is too long, its size or its parts do not fit, or local is neither 0 nor 1",
     18: "the page has fewer than 40 bytes for each node of the path",
     19: "the recording is malformed, or the list has not one entry for each step",
-    22: "a train is too large",
-    28: "a game has a link twice, link 0 or one that there is not, more than 8 links or more than 6 turns",
+    20: "the undo record has fewer than 16 bytes plus twice the yard",
+    21: "the undo record is malformed, or the yard is not the one that it says was written",
     22: "a train is above 999,999, or above 65,535 beside a narrow image",
     23: "a train of the image is above 65,535 and does not go narrow",
+    28: "a game has a link twice, link 0 or one that there is not, more than 8 links or more than 6 turns",
     29: "a value outside the training track profile",
 }
 WORDS = {

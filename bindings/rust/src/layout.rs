@@ -43,6 +43,9 @@ pub const STEP_RECORD: usize = 20;
 pub const STEP_MARK: u32 = 0;
 pub const STEP_CHECK: u32 = 1;
 
+/// An undo record before its two yards.
+pub const UNDO_RECORD_HEADER: usize = 16;
+
 /// Bytes that hold every sheet.
 pub const SHEET_ROOM: usize = 4_096;
 

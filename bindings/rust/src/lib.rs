@@ -25,6 +25,7 @@ mod parts;
 pub mod raw;
 mod recording;
 mod table;
+mod undo;
 mod version;
 mod wide;
 
@@ -34,6 +35,9 @@ pub use image::{Diverge, Image, Node};
 pub use parts::{bundle, parts};
 pub use recording::{replay, Check, Recording};
 pub use table::{links, table, Link};
+pub use undo::{
+    check_recorded, check_recorded_into, check_recorded_wide, check_recorded_wide_into, undo, undo_record_size, UndoRecord,
+};
 pub use version::{version, VERSION, VERSION_TEXT};
 pub use wide::{
     check_wide, check_wide_into, is_wide, mark_wide, narrow, report_record, update_wide, update_wide_into, wide_image_size, wide_rows,
@@ -79,6 +83,8 @@ impl Refusal {
             17 => "bad bundle",
             18 => "page too short",
             19 => "malformed recording, or a list of another length",
+            20 => "undo record too short",
+            21 => "nothing to take back",
             22 => "a train number that is too large",
             28 => "bad links or turns of a game",
             26 => "no accepted image in the candidate's slot",

@@ -106,6 +106,43 @@ extern "C" {
     ) -> u32;
     pub fn lavtoeu_widen(image: *const u8, image_len: usize, out: *mut u8, out_len: usize) -> u32;
     pub fn lavtoeu_narrow(image: *const u8, image_len: usize, out: *mut u8, out_len: usize) -> u32;
+    pub fn lavtoeu_check_recorded(
+        yard: *mut u8,
+        yard_len: usize,
+        occupancy: *const u16,
+        occupancy_len: usize,
+        blocking: *const u32,
+        blocking_len: usize,
+        moved: u16,
+        begin: u16,
+        local: u32,
+        limit: u16,
+        report: *mut u8,
+        report_len: usize,
+        record: *mut u8,
+        record_len: usize,
+        answer: *mut u64,
+        answer_len: usize,
+    ) -> u32;
+    pub fn lavtoeu_check_recorded_wide(
+        yard: *mut u8,
+        yard_len: usize,
+        occupancy: *const u32,
+        occupancy_len: usize,
+        blocking: *const u32,
+        blocking_len: usize,
+        moved: u32,
+        begin: u16,
+        local: u32,
+        limit: u16,
+        report: *mut u8,
+        report_len: usize,
+        record: *mut u8,
+        record_len: usize,
+        answer: *mut u64,
+        answer_len: usize,
+    ) -> u32;
+    pub fn lavtoeu_undo(yard: *mut u8, yard_len: usize, record: *const u8, record_len: usize) -> u32;
     pub fn lavtoeu_page(image: *const u8, image_len: usize, page: *mut u8, page_len: usize) -> u32;
     pub fn lavtoeu_view(
         table: *const u8,

@@ -50,6 +50,7 @@ fn header_and_crate_have_the_same_sizes() {
         ("STEP_RECORD", STEP_RECORD),
         ("STEP_MARK", STEP_MARK as usize),
         ("STEP_CHECK", STEP_CHECK as usize),
+        ("UNDO_RECORD_HEADER", UNDO_RECORD_HEADER),
         ("SHEET_ROOM", SHEET_ROOM),
         ("PAGE_LINE", PAGE_LINE),
         ("MAX_LINKS", MAX_LINKS),

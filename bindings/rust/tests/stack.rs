@@ -194,3 +194,31 @@ fn each_call_keeps_to_its_stack() {
         assert!(small[i].max(large[i]) <= *bound, "{call} takes more stack than bindings/README.md says");
     }
 }
+
+/// The calls that fill an undo record and take a check back, over images that `image` makes.
+fn undo_stacks(image: fn(u16) -> Vec<u8>, m: Move) -> [usize; 3] {
+    let old = yard(&[&image(1), &laid_out(2, 4)]);
+    let mut record = vec![0; undo_record_size(old.len())];
+    let (mut report, mut answer) = ([0; 2 * REPORT_RECORD], [0; CHECK_WORDS]);
+    let (mut left, mut again) = (old.clone(), old.clone());
+    let (checked, narrows) = stack_of(|| check_recorded_into(&mut left, m, 1, &mut report, &mut record, &mut answer));
+    let occupancy: Vec<u32> = m.occupancy.iter().map(|&train| train as u32).collect();
+    let told = WideMove { occupancy: &occupancy, blocking: m.blocking, moved: 2, local: m.local, limit: m.limit };
+    let (wide, wides) = stack_of(|| check_recorded_wide_into(&mut again, told, 1, &mut report, &mut record, &mut answer));
+    assert_eq!((checked, wide, &again), (Ok(()), Ok(()), &left));
+    let (undone, undos) = stack_of(|| undo(&mut left, &record));
+    assert_eq!((undone, left), (Ok(()), old));
+    [narrows, wides, undos]
+}
+
+#[test]
+fn each_call_with_an_undo_record_keeps_to_its_stack() {
+    let occupancy = occupancy();
+    let small = undo_stacks(|t| laid_out(t, 4), MOVE);
+    let large = undo_stacks(large, Move { occupancy: &occupancy, ..MOVE });
+    let bounds = [("check_recorded", 128 << 10), ("check_recorded_wide", 128 << 10), ("undo", 1 << 10)];
+    for (i, (call, bound)) in bounds.into_iter().enumerate() {
+        println!("{call}: {} bytes of stack for a small train, {} for the largest, bound {bound}", small[i], large[i]);
+        assert!(small[i].max(large[i]) <= bound, "{call} takes more stack than bindings/README.md says");
+    }
+}

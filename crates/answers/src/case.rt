@@ -40,6 +40,12 @@ pub(crate) const WIDEN: u32 = 20;
 
 pub(crate) const NARROW: u32 = 21;
 
+pub(crate) const RECORDED_CHECK: u32 = 26;
+
+pub(crate) const WIDE_RECORDED_CHECK: u32 = 27;
+
+pub(crate) const UNDO: u32 = 28;
+
 // ---- the head: size, operation, tag, line, 8 arguments, 4 lengths of inputs, 8 numbers of the answer, 2 lengths of outputs
 
 pub(crate) fn operation(head: &[u8]) -> u32 {

@@ -1,6 +1,7 @@
 // A check of a yard over an occupancy of u16 or of u32 entries; the other one is empty. Arguments: moved, begin, local, limit.
 use crate::case;
 use crate::print;
+use crate::recorded;
 use link_rules::link_idx::NarrowTrainIdx;
 use link_rules::link_idx::TrainIdx;
 use yard_check::check;
@@ -17,10 +18,26 @@ pub(crate) fn answer(head: &[u8], body: &[u8], sums: bool) -> bool {
 
 fn answer_on(head: &[u8], body: &[u8], yard: &mut [u8], sums: bool) -> bool {
     case::copy(yard, case::first_input(head, body));
-    if case::operation(head) == case::WIDE_CHECK {
+    if is_wide(case::operation(head)) {
         return answer_wide(head, body, yard, sums);
     }
     answer_narrow(head, body, yard, sums)
+}
+
+// Is it a check over u32 entries?
+fn is_wide(operation: u32) -> bool {
+    if operation == case::WIDE_CHECK {
+        return true;
+    }
+    operation == case::WIDE_RECORDED_CHECK
+}
+
+// Does it fill an undo record?
+fn is_recorded(operation: u32) -> bool {
+    if operation == case::RECORDED_CHECK {
+        return true;
+    }
+    operation == case::WIDE_RECORDED_CHECK
 }
 
 fn answer_narrow(head: &[u8], body: &[u8], yard: &mut [u8], sums: bool) -> bool {
@@ -112,6 +129,9 @@ fn answer_with(
     sums: bool,
 ) -> bool {
     case::copy(report, case::fourth_input(head, body));
+    if is_recorded(case::operation(head)) {
+        return recorded::answer(head, yard, narrow, wide, blocking, report, sums);
+    }
     if !print_answer(checked(head, yard, narrow, wide, blocking, report)) {
         return false;
     }
@@ -144,7 +164,7 @@ fn checked(
     check::check_deadlock(yard, narrow, blocking, moved, begin, local, limit, report)
 }
 
-fn print_answer(answer: Answer) -> bool {
+pub(crate) fn print_answer(answer: Answer) -> bool {
     match answer {
         Answer::Refused(r) => print::refused(r),
         Answer::Erred(n) => print::number(b"erred ", n as u64),
@@ -153,7 +173,7 @@ fn print_answer(answer: Answer) -> bool {
 }
 
 // A begin that is no u16 becomes the largest, which 15 refuses as well.
-fn begin_of(n: u32) -> u16 {
+pub(crate) fn begin_of(n: u32) -> u16 {
     if 65535 < n {
         return 65535;
     }

@@ -14,6 +14,7 @@ mod list;
 mod mark;
 mod page;
 mod print;
+mod recorded;
 mod sheet;
 mod update;
 mod view;
@@ -214,6 +215,15 @@ fn answer(head: &[u8], body: &[u8], sums: bool) -> bool {
     }
     if operation == case::GAME {
         return lesson::answer(head, body);
+    }
+    if operation == case::RECORDED_CHECK {
+        return check::answer(head, body, sums);
+    }
+    if operation == case::WIDE_RECORDED_CHECK {
+        return check::answer(head, body, sums);
+    }
+    if operation == case::UNDO {
+        return recorded::answer_undo(head, body, sums);
     }
     if operation == case::LIST {
         return list::answer(head, body, sums);

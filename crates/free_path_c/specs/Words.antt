@@ -13,6 +13,7 @@ use Rattle.train_disp.specs.declared.Settings.{Settings}
 use Rattle.update_definition.specs.Update.{Status, Success, Blocked, Faulty, Refused as RefusedBy, holderIn}
 use Rattle.update_definition.specs.UpdateImage.{UpdatedImage}
 use Rattle.yard_check.specs.Check as Check
+use Rattle.undo.specs.Undo as Undo
 use Rattle.ceiling.specs.declared.StepCeiling.{StepCeiling}
 use Rattle.sitting.specs.Replay.{Replayed}
 use Rattle.game.specs.Game.{Game}
@@ -115,6 +116,14 @@ pub record ToldCheck (k : Check.Checked) (r : ℕ) (yard report ws₀ ws : List 
   pub word : r ≡ checkWord (k .answer)
   pub yardBytes : yard ≡ k .yard
   pub reportBytes : report ≡ k .report
+  pub words : ws ≡ checkWords (k .answer) ws₀
+
+-- the check k that fills an undo record, as C sees it: with the record that is left
+pub record ToldRecorded (k : Undo.Recorded) (r : ℕ) (yard report undoRecord ws₀ ws : List ℕ) : Type 0 where
+  pub word : r ≡ checkWord (k .answer)
+  pub yardBytes : yard ≡ k .yard
+  pub reportBytes : report ≡ k .report
+  pub recordBytes : undoRecord ≡ k .undoRecord
   pub words : ws ≡ checkWords (k .answer) ws₀
 
 -- ---- a game

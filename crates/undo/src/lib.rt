@@ -1,5 +1,5 @@
-// Taking a check back (change request Q-5): a check that fills an undo record, and the undo from one. The check is check_deadlock, of which only the
-// promise is used: copy, check, copy. Assumes nothing; no public function has a `requires`.
+// Taking a check back (change request Q-5): a check that fills an undo record, and the undo from one. The check is check_deadlock or check_wide, of which
+// only the promise is used: copy, check, copy. Assumes nothing; no public function has a `requires`.
 pub mod records;
 
 use link_rules::link_idx::NarrowTrainIdx;
@@ -13,9 +13,9 @@ ghost use mathlib.Core.Path.{_≡_};
 ghost use mathlib.Core.List.{List};
 ghost use Prim.Native.Nat.{ℕ};
 ghost use lib.ListN.{length};
-ghost use Rattle.image_fault.specs.declared.Widths.the-variants.{Narrow};
+ghost use Rattle.image_fault.specs.declared.Widths.the-variants.{Narrow, Either};
 ghost use Rattle.yard_check.specs.Checks.{argsOf};
-ghost use Rattle.undo.specs.Undo.{recordedFault, recorded, recordedOf, undoing, undone};
+ghost use Rattle.undo.specs.Undo.{recordedFault, recorded, recordedWide, recordedOf, undoing, undone};
 
 // 20, then the check's own refusals. Of the occupancy only the length is asked; long and room are the lengths of the report and of the record.
 fn recorded_fault(
@@ -31,6 +31,21 @@ fn recorded_fault(
     let f = records::room_fault(yard.len(), room);
     let g = check::check_fault(yard, l, blocking, a, long);
     refusal::or_else(f, g)
+}
+
+fn recorded_wide_fault(
+    yard: &[u8],
+    occ: &[u32],
+    blocking: &[u32],
+    a: Args,
+    long: usize,
+    room: usize,
+) -> Refusal
+    ensures { λ r. ⌜ r ≡ recordedFault (now (yard .entry)) (now (occ .entry)) (argsOf Either (now (blocking .entry)) a) long room ⌝ }
+{
+    let f = records::room_fault(yard.len(), room);
+    let own = check::check_wide_fault(yard, occ, blocking, a, long);
+    refusal::or_else(f, own)
 }
 
 // Checks the yard as check_deadlock does, and fills the undo record with the old yard and the one written. Refused by 20 first: then, and by the
@@ -68,6 +83,37 @@ pub fn check_recorded(
     }
     records::put_old(undo_record, yard);
     let x = check::check_deadlock(yard, occ, blocking, moved, begin, local, limit, report);
+    records::put_written(undo_record, yard);
+    x
+}
+
+// The same over u32 entries, of images of either width (document 02, Q-6): the check is check_wide.
+pub fn check_recorded_wide(
+    yard: &mut [u8],
+    occ: &[u32],
+    blocking: &[u32],
+    moved: TrainIdx,
+    begin: u16,
+    local: bool,
+    limit: u16,
+    report: &mut [u8],
+    undo_record: &mut [u8],
+) -> Answer
+    ensures { λ x. ⌜ recordedOf x (now (yard .exit)) (now (report .exit)) (now («undo_record» .exit)) ≡ recordedWide (now (yard .entry)) (now (occ .entry)) (now (blocking .entry))
+        (moved .0) begin local limit (now (report .entry)) (now («undo_record» .entry)) ⌝ }
+{
+    let a = Args {
+        moved: moved,
+        begin: begin,
+        local: local,
+        limit: limit,
+    };
+    let f = recorded_wide_fault(yard, occ, blocking, a, report.len(), undo_record.len());
+    if f.number != 0 {
+        return Answer::Refused(f);
+    }
+    records::put_old(undo_record, yard);
+    let x = check::check_wide(yard, occ, blocking, moved, begin, local, limit, report);
     records::put_written(undo_record, yard);
     x
 }

@@ -2,6 +2,7 @@
 
 use crate::candidates;
 use crate::replays;
+use crate::undos;
 use lavtoeu::{Game, Move, Order, Refusal, WideMove};
 use oracle::cases::*;
 use oracle::gen::UpdateCase;
@@ -13,7 +14,7 @@ use oracle::wide::WideArgs;
 pub fn number_at(op: u32) -> usize {
     match op {
         MARK | LAY_OUT | PAGE | PROFILE | CEILING | YARD_CEILING | REPLAY | GAME | VIEW | ACT => 0,
-        WIDE_MARK | WIDEN | NARROW => 0,
+        WIDE_MARK | WIDEN | NARROW | UNDO => 0,
         _ => 1,
     }
 }
@@ -33,6 +34,8 @@ pub fn answered(asked: &Case) -> Case {
         GAME => game(&mut case),
         VIEW => candidates::view(&mut case),
         ACT => candidates::act(&mut case),
+        RECORDED_CHECK | WIDE_RECORDED_CHECK => undos::recorded(&mut case),
+        UNDO => undos::undo(&mut case),
         WIDE_MARK => wide_mark(&mut case),
         WIDE_UPDATE => wide_update(&mut case),
         WIDE_CHECK => wide_check(&mut case),
@@ -134,7 +137,7 @@ fn check(case: &mut Case) {
     put_check(case, done, answer, [yard, report]);
 }
 
-fn put_check(case: &mut Case, done: Result<(), Refusal>, mut answer: Vec<u64>, left: [Vec<u8>; 2]) {
+pub fn put_check(case: &mut Case, done: Result<(), Refusal>, mut answer: Vec<u64>, left: [Vec<u8>; 2]) {
     let (number, place) = numbers(done);
     // A refused check leaves the words as they were, and the oracle writes 0 for them.
     if number != 0 && answer == [u64::MAX; 3] {
@@ -156,7 +159,7 @@ fn wide_mark(case: &mut Case) {
     case.outs = [u32_bytes(&occ), vec![]];
 }
 
-fn wide_told<'a>(a: &WideArgs<'a>) -> WideMove<'a> {
+pub fn wide_told<'a>(a: &WideArgs<'a>) -> WideMove<'a> {
     WideMove { occupancy: a.occ, blocking: a.blocking, moved: a.moved, local: a.local, limit: a.limit }
 }
 

@@ -11,6 +11,8 @@ mod page_time;
 mod replays;
 mod tally;
 mod time;
+mod undo_time;
+mod undos;
 mod update_time;
 mod updates;
 mod wide_lists;
@@ -18,7 +20,7 @@ mod wide_time;
 
 use oracle::cases::Case;
 use oracle::rng::Rng;
-use oracle::{calls, model, wide_calls};
+use oracle::{calls, model, undo_calls, wide_calls};
 use std::process::exit;
 use tally::Tally;
 use update_time::JOINS;
@@ -57,6 +59,10 @@ const KINDS: &[(&str, fn(&mut Run))] = &[
     ("widen", |r| r.call(wide_calls::widen)),
     ("narrow", |r| r.call(wide_calls::narrow)),
     ("list-wide", |r| wide_lists::list(&mut r.rng, &mut r.tally)),
+    ("recorded", |r| r.call(undo_calls::recorded)),
+    ("recorded-wide", |r| r.call(undo_calls::recorded_wide)),
+    ("undo", |r| r.call(undo_calls::undo)),
+    ("list-undo", |r| undos::list(&mut r.rng, &mut r.tally)),
 ];
 
 const TIMES: &[(&str, fn(u64))] = &[
@@ -68,6 +74,7 @@ const TIMES: &[(&str, fn(u64))] = &[
     ("game-time", game_time::run),
     ("candidate-time", candidates::time),
     ("wide-time", wide_time::run),
+    ("undo-time", undo_time::run),
 ];
 
 impl Run {

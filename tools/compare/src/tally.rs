@@ -2,7 +2,10 @@
 
 use crate::library;
 use crate::updates::Source;
-use oracle::cases::{Case, CHECK, GAME, PAGE, REPLAY, UPDATE, VIEW, WIDE_CHECK, WIDE_UPDATE};
+use oracle::cases::{
+    Case, CHECK, GAME, PAGE, RECORDED_CHECK, REPLAY, UPDATE, VIEW, WIDE_CHECK, WIDE_RECORDED_CHECK,
+    WIDE_UPDATE,
+};
 use oracle::layout::{read_any, u16s, u32_at};
 use oracle::model::LINKS;
 use oracle::wide::{row_at, row_size};
@@ -41,9 +44,9 @@ fn end_of(judged: &Case) -> Option<&'static str> {
         (UPDATE | WIDE_UPDATE, 0, _) => Some("success"),
         (UPDATE | WIDE_UPDATE, 1, _) => Some("blocked"),
         (UPDATE | WIDE_UPDATE, 2, _) => Some("faulty"),
-        (CHECK | WIDE_CHECK, 0, 0) => Some("no deadlock"),
-        (CHECK | WIDE_CHECK, 0, _) => Some("deadlock"),
-        (CHECK | WIDE_CHECK, 1, _) => Some("erred"),
+        (CHECK | WIDE_CHECK | RECORDED_CHECK | WIDE_RECORDED_CHECK, 0, 0) => Some("no deadlock"),
+        (CHECK | WIDE_CHECK | RECORDED_CHECK | WIDE_RECORDED_CHECK, 0, _) => Some("deadlock"),
+        (CHECK | WIDE_CHECK | RECORDED_CHECK | WIDE_RECORDED_CHECK, 1, _) => Some("erred"),
         _ => None,
     }
 }

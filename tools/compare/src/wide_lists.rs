@@ -3,7 +3,7 @@
 
 use crate::library;
 use crate::tally::Tally;
-use oracle::cases::{Case, WIDE_MARK};
+use oracle::cases::{Case, MARK, WIDE_MARK};
 use oracle::demand3::{Call, Renumbering};
 use oracle::layout::u32s;
 use oracle::model::Row;
@@ -37,8 +37,8 @@ fn rows(c: &Case, slots: &Slots) -> Vec<Row> {
 }
 
 /// Every number but the next begin, and of a check that is not refused the rows.
-fn matching(r: &Renumbering, a: &Case, b: &Case, slots: &Slots) -> bool {
-    if a.op == WIDE_MARK {
+pub fn matching(r: &Renumbering, a: &Case, b: &Case, slots: &Slots) -> bool {
+    if a.op == WIDE_MARK || a.op == MARK {
         return a.answer == b.answer;
     }
     if a.answer[..5] != b.answer[..5] {
@@ -51,7 +51,7 @@ fn matching(r: &Renumbering, a: &Case, b: &Case, slots: &Slots) -> bool {
 }
 
 /// Begin 1, entry 0 empty and no strays, where the call is a check that is not refused.
-fn premises_met(c: &Call, a: &Case, occ: &[u32], slots: &Slots) -> bool {
+pub fn premises_met(c: &Call, a: &Case, occ: &[u32], slots: &Slots) -> bool {
     let Call::Check { begin, .. } = c else { return true };
     a.answer[0] == 2 || *begin == 1 && occ[0] == 0 && rows(a, slots).iter().all(|row| row.strays == 0)
 }

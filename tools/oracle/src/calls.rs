@@ -9,6 +9,7 @@ use crate::model::{LINKS, ROW};
 use crate::rng::Rng;
 use crate::trials::candidate::{some_link, some_node, some_sitting};
 use crate::trials::replay::some_recording;
+use crate::undo_calls;
 use crate::wide_calls;
 use crate::yards::*;
 
@@ -314,6 +315,9 @@ pub fn by_name(name: &str, rng: &mut Rng) -> Option<Case> {
         "replay" => replay(rng),
         "view" => view(rng),
         "act" => act(rng),
+        "recorded" => undo_calls::recorded(rng),
+        "recorded-wide" => undo_calls::recorded_wide(rng),
+        "undo" => undo_calls::undo(rng),
         "any" => any(rng),
         _ => return None,
     })

@@ -7,6 +7,7 @@ use crate::layout::*;
 use crate::leaves;
 use crate::model::{self, CheckArgs, Checked, Outcome, Updated};
 use crate::replay;
+use crate::undo;
 use crate::wide::{self, WideArgs};
 use crate::wide_calls::WideYard;
 use crate::yards::Yard;
@@ -37,6 +38,9 @@ pub const GAME: u32 = 22;
 pub const REPLAY: u32 = 23;
 pub const VIEW: u32 = 24;
 pub const ACT: u32 = 25;
+pub const RECORDED_CHECK: u32 = 26;
+pub const WIDE_RECORDED_CHECK: u32 = 27;
+pub const UNDO: u32 = 28;
 
 const HEAD: usize = 104;
 /// The length of an output buffer that is as its input was.
@@ -66,6 +70,8 @@ fn before(op: u32) -> [Option<usize>; 2] {
         REPLAY => [Some(3), None],
         VIEW => [Some(3), None],
         ACT => [Some(1), None],
+        RECORDED_CHECK | WIDE_RECORDED_CHECK => [None, Some(3)],
+        UNDO => [Some(0), None],
         _ => [None, None],
     }
 }
@@ -178,6 +184,23 @@ impl Case {
         Case { op: ACT, args: [slot as u32, link, marks, 0, 0, 0, 0, 0], ins, ..Case::default() }
     }
 
+    /// The check with an undo record of this many bytes, lent with zeros.
+    pub fn recorded(mut check: Case, room: usize) -> Case {
+        check.op = if check.op == WIDE_CHECK { WIDE_RECORDED_CHECK } else { RECORDED_CHECK };
+        check.args[4] = room as u32;
+        check
+    }
+
+    /// The yard that a recorded check left, and the record behind it.
+    pub fn recorded_left(&self) -> (Vec<u8>, Vec<u8>) {
+        let (yard, record) = self.outs[0].split_at(self.ins[0].len());
+        (yard.to_vec(), record.to_vec())
+    }
+
+    pub fn undo(yard: &[u8], record: &[u8]) -> Case {
+        Case { op: UNDO, ins: [yard.to_vec(), record.to_vec(), vec![], vec![]], ..Case::default() }
+    }
+
     pub fn tagged(mut self, tag: u32) -> Case {
         self.tag = tag;
         self
@@ -204,6 +227,8 @@ impl Case {
             REPLAY => self.answer_replay(),
             VIEW => self.answer_view(),
             ACT => self.answer_act(),
+            RECORDED_CHECK | WIDE_RECORDED_CHECK => self.answer_recorded(),
+            UNDO => self.answer_undo(),
             WIDEN => self.answer_conversion(wide::widen),
             NARROW => self.answer_conversion(wide::narrow),
             YARD_CEILING => self.put_number(model::yard_ceiling(&self.ins[0], self.args[0] as u16)),
@@ -333,6 +358,28 @@ impl Case {
         let r = candidate::act(&self.ins[0], &mut occ, &self.ins[2], slot as u16, link, marks != 0);
         self.put_plain(r);
         self.outs = [u32_bytes(&occ), vec![]];
+    }
+
+    /// The record stands behind the yard.
+    fn answer_recorded(&mut self) {
+        let (mut yard, mut report) = (self.ins[0].clone(), self.ins[3].clone());
+        let (mut record, blocking) = (vec![0; self.args[4] as usize], u32s(&self.ins[2]));
+        let checked = if self.op == WIDE_RECORDED_CHECK {
+            let occ = u32s(&self.ins[1]);
+            undo::check_recorded_wide(&mut yard, &self.wide_args(&occ, &blocking), &mut report, &mut record)
+        } else {
+            let occ = u16s(&self.ins[1]);
+            undo::check_recorded(&mut yard, &self.check_args(&occ, &blocking), &mut report, &mut record)
+        };
+        self.put_checked(checked);
+        self.outs = [[yard, record].concat(), report];
+    }
+
+    fn answer_undo(&mut self) {
+        let mut yard = self.ins[0].clone();
+        let r = undo::undo(&mut yard, &self.ins[1]);
+        self.put_plain(r);
+        self.outs = [yard, vec![]];
     }
 
     fn answer_conversion(&mut self, convert: fn(&[u8], &mut [u8]) -> Result<(), Refusal>) {

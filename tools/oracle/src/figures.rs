@@ -88,6 +88,11 @@ fn names(c: &Case) -> Vec<String> {
         WIDE_MARK => vec![done("wide mark", a[0])],
         GAME if a[0] == 0 => vec![["game   no", "game   yes"][a[2] as usize].into()],
         GAME => vec![refused("game", a[0])],
+        RECORDED_CHECK | WIDE_RECORDED_CHECK if a[0] == 2 => vec![refused("recorded check", a[1])],
+        RECORDED_CHECK | WIDE_RECORDED_CHECK => {
+            vec![["recorded check not erred", "recorded check erred"][a[0] as usize].into()]
+        }
+        UNDO => vec![done("undo", a[0])],
         WIDEN => vec![done("widen", a[0])],
         NARROW => vec![done("narrow", a[0])],
         WIDE_UPDATE if a[0] < 3 => {

@@ -25,6 +25,7 @@ pub mod sums;
 pub mod text;
 pub mod trials;
 pub mod undo;
+pub mod undo_calls;
 pub mod wide;
 pub mod wide_calls;
 pub mod yards;

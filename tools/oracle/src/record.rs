@@ -11,6 +11,7 @@ use crate::model;
 use crate::rng::Rng;
 use crate::selftest;
 use crate::text::BRANCHES;
+use crate::undo_calls;
 use crate::yards::*;
 use std::collections::{BTreeMap, BTreeSet};
 
@@ -26,6 +27,7 @@ pub const BRANCH: u32 = 70;
 pub const SAMPLED: u32 = 80;
 pub const LEAF: u32 = 90;
 pub const LISTED: u32 = 100;
+pub const TAKEN_BACK: u32 = 110;
 
 /// Keeps the smallest cases for each key.
 struct Chooser {
@@ -697,6 +699,25 @@ fn lists(rng: &mut Rng) -> Vec<Case> {
     cases
 }
 
+/// The smallest of some pairs of checks that are taken back, over narrow images and over either width; and the smallest recorded
+/// checks and undos for each answer.
+fn taken_back(rng: &mut Rng) -> Vec<Case> {
+    let smallest = |rng: &mut Rng, wide| {
+        let pairs = (0..200).map(|_| undo_calls::two_checks(rng, wide));
+        pairs.min_by_key(|cases| cases.iter().map(size).sum::<usize>()).expect("a pair")
+    };
+    let mut list = [smallest(rng, false), smallest(rng, true)].concat();
+    let mut chooser = Chooser::new(1);
+    for make in [undo_calls::recorded, undo_calls::recorded_wide, undo_calls::undo] {
+        for _ in 0..2_000 {
+            let c = make(rng).answered();
+            chooser.offer(format!("{:?}", (c.op, c.answer[0], c.answer[1], c.answer[4])), &c);
+        }
+    }
+    list.extend(chooser.cases(TAKEN_BACK));
+    list
+}
+
 pub fn recorded(seed: u64) -> Vec<Case> {
     let mut rng = Rng::new(seed);
     let rng = &mut rng;
@@ -723,6 +744,7 @@ pub fn recorded(seed: u64) -> Vec<Case> {
     list.extend(chosen(rng, 10_000, 2, sheet));
     list.extend(tag(leaf_cases(rng), LEAF));
     list.extend(tag(lists(rng), LISTED));
+    list.extend(tag(taken_back(rng), TAKEN_BACK));
     let mut seen = BTreeSet::new();
     list.retain(|c| seen.insert((c.op, c.args, c.ins.clone())));
     list.into_iter().map(Case::answered).collect()

@@ -55,6 +55,11 @@ fn check(c: &Case) -> String {
         1 => format!("erred {erred}"),
         _ => refused(number, place),
     };
+    if c.op == RECORDED_CHECK || c.op == WIDE_RECORDED_CHECK {
+        let (yard, record) = c.recorded_left();
+        let (yard, record) = (sum_of(&yard), sum_of(&record));
+        return format!("{answer} yard {yard} report {} record {record}", sum_of(&c.outs[1]));
+    }
     format!("{answer} yard {} report {}", sum_of(&c.outs[0]), sum_of(&c.outs[1]))
 }
 
@@ -90,7 +95,8 @@ pub fn words(c: &Case) -> String {
         MARK | WIDE_MARK | ACT => format!("{} occupancy {}", fault(number, place), sum_of(&c.outs[0])),
         LAY_OUT => format!("{} image {}", fault(number, place), sum_of(&c.outs[0])),
         UPDATE | WIDE_UPDATE => update(c),
-        CHECK | WIDE_CHECK => check(c),
+        CHECK | WIDE_CHECK | RECORDED_CHECK | WIDE_RECORDED_CHECK => check(c),
+        UNDO => format!("{} yard {}", fault(number, place), sum_of(&c.outs[0])),
         WIDEN | NARROW => format!("{} image {}", fault(number, place), sum_of(&c.outs[0])),
         SHEET => format!("sheet {}", sum_of(&c.outs[0])),
         PAGE => format!("{} page {}", fault(number, place), sum_of(&c.outs[0])),

@@ -9,6 +9,7 @@ use crate::layout::*;
 use crate::model::Checked;
 use crate::rng::Rng;
 use crate::undo::{check_recorded_wide, record_of, undo, RECORD_HEADER};
+use crate::undo_calls::damaged;
 use crate::wide::{self, WideArgs};
 use crate::wide_calls::{report_len, widened_yard, WideYard};
 
@@ -79,22 +80,7 @@ impl Undo {
     }
 
     fn damage(&mut self, rng: &mut Rng, yard: &[u8], record: &[u8]) {
-        let (mut yard, mut record) = (yard.to_vec(), record.to_vec());
-        let n = record.len();
-        match rng.below(6) {
-            0 => put_u32(&mut record, 4 * rng.below(4), rng.pick(&[0, 1, 16, 17, n as u32, u32::MAX])),
-            1 => record.truncate(rng.below(n + 1)),
-            2 => {
-                let at = rng.below(yard.len());
-                yard[at] ^= 1 << rng.below(8);
-            }
-            3 => put_u32(&mut record, RECORD_HEADER + 4 * rng.below(3), rng.below(70) as u32),
-            4 => yard.push(0),
-            _ => {
-                let at = rng.below(n);
-                record[at] ^= 1 << rng.below(8);
-            }
-        }
+        let (mut yard, record) = damaged(rng, yard, record);
         let (should, before) = (taken_back(&yard, &record), yard.clone());
         let done = undo(&mut yard, &record);
         self.damaged += 1;

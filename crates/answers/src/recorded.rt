@@ -1,0 +1,127 @@
+// A check that fills an undo record, and an undo. A check's record has as many bytes as argument 4 says, and is lent with zeros.
+use crate::case;
+use crate::check;
+use crate::print;
+use link_rules::link_idx::NarrowTrainIdx;
+use link_rules::link_idx::TrainIdx;
+use link_rules::refusal;
+use undo;
+use yard_check::check::Answer;
+
+// From buffers that are there; the occupancy of the other width is empty.
+pub(crate) fn answer(
+    head: &[u8],
+    yard: &mut [u8],
+    narrow: &[u16],
+    wide: &[u32],
+    blocking: &[u32],
+    report: &mut [u8],
+    sums: bool,
+) -> bool {
+    let mut room = case::no_bytes();
+    let n = case::argument(head, 4) as usize;
+    if 65536 < n {
+        return print::unread();
+    }
+    answer_into(
+        head,
+        yard,
+        narrow,
+        wide,
+        blocking,
+        report,
+        &mut room[..n],
+        sums,
+    )
+}
+
+fn answer_into(
+    head: &[u8],
+    yard: &mut [u8],
+    narrow: &[u16],
+    wide: &[u32],
+    blocking: &[u32],
+    report: &mut [u8],
+    undo_record: &mut [u8],
+    sums: bool,
+) -> bool {
+    if !check::print_answer(recorded(head, yard, narrow, wide, blocking, report, undo_record)) {
+        return false;
+    }
+    if !sums {
+        return print::end();
+    }
+    if !print::number(b" yard ", print::sum_of(yard)) {
+        return false;
+    }
+    if print::number(b" report ", print::sum_of(report)) {
+        return print::sum_line(b" record ", undo_record);
+    }
+    false
+}
+
+fn recorded(
+    head: &[u8],
+    yard: &mut [u8],
+    narrow: &[u16],
+    wide: &[u32],
+    blocking: &[u32],
+    report: &mut [u8],
+    undo_record: &mut [u8],
+) -> Answer {
+    let moved = case::argument(head, 0);
+    let begin = check::begin_of(case::argument(head, 1));
+    let local = 0 < case::argument(head, 2);
+    let limit = (case::argument(head, 3) % 65536) as u16;
+    if case::operation(head) == case::WIDE_RECORDED_CHECK {
+        return undo::check_recorded_wide(
+            yard,
+            wide,
+            blocking,
+            TrainIdx(moved),
+            begin,
+            local,
+            limit,
+            report,
+            undo_record,
+        );
+    }
+    undo::check_recorded(
+        yard,
+        narrow,
+        blocking,
+        NarrowTrainIdx((moved % 65536) as u16),
+        begin,
+        local,
+        limit,
+        report,
+        undo_record,
+    )
+}
+
+pub(crate) fn answer_undo(head: &[u8], body: &[u8], sums: bool) -> bool {
+    let mut room = case::no_bytes();
+    let n = case::first_input(head, body).len();
+    if 65536 < n {
+        return print::unread();
+    }
+    answer_undo_on(head, body, &mut room[..n], sums)
+}
+
+fn answer_undo_on(head: &[u8], body: &[u8], yard: &mut [u8], sums: bool) -> bool {
+    case::copy(yard, case::first_input(head, body));
+    if !print_undone(undo::undo(yard, case::second_input(head, body))) {
+        return false;
+    }
+    if sums {
+        return print::sum_line(b" yard ", yard);
+    }
+    print::end()
+}
+
+fn print_undone(answer: refusal::Answer) -> bool {
+    match answer {
+        refusal::Answer::Done => print::bytes(b"done"),
+        refusal::Answer::Refused(r) => print::refused(r),
+    }
+}
