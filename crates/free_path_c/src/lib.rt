@@ -254,7 +254,7 @@ fn holder_in(s: Status) -> u64
     }
 }
 
-// Checks a yard: the occupancy, the blocking list, the moved train, the slot to begin with, local (0 is no), the round limit; the report gets 16 bytes for each slot. Of the
+// Checks a yard: the occupancy, the blocking list, the moved train, the slot to begin with, local (0 is no), the round limit; the report gets 20 bytes for each slot. Of the
 // answer's words the first gets the number of slots that erred, the second 1 where there is a deadlock, the third the next begin. Answers 0, or the refusal as lavtoeu_mark does;
 // a refused check leaves the answer's words as they were.
 #[no_mangle]

@@ -47,12 +47,13 @@ fn update_in(
     answer::answered(image, scratch, occ, r, dt, dn)
 }
 
-// Room for an update of at most 64 est records and 64 diverge nodes over at most 512 links, which takes less time to clear.
+// Room for an update of at most 64 est records and 64 diverge nodes over at most 512 links, which takes less time to clear; an image of 4,416 bytes is
+// the largest narrow one of that size, and a wide one may be as long.
 fn update_small(image: &mut [u8], occ: &[u32], blocking: &[u32], o: Args, h: PathHeader) -> Updated
-    requires { ⌜ UpdateBegins (now image) (now occ) h × (estCount (now image) ≤ 64) × (divergeRoom (now image) ≤ 64) × (length (now occ) ≤ 512) ⌝ }
+    requires { ⌜ UpdateBegins (now image) (now occ) h × (estCount (now image) ≤ 64) × (divergeRoom (now image) ≤ 64) × (length (now occ) ≤ 512) × (length (now image) ≤ 4416) ⌝ }
     ensures { λ x. ⌜ updatedOf x (now (image .exit)) ≡ storedAnswer (updateOf (now (image .entry)) (now (occ .entry)) (now (blocking .entry)) o) (now (image .entry)) ⌝ }
 {
-    let mut scratch = [0u8; 4672];
+    let mut scratch = [0u8; 4416];
     let mut col = [0u32; 64];
     let mut on = [0u8; 64];
     let mut flags = [0u8; 512];
@@ -76,12 +77,12 @@ fn update_small(image: &mut [u8], occ: &[u32], blocking: &[u32], o: Args, h: Pat
     )
 }
 
-// The same with room for every number of diverge nodes.
+// The same with room for every number of diverge nodes of a narrow image.
 fn update_few(image: &mut [u8], occ: &[u32], blocking: &[u32], o: Args, h: PathHeader) -> Updated
-    requires { ⌜ UpdateBegins (now image) (now occ) h × (estCount (now image) ≤ 64) × (length (now occ) ≤ 512) ⌝ }
+    requires { ⌜ UpdateBegins (now image) (now occ) h × (estCount (now image) ≤ 64) × (length (now occ) ≤ 512) × (length (now image) ≤ 8256) ⌝ }
     ensures { λ x. ⌜ updatedOf x (now (image .exit)) ≡ storedAnswer (updateOf (now (image .entry)) (now (occ .entry)) (now (blocking .entry)) o) (now (image .entry)) ⌝ }
 {
-    let mut scratch = [0u8; 12352];
+    let mut scratch = [0u8; 8256];
     let mut col = [0u32; 64];
     let mut on = [0u8; 64];
     let mut flags = [0u8; 512];
@@ -145,7 +146,13 @@ fn update_begun(image: &mut [u8], occ: &[u32], blocking: &[u32], o: Args, h: Pat
     if 512 < occ.len() {
         return update_large(image, occ, blocking, o, h);
     }
+    if 8256 < image.len() {
+        return update_large(image, occ, blocking, o, h);
+    }
     if 64 < codec::diverge_room(image) {
+        return update_few(image, occ, blocking, o, h);
+    }
+    if 4416 < image.len() {
         return update_few(image, occ, blocking, o, h);
     }
     update_small(image, occ, blocking, o, h)

@@ -7,7 +7,7 @@ use link_rules::refusal;
 use link_rules::refusal::Refusal;
 
 // The largest of the entries, 0 where there is none. It reads them all, so that the loop can run over several at a time.
-pub fn largest(occupancy: &[u32]) -> u32
+fn largest(occupancy: &[u32]) -> u32
     ensures { λ r. ⌜ r ≡ largest (now (occupancy .entry)) ⌝ }
 {
     let mut top: u32 = 0;

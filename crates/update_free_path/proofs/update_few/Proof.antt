@@ -13,15 +13,13 @@ array-borrow-prefix-scratch : tie.Need-array-borrow-prefix-scratch
 array-borrow-prefix-scratch c =
     let a = c .before .before .before .before .args in
     let p = c .before .before .before .before .pre in
-    let z = begin-long (now (a .image)) (now (a .occ)) (a .h) (p .0) (λ i. omega (arith, c .before .before .before .slice-known .given i)) in
-    omega (arith, z .0, p .1, z .2, length-replicate {A = ℕ} 12352 0)
+    omega (arith, p .3, length-replicate {A = ℕ} 8256 0)
 
 slice-aggregate-update-in : tie.Need-slice-aggregate-update-in
 slice-aggregate-update-in c =
     let a = c .before .before .before .before .before .args in
     let p = c .before .before .before .before .before .pre in
-    let z = begin-long (now (a .image)) (now (a .occ)) (a .h) (p .0) (λ i. omega (arith, c .before .before .before .before .slice-known .given i)) in
-    sym (length-take-le (length (now (a .image))) (replicate 12352 0) (omega (arith, z .0, p .1, z .2, length-replicate {A = ℕ} 12352 0)))
+    sym (length-take-le (length (now (a .image))) (replicate 8256 0) (omega (arith, p .3, length-replicate {A = ℕ} 8256 0)))
 
 slice-aggregate-update-in-2 : tie.Need-slice-aggregate-update-in-2
 slice-aggregate-update-in-2 c = search needs
@@ -47,7 +45,7 @@ update-in-requires c κs =
     let p = c .before .before .before .before .before .before .before .before .before .before .before .pre in
     let z = begin-long (now (a .image)) (now (a .occ)) (a .h) (p .0) (λ i. omega (arith, c .before .before .before .before .before .before .before .before .before .before .slice-known .given i)) in (
       p .0,
-      length-take-le (length (now (a .image))) (replicate 12352 0) (omega (arith, z .0, p .1, z .2, length-replicate {A = ℕ} 12352 0)),
+      length-take-le (length (now (a .image))) (replicate 8256 0) (omega (arith, p .3, length-replicate {A = ℕ} 8256 0)),
       record {
         sizes = record {
           column = omega (arith, p .1, length-replicate {A = ℕ} 64 0);

@@ -4,7 +4,6 @@ use native.Mathlib.Omega.{arith}
 use denote.Ref.{now}
 use lib.ListN.{length, replicate, length-replicate}
 use lib.Seq.{length-take-le}
-use Rattle.update_free_path.proofs.StartLaws.{begin-long}
 use borrow.Author.Needs.{needs}
 use Rattle.update_free_path.proofs.update_small.Statement.{statement}
 use Rattle.update_free_path.proofs.update_small.Tie as tie
@@ -13,15 +12,13 @@ array-borrow-prefix-scratch : tie.Need-array-borrow-prefix-scratch
 array-borrow-prefix-scratch c =
     let a = c .before .before .before .before .args in
     let p = c .before .before .before .before .pre in
-    let z = begin-long (now (a .image)) (now (a .occ)) (a .h) (p .0) (λ i. omega (arith, c .before .before .before .slice-known .given i)) in
-    omega (arith, z .0, p .1, p .2, length-replicate {A = ℕ} 4672 0)
+    omega (arith, p .4, length-replicate {A = ℕ} 4416 0)
 
 slice-aggregate-update-in : tie.Need-slice-aggregate-update-in
 slice-aggregate-update-in c =
     let a = c .before .before .before .before .before .args in
     let p = c .before .before .before .before .before .pre in
-    let z = begin-long (now (a .image)) (now (a .occ)) (a .h) (p .0) (λ i. omega (arith, c .before .before .before .before .slice-known .given i)) in
-    sym (length-take-le (length (now (a .image))) (replicate 4672 0) (omega (arith, z .0, p .1, p .2, length-replicate {A = ℕ} 4672 0)))
+    sym (length-take-le (length (now (a .image))) (replicate 4416 0) (omega (arith, p .4, length-replicate {A = ℕ} 4416 0)))
 
 slice-aggregate-update-in-2 : tie.Need-slice-aggregate-update-in-2
 slice-aggregate-update-in-2 c = search needs
@@ -44,10 +41,9 @@ slice-aggregate-update-in-7 c = search needs
 update-in-requires : tie.Need-update-in-requires
 update-in-requires c κs =
     let a = c .before .before .before .before .before .before .before .before .before .before .before .args in
-    let p = c .before .before .before .before .before .before .before .before .before .before .before .pre in
-    let z = begin-long (now (a .image)) (now (a .occ)) (a .h) (p .0) (λ i. omega (arith, c .before .before .before .before .before .before .before .before .before .before .slice-known .given i)) in (
+    let p = c .before .before .before .before .before .before .before .before .before .before .before .pre in (
       p .0,
-      length-take-le (length (now (a .image))) (replicate 4672 0) (omega (arith, z .0, p .1, p .2, length-replicate {A = ℕ} 4672 0)),
+      length-take-le (length (now (a .image))) (replicate 4416 0) (omega (arith, p .4, length-replicate {A = ℕ} 4416 0)),
       record {
         sizes = record {
           column = omega (arith, p .1, p .2, length-replicate {A = ℕ} 64 0);
