@@ -1,0 +1,192 @@
+-- A right index stays right: proofs of the statements of specs/StaysRight. Assumes nothing.
+use mathlib.Core.Path.{_≡_, refl, sym, ap, _∙_}
+use mathlib.Core.Bool.{Bool, true, false, cond, not, _&&_, and-false}
+use mathlib.Core.List.{List, [], _∷_}
+use Prim.Native.Nat.{ℕ, zero, suc, _≤_, _<_}
+use native.Mathlib.Omega.{arith}
+use lib.Dec.{leb, eqb}
+use lib.ListN.{length, getD}
+use lib.Seq.{ext-getD}
+use borrow.Author.Tests.{eqb-true, eq-eqb, ne-eqb, not-false, leb-true, le-leb, lt-leb}
+use Rattle.link_rules.specs.Network.{allBelow}
+use Rattle.link_rules.specs.Octets.{leAt}
+use Rattle.link_rules.specs.Refusals.{orElse, refusedUnless}
+use Rattle.link_rules.specs.declared.refusal.Refusal.{Refusal}
+use Rattle.link_rules.proofs.TableLaws.{all-at}
+use Rattle.disp_structs.proofs.ListedLaws.{listed-length, listed-at}
+use Rattle.image_fault.specs.ImageFault.{arrived}
+use Rattle.image_fault.proofs.ScanLaws.{both}
+use Rattle.yard_check.specs.Yard.{slotCount, partOf, yardFits, yardFault}
+use Rattle.yard_check.proofs.YardLaws.{Fits, part-long, part-length}
+use Rattle.link_index.specs.Bits.{numberOf, bitOf}
+use Rattle.link_index.specs.LinkIndex.{slotImage, isAccepted, runsOver, indexOf, hasBit, built, sameBytes, changed, refreshed, lengthFits, buildFault, leaves, builtBy, buildOf, canRefresh, refreshOf, refreshedAll, allFit, lastOf}
+use Rattle.link_index.specs.StaysRight.{BuiltBits, NoBitZero, ChangedAsBuilt, OthersStay, StaysRight, RightThrough}
+use Rattle.link_index.proofs.BitLaws.{number-bit}
+use Rattle.link_index.proofs.SlotLaws.{index-same}
+
+-- ---- a slot's image
+
+pub image-low : (yard : List ℕ) (t : ℕ) → t < 1 → slotImage yard t ≡ []
+unfolding slotImage
+image-low yard t h = rw (lt-leb 1 t h)
+
+pub image-high : (yard : List ℕ) (t : ℕ) → slotCount yard < t → slotImage yard t ≡ []
+unfolding slotImage
+image-high yard t h = rw (lt-leb t (slotCount yard) h, le-leb 1 t (omega arith))
+
+pub image-is : (yard : List ℕ) (t : ℕ) → 1 ≤ t → t ≤ slotCount yard → slotImage yard t ≡ partOf yard t
+unfolding slotImage
+image-is yard t h k = rw (le-leb 1 t h, le-leb t (slotCount yard) k)
+
+-- ---- changed is of bytes
+
+pub same-bytes : (xs ys : List ℕ) → sameBytes xs ys ≡ true → xs ≡ ys
+unfolding sameBytes
+same-bytes xs ys e =
+    let test : ℕ → Bool = λ i. eqb (getD xs i 0) (getD ys i 0) in
+    let long = eqb-true (length xs) (length ys) (both (eqb (length xs) (length ys)) (allBelow (length xs) test) e .0) in
+    let all = both (eqb (length xs) (length ys)) (allBelow (length xs) test) e .1 in
+    ext-getD 0 xs ys long (λ i h. eqb-true (getD xs i 0) (getD ys i 0) (all-at test (length xs) i all h))
+
+pub unchanged-image : (old new : List ℕ) (t : ℕ) → changed old new t ≡ false → slotImage old t ≡ slotImage new t
+unfolding changed
+unchanged-image old new t e = same-bytes (slotImage old t) (slotImage new t) (not-false (sameBytes (slotImage old t) (slotImage new t)) e)
+
+pub lengths-differ : (xs ys : List ℕ) → (length xs ≡ length ys → ⊥) → sameBytes xs ys ≡ false
+unfolding sameBytes
+lengths-differ xs ys h = ap (λ (b : Bool). b && allBelow (length xs) (λ i. eqb (getD xs i 0) (getD ys i 0))) (ne-eqb (length xs) (length ys) h)
+
+pub lengths-same : (xs ys : List ℕ) → length xs ≡ length ys → sameBytes xs ys ≡ allBelow (length xs) (λ i. eqb (getD xs i 0) (getD ys i 0))
+unfolding sameBytes
+lengths-same xs ys h = ap (λ (b : Bool). b && allBelow (length xs) (λ i. eqb (getD xs i 0) (getD ys i 0))) (eq-eqb (length xs) (length ys) h)
+
+-- a slot that one of two yards past 14 has, and the other has not, has changed
+module _ (old new : List ℕ) (t : ℕ) (l : 1 ≤ t) where
+  pub gone-changed : Fits old → t ≤ slotCount old → slotCount new < t → changed old new t ≡ true
+  unfolding changed
+  gone-changed f h k =
+      let long : length (slotImage old t) ≡ length (partOf old t) = ap (λ (x : List ℕ). length x) (image-is old t l h) in
+      let none : length (slotImage new t) ≡ 0 = ap (λ (x : List ℕ). length x) (image-high new t k) in
+      ap not (lengths-differ (slotImage old t) (slotImage new t) (λ (e : length (slotImage old t) ≡ length (slotImage new t)).
+      omega (arith, e, long, none, part-length old f t l h, part-long old f t l h)))
+
+  pub come-changed : Fits new → slotCount old < t → t ≤ slotCount new → changed old new t ≡ true
+  unfolding changed
+  come-changed f k h =
+      let long : length (slotImage new t) ≡ length (partOf new t) = ap (λ (x : List ℕ). length x) (image-is new t l h) in
+      let none : length (slotImage old t) ≡ 0 = ap (λ (x : List ℕ). length x) (image-high old t k) in
+      ap not (lengths-differ (slotImage old t) (slotImage new t) (λ (e : length (slotImage old t) ≡ length (slotImage new t)).
+      omega (arith, e, long, none, part-length new f t l h, part-long new f t l h)))
+
+-- ---- bits of an index
+
+index-bit : (n : ℕ) (bits : (l t : ℕ) → Bool) (l t : ℕ) → l < n → t < 64 → hasBit (indexOf n bits) l t ≡ bits l t
+index-bit n bits l t h k = ap (λ (x : ℕ). bitOf x t) (listed-at n (λ i. numberOf (bits i) 64) l 0 h) ∙ number-bit (bits l) 64 t k
+
+pub built-length : (yard : List ℕ) (links : ℕ) → length (built yard links) ≡ links
+unfolding built
+built-length yard links = listed-length links (λ l. numberOf (λ t. runsOver (slotImage yard t) links l) 64)
+
+pub built-bits : BuiltBits
+unfolding built
+built-bits yard links l t h k = index-bit links (λ i s. runsOver (slotImage yard s) links i) l t h k
+
+-- no path, no Arrive
+none-runs : (links l : ℕ) → runsOver [] links l ≡ false
+unfolding runsOver arrived leAt
+none-runs links l = and-false (isAccepted [] links)
+
+pub no-bit-zero : NoBitZero
+no-bit-zero yard links l h =
+    built-bits yard links l 0 h (omega arith) ∙ (ap (λ (img : List ℕ). runsOver img links l) (image-low yard 0 (omega arith)) ∙ none-runs links l)
+
+-- ---- build
+
+by-none : (n : ℕ) (f : Refusal) (was fresh : List ℕ) → n ≡ 0 → leaves f fresh ≡ builtBy n f was fresh
+by-none zero f was fresh e = refl
+by-none (suc n) f was fresh e = absurd (omega (arith, e))
+
+by-some : (n : ℕ) (f : Refusal) (was fresh : List ℕ) → (n ≡ 0 → ⊥) → leaves f was ≡ builtBy n f was fresh
+by-some zero f was fresh h = absurd (h refl)
+by-some (suc n) f was fresh h = refl
+
+module _ (yard index : List ℕ) (f : Refusal) (e : f ≡ buildFault yard (length index)) where
+  whole : builtBy (f .number) f index (built yard (length index)) ≡ buildOf yard index
+  unfolding buildOf
+  whole = ap (λ (g : Refusal). builtBy (g .number) g index (built yard (length index))) e
+
+  pub build-refused : (f .number ≡ 0 → ⊥) → leaves f index ≡ buildOf yard index
+  build-refused h = by-some (f .number) f index (built yard (length index)) h ∙ whole
+
+  pub build-fits : f .number ≡ 0 → leaves f (built yard (length index)) ≡ buildOf yard index
+  build-fits h = by-none (f .number) f index (built yard (length index)) h ∙ whole
+
+-- what is not refused has at most 4,000 links
+pub fault-low : (yard : List ℕ) (links : ℕ) → buildFault yard links .number ≡ 0 → links ≤ 4000
+unfolding buildFault
+fault-low yard links h = go (lengthFits links) refl
+  where
+    go : (b : Bool) → lengthFits links ≡ b → links ≤ 4000
+    go true e = leb-true links 4000 (both (leb 2 links) (leb links 4000) e .1)
+    go false e = let q : buildFault yard links .number ≡ 25 = ap (λ (b : Bool). orElse (refusedUnless b 25) (yardFault yard) .number) e in absurd (omega (arith, q, h))
+
+pub refresh-low : (old new : List ℕ) (links : ℕ) → canRefresh old new links ≡ true → links ≤ 4000
+unfolding canRefresh
+refresh-low old new links e = leb-true links 4000 (both (leb 2 links) (leb links 4000) (both (lengthFits links) (yardFits old && yardFits new) e .0) .1)
+
+-- ---- refresh
+
+module _ (old new index : List ℕ) where
+  abbrev refreshedBit : (l t : ℕ) (b : Bool) → Bool
+  refreshedBit l t b = cond b (runsOver (slotImage new t) (length index) l) (hasBit index l t)
+
+  refreshed-bit : (l t : ℕ) → l < length index → t < 64 → hasBit (refreshed old new index) l t ≡ refreshedBit l t (changed old new t)
+  unfolding refreshed
+  refreshed-bit l t h k = index-bit (length index) (λ i s. refreshedBit i s (changed old new s)) l t h k
+
+pub changed-as-built : ChangedAsBuilt
+changed-as-built old new index l t h k e = refreshed-bit old new index l t h k ∙ (ap (refreshedBit old new index l t) e ∙ sym (built-bits new (length index) l t h k))
+
+pub others-stay : OthersStay
+others-stay old new index l t h k e = refreshed-bit old new index l t h k ∙ ap (refreshedBit old new index l t) e
+
+pub stays-right : StaysRight
+unfolding refreshed built
+stays-right old new links = lengths ∙ bits
+  where
+    right : List ℕ
+    right = built old links
+
+    bitIn : (n l t : ℕ) (b : Bool) → Bool
+    bitIn n l t b = cond b (runsOver (slotImage new t) n l) (hasBit right l t)
+
+    lengths : refreshed old new right ≡ indexOf links (λ l t. bitIn links l t (changed old new t))
+    lengths = ap (λ (n : ℕ). indexOf n (λ l t. bitIn n l t (changed old new t))) (built-length old links)
+
+    bit : (l t : ℕ) → l < links → t < 64 → (b : Bool) → changed old new t ≡ b → bitIn links l t b ≡ runsOver (slotImage new t) links l
+    bit l t h k true e = refl
+    bit l t h k false e = built-bits old links l t h k ∙ ap (λ (img : List ℕ). runsOver img links l) (unchanged-image old new t e)
+
+    bits : indexOf links (λ l t. bitIn links l t (changed old new t)) ≡ built new links
+    bits =
+        index-same links (λ l t. bitIn links l t (changed old new t)) (λ l t. runsOver (slotImage new t) links l)
+        (λ l t h k. bit l t h k (changed old new t) refl)
+
+-- ---- many yards
+
+pub refresh-fits : (old new index : List ℕ) → canRefresh old new (length index) ≡ true → refreshOf old new index ≡ refreshed old new index
+unfolding refreshOf
+refresh-fits old new index e = ap (λ (b : Bool). cond b (refreshed old new index) index) e
+
+pub refresh-stays : (old new index : List ℕ) → canRefresh old new (length index) ≡ false → refreshOf old new index ≡ index
+unfolding refreshOf
+refresh-stays old new index e = ap (λ (b : Bool). cond b (refreshed old new index) index) e
+
+pub right-through : RightThrough
+unfolding refreshedAll lastOf allFit
+right-through old [] links e = refl
+right-through old (new ∷ yards) links e =
+    let fits : canRefresh old new (length (built old links)) ≡ true =
+    ap (canRefresh old new) (built-length old links) ∙ both (canRefresh old new links) (allFit links new yards) e .0 in
+    ap (refreshedAll new yards) (refresh-fits old new (built old links) fits ∙ stays-right old new links)
+    ∙ right-through new yards links (both (canRefresh old new links) (allFit links new yards) e .1)

@@ -1,0 +1,5 @@
+pub mod BitLaws
+pub mod SlotLaws
+pub mod IndexLaws
+pub mod IndexMatch
+pub mod SidingIndex

@@ -1,0 +1,4 @@
+pub mod Bits
+pub mod LinkIndex
+pub mod Slots
+pub mod StaysRight
