@@ -17,7 +17,7 @@ ghost use Prim.Native.Nat.{_+_, _*_, _-_, _^_, _<_};
 ghost use lib.ListN.{length, replicate};
 ghost use Rattle.link_rules.specs.Octets.{leAt, putLe};
 ghost use Rattle.disp_structs.specs.Floats.{realOf};
-ghost use Rattle.image.specs.Image.{sizeOf, estCount, pathCount, divergeCount, divergeRoom, trainIdx, isWide, pathHeader, distDispPathSearch, distFixedMax, estPlace, nodePlace, divergePlace, typeOf, typeNumber, estFrom, estAt, nodeFrom, nodeAt, zeroEst, zeroNode, wholeEst, wholeNode, divergeAt, putNode, putDiverge, zeroWords, clearNodes, clearDiverges, putPathHeader};
+ghost use Rattle.image.specs.Image.{sizeOf, estCount, pathCount, divergeCount, divergeRoom, trainIdx, isWide, pathHeader, distDispPathSearch, distFixedMax, estPlace, nodePlace, divergePlace, typeOf, typeNumber, estFrom, estAt, nodeFrom, nodeAt, zeroEst, zeroNode, wholeEst, wholeNode, divergeFrom, divergeAt, putNode, putDiverge, zeroWords, clearNodes, clearDiverges, putPathHeader};
 
 // The header's numbers that an update changes.
 pub struct PathHeader {
@@ -305,8 +305,14 @@ fn node_past(s: &[u8], at: usize) -> DispNode
 pub fn diverge_at(img: &[u8], i: u32) -> DivergeNode
     ensures { λ r. ⌜ r ≡ divergeAt (now (img .entry)) i ⌝ }
 {
-    let wide = is_wide(img);
-    let at = diverge_place(wide, est_count(img), i);
+    diverge_with(img, is_wide(img), est_count(img), i)
+}
+
+// Of an image whose width and est count the caller has read, once for many records.
+pub fn diverge_with(img: &[u8], wide: bool, e: u32, i: u32) -> DivergeNode
+    ensures { λ r. ⌜ r ≡ divergeFrom wide (now (img .entry)) (divergePlace wide e i) ⌝ }
+{
+    let at = diverge_place(wide, e, i);
     if wide {
         return DivergeNode {
             train_idx: TrainIdx(octets::u32_at(img, at)),
@@ -394,12 +400,19 @@ fn put_node_past(s: &mut [u8], at: usize, x: DispNode)
     octets::put_u32(s, at + 28, 0);
 }
 
-// Of a number that its field cannot hold the low bits are written.
 pub fn put_diverge(img: &mut [u8], i: u32, x: DivergeNode)
     ensures { λ _. ⌜ now (img .exit) ≡ putDiverge (isWide (now (img .entry))) x (divergePlace (isWide (now (img .entry))) (estCount (now (img .entry))) i) (now (img .entry)) ⌝ }
 {
     let wide = is_wide(img);
-    let at = diverge_place(wide, est_count(img), i);
+    let e = est_count(img);
+    put_diverge_with(img, wide, e, i, x)
+}
+
+// As diverge_with reads. Of a number that its field cannot hold the low bits are written.
+pub fn put_diverge_with(img: &mut [u8], wide: bool, e: u32, i: u32, x: DivergeNode)
+    ensures { λ _. ⌜ now (img .exit) ≡ putDiverge wide x (divergePlace wide e i) (now (img .entry)) ⌝ }
+{
+    let at = diverge_place(wide, e, i);
     if wide {
         octets::put_u32(img, at, x.train_idx.0);
         octets::put_u16(img, at + 4, (x.disp_node_idx % 65536) as u16);

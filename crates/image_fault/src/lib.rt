@@ -21,7 +21,7 @@ ghost use lib.ListN.{length, replicate};
 ghost use Prim.Native.Nat.{ℕ, _+_, _-_, _*_, _^_, _≤_, _<_};
 ghost use Rattle.link_rules.specs.Network.{allBelow};
 ghost use Rattle.disp_structs.specs.Values.{isArrive};
-ghost use Rattle.image.specs.Image.{estCount, pathCount, estAt, nodeAt};
+ghost use Rattle.image.specs.Image.{estCount, pathCount, isWide, estAt, nodeAt, divergeAt};
 ghost use Rattle.image_fault.specs.ImageFault.{faultWith, imageFault, imageFits, trainsFault, divergeTrainFits, valueFault, cycleFault, routeFault, firstUnfit, countsFit, partsFit, widthNumber, trainFits, estTypeFits, nodeTypeFits, divergeSpareFits, zeroWord, unusedZero, recordsFit, floatFits, timeFits, distFits, eventFits, estLinksFit, estFits, nodeFits, indicesFit, headerFits, stepsTo, comesFrom, endsAt, onRoute, innerFits, divergeFits};
 ghost use Rattle.image_fault.specs.CodeFacts.{CountsFit, zeroByte, isLater, leadsOn};
 
@@ -694,10 +694,19 @@ fn inner_fits(n: u32, d: DivergeNode, b: DivergeNode) -> bool
     b.disp_node_idx <= d.disp_node_idx
 }
 
-fn diverge_fits(img: &[u8], i: u32) -> bool
+// In the next three, wide is the width of the image, which is asked once for all records.
+fn diverge_of(img: &[u8], wide: bool, i: u32) -> DivergeNode
+    requires { ⌜ wide ≡ isWide (now img) ⌝ }
+    ensures { λ r. ⌜ r ≡ divergeAt (now (img .entry)) i ⌝ }
+{
+    codec::diverge_with(img, wide, codec::est_count(img), i)
+}
+
+fn diverge_fits(img: &[u8], wide: bool, i: u32) -> bool
+    requires { ⌜ wide ≡ isWide (now img) ⌝ }
     ensures { λ r. ⌜ r ≡ divergeFits (now (img .entry)) i ⌝ }
 {
-    let d = codec::diverge_at(img, i);
+    let d = diverge_of(img, wide, i);
     let n = codec::path_count(img);
     if i == 0 {
         if d.train_idx.0 == 0 {
@@ -708,16 +717,16 @@ fn diverge_fits(img: &[u8], i: u32) -> bool
     if (i as usize) + 1 == codec::diverge_count(img) as usize {
         return d.disp_node_idx == n;
     }
-    inner_fits(n, d, codec::diverge_at(img, i - 1))
+    inner_fits(n, d, diverge_of(img, wide, i - 1))
 }
 
-fn diverge_fault(img: &[u8], m: u32) -> Refusal
-    requires { ⌜ m ≤ 1024 ⌝ }
+fn diverge_fault(img: &[u8], wide: bool, m: u32) -> Refusal
+    requires { ⌜ (wide ≡ isWide (now img)) × (m ≤ 1024) ⌝ }
     ensures { λ r. ⌜ r ≡ firstUnfit 9 (divergeFits (now (img .entry))) m 0 ⌝ }
 {
     let mut i: u32 = 0;
     while i < m {
-        if diverge_fits(img, i) {
+        if diverge_fits(img, wide, i) {
             i += 1;
         } else {
             return Refusal {
@@ -740,7 +749,7 @@ fn route_fault(img: &[u8], links: u32) -> Refusal
     if f.number != 0 {
         return f;
     }
-    diverge_fault(img, codec::diverge_count(img))
+    diverge_fault(img, codec::is_wide(img), codec::diverge_count(img))
 }
 
 // The first refusal, one number after the other; own is the call's between 6 and 7.
@@ -795,6 +804,7 @@ pub fn fault_with(img: &[u8], links: u32, w: Widths, own: Refusal) -> Refusal
 }
 
 // The first refusal of a narrow image over `links` links, in document 01's order; a wide one is refused by 6.
+// It asks for itself what fault_with does, since a pass that is called at two places is compiled apart, and its loops keep their registers.
 pub fn image_fault(img: &[u8], links: u32) -> Refusal
     ensures { λ r. ⌜ r ≡ imageFault (now (img .entry)) links ⌝ }
 {
@@ -802,5 +812,8 @@ pub fn image_fault(img: &[u8], links: u32) -> Refusal
         number: 0,
         place: 0,
     };
-    fault_with(img, links, Widths::Narrow, none)
+    if pass::all_fit(img, links, Widths::Narrow) {
+        return none;
+    }
+    first_fault(img, links, Widths::Narrow, none)
 }

@@ -1,5 +1,5 @@
 // One pass over an image, which says only whether all fits: each record is read once, and 6 to 9 are asked of it together.
-// The functions are called at one place each, so that they are inlined there and one test of the length serves every field of a record.
+// The functions but all_fit are called at one place each, so that they are inlined there and one test of the length serves every field of a record.
 ghost use mathlib.Core.Path.{_≡_};
 ghost use mathlib.Core.Bool.{cond, true, not, _&&_};
 ghost use lib.Dec.{eqb};
@@ -7,7 +7,7 @@ ghost use lib.ListN.{length, replicate};
 ghost use Prim.Native.Nat.{_≤_};
 ghost use Rattle.link_rules.specs.Network.{allBelow};
 ghost use Rattle.disp_structs.specs.Values.{isArrive};
-ghost use Rattle.image.specs.Image.{estCount, pathCount, divergeCount, nodeAt};
+ghost use Rattle.image.specs.Image.{estCount, pathCount, divergeCount, isWide, nodeAt};
 ghost use Rattle.image_fault.specs.ImageFault.{divergeFits};
 ghost use Rattle.image_fault.specs.AllFit.{eventPasses, acyclic, estPasses, nodePasses, pathPasses, headPasses, widePasses, divergesPass, recordsPass, allFit};
 use crate::Widths;
@@ -188,12 +188,14 @@ fn path_passes(img: &[u8], e: u32, n: u32, links: u32) -> bool
 
 // ---- all
 
-fn diverges_fit(img: &[u8], m: u32) -> bool
+// wide is the width of the image.
+fn diverges_fit(img: &[u8], wide: bool, m: u32) -> bool
+    requires { ⌜ wide ≡ isWide (now img) ⌝ }
     ensures { λ r. ⌜ r ≡ allBelow m (divergeFits (now (img .entry))) ⌝ }
 {
     let mut i: u32 = 0;
     while i < m {
-        if crate::diverge_fits(img, i) {
+        if crate::diverge_fits(img, wide, i) {
             i += 1;
         } else {
             return false;
@@ -229,8 +231,9 @@ fn diverges_pass(img: &[u8], m: u32) -> bool
     requires { ⌜ m ≡ divergeCount (now img) ⌝ }
     ensures { λ r. ⌜ r ≡ divergesPass (now (img .entry)) ⌝ }
 {
-    if diverges_fit(img, m) {
-        if codec::is_wide(img) {
+    let wide = codec::is_wide(img);
+    if diverges_fit(img, wide, m) {
+        if wide {
             return wides_pass(img, m);
         }
         return true;

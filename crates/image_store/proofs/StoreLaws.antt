@@ -73,11 +73,16 @@ module _ (m : ℕ) (g : ℕ → DivergeNode) (bs : List ℕ) where
   pub diverges-stay : (v j : ℕ) → j + v ≤ 64 → leAt v into j ≡ leAt v bs j
   diverges-stay v j h = header-stays diverges-write v j bs h (omega arith)
 
+  -- where the width and the est count were read before the first record
+  pub diverges-more : (x : DivergeNode) (w : Bool) (e : ℕ) (b c : List ℕ) → b ≡ into → x ≡ g m → w ≡ W → e ≡ estCount bs → c ≡ putDiverge w x (divergePlace w e m) b
+      → c ≡ putEach (putDiverge W) (divergeSize W) (listed (m + 1) g) (divergePlace W (estCount bs) 0) bs
+  diverges-more x w e b c h q v n p =
+      let k : divergePlace W (estCount bs) m ≡ divergePlace W (estCount bs) 0 + divergeSize W * m = omega arith in
+      p ∙ rw (q, h, v, n, k) (sym (each-next (putDiverge W) (divergeSize W) m g (divergePlace W (estCount bs) 0) bs))
+
   pub diverges-next : (x : DivergeNode) (b c : List ℕ) → b ≡ into → x ≡ g m → c ≡ putDiverge (isWide b) x (divergePlace (isWide b) (estCount b) m) b
       → c ≡ putEach (putDiverge W) (divergeSize W) (listed (m + 1) g) (divergePlace W (estCount bs) 0) bs
-  diverges-next x b c h q p =
-      let k : divergePlace W (estCount bs) m ≡ divergePlace W (estCount bs) 0 + divergeSize W * m = omega arith in
-      p ∙ rw (q, h, wide-stays diverges-write bs (omega arith), diverges-stay 4 4 (omega arith), k) (sym (each-next (putDiverge W) (divergeSize W) m g (divergePlace W (estCount bs) 0) bs))
+  diverges-next x b c h q p = diverges-more x (isWide b) (estCount b) b c h q (ap isWide h ∙ wide-stays diverges-write bs (omega arith)) (ap estCount h ∙ diverges-stay 4 4 (omega arith)) p
 
 -- ---- what is stored
 

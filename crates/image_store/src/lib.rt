@@ -83,13 +83,15 @@ fn put_nodes(image: &mut [u8], img: &[u8], n: u32)
 fn put_diverges(image: &mut [u8], dt: &[u32], dn: &[u32], m: u32)
     ensures { λ _. ⌜ now (image .exit) ≡ divergesInto (isWide (now (image .entry))) (listed m (divAt (now (dt .entry)) (now (dn .entry)))) (now (image .entry)) ⌝ }
 {
+    let wide = codec::is_wide(image);
+    let e = codec::est_count(image);
     let mut i: u32 = 0;
     while i < m {
         let d = DivergeNode {
             train_idx: TrainIdx(columns::u32_of(dt, i as usize)),
             disp_node_idx: columns::u32_of(dn, i as usize),
         };
-        codec::put_diverge(image, i, d);
+        codec::put_diverge_with(image, wide, e, i, d);
         i += 1;
     }
 }

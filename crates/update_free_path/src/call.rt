@@ -167,9 +167,11 @@ pub(crate) fn take_diverges(img: &[u8], m: usize, dt: &mut [u32], dn: &mut [u32]
     requires { ⌜ (m ≤ length (now dt)) × (m ≤ length (now dn)) × (m < 2 ^ 32) ⌝ }
     ensures { λ _. ⌜ listed m (divAt (now (dt .exit)) (now (dn .exit))) ≡ listed m (divergeAt (now (img .entry))) ⌝ }
 {
+    let wide = codec::is_wide(img);
+    let e = codec::est_count(img);
     let mut i = 0;
     while i < m {
-        let d = codec::diverge_at(img, i as u32);
+        let d = codec::diverge_with(img, wide, e, i as u32);
         dt[i] = d.train_idx.0;
         dn[i] = d.disp_node_idx;
         i += 1;

@@ -10,10 +10,10 @@ use Rattle.image_fault.proofs.diverge_fault.Statement.{statement}
 use Rattle.image_fault.proofs.diverge_fault.Tie as tie
 
 abbrev Inv-loop : tie.InvT-loop
-Inv-loop img m i₀ i = (i ≤ m) × (firstUnfit 9 (divergeFits img) (m - i) i ≡ firstUnfit 9 (divergeFits img) m 0)
+Inv-loop img wide m i₀ i = (i ≤ m) × (firstUnfit 9 (divergeFits img) (m - i) i ≡ firstUnfit 9 (divergeFits img) m 0)
 
 abbrev μ-loop : tie.MeasureT-loop
-μ-loop img m i₀ i = m - i
+μ-loop img wide m i₀ i = m - i
 
 loop-holds : tie.Need-loop-holds Inv-loop μ-loop
 loop-holds c = (search needs, rw sub-zero)
@@ -30,8 +30,8 @@ loop-less c = search needs
 loop-again : tie.Need-loop-again Inv-loop μ-loop
 loop-again c = (search needs, sym (first-fit 9 (divergeFits (now (c .before .before .before .before .before .args .img))) (c .before .before .before .before .before .args .m) (c .before .before .before .loop .i) (omega arith) (sym (c .before .diverge-fits .ensures) ∙ c .if1 .taken)) ∙ c .before .before .before .loop .inv .1)
 
-cast-t6 : tie.Need-cast-t6 Inv-loop μ-loop
-cast-t6 c = search needs
+cast-t7 : tie.Need-cast-t7 Inv-loop μ-loop
+cast-t7 c = search needs
 
 returns : tie.Need-returns Inv-loop μ-loop
 returns c = sym (first-unfit 9 (divergeFits (now (c .before .before .before .before .before .args .img))) (c .before .before .before .before .before .args .m) (c .before .before .before .loop .i) (omega arith) (sym (c .before .diverge-fits .ensures) ∙ c .if1 .left)) ∙ c .before .before .before .loop .inv .1
@@ -50,6 +50,6 @@ diverge-fault-spec =
     add-i
     loop-less
     loop-again
-    cast-t6
+    cast-t7
     returns
     returns-2)

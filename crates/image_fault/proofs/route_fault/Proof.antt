@@ -15,15 +15,18 @@ returns : tie.Need-returns
 unfolding routeFault
 returns c = rw (← c .before .before .before .path-count .ensures, ← c .before .before .path-fault .ensures, ne-eqb _ _ (c .if1 .taken))
 
+is-wide-requires : tie.Need-is-wide-requires
+is-wide-requires c κs = search needs
+
 diverge-count-requires : tie.Need-diverge-count-requires
 diverge-count-requires c κs = search needs
 
 diverge-fault-requires : tie.Need-diverge-fault-requires
-diverge-fault-requires c κs = search needs
+diverge-fault-requires c κs = (c .before .is-wide .ensures, search needs)
 
 returns-2 : tie.Need-returns-2
 unfolding routeFault
-returns-2 c = rw (← c .before .before .before .before .before .path-count .ensures, ← c .before .before .before .before .path-fault .ensures, eq-eqb _ _ (c .before .before .if1 .left), ← c .before .diverge-count .ensures, ← c .diverge-fault .ensures)
+returns-2 c = rw (← c .before .before .before .before .before .before .path-count .ensures, ← c .before .before .before .before .before .path-fault .ensures, eq-eqb _ _ (c .before .before .before .if1 .left), ← c .before .diverge-count .ensures, ← c .diverge-fault .ensures)
 
 pub route-fault-spec : {M : Type 1} → statement M
 route-fault-spec =
@@ -32,6 +35,7 @@ route-fault-spec =
     path-count-requires
     path-fault-requires
     returns
+    is-wide-requires
     diverge-count-requires
     diverge-fault-requires
     returns-2)

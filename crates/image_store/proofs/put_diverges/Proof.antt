@@ -8,16 +8,22 @@ use Rattle.free_path.specs.Columns.{divAt, tr}
 use Rattle.image.specs.Image.{isWide}
 use Rattle.image.specs.Codec.{putEach}
 use Rattle.image_store.specs.Stored.{divergesInto}
-use Rattle.image_store.proofs.StoreLaws.{diverges-long, diverges-next}
+use Rattle.image_store.proofs.StoreLaws.{diverges-long, diverges-more}
 use borrow.Author.Needs.{needs}
 use Rattle.image_store.proofs.put_diverges.Statement.{statement}
 use Rattle.image_store.proofs.put_diverges.Tie as tie
 
 abbrev Inv-loop : tie.InvT-loop
-Inv-loop image₀ dt dn m i₀ image i = (i ≤ m) × (image ≡ divergesInto (isWide image₀) (listed i (divAt dt dn)) image₀)
+Inv-loop image₀ dt dn m wide e i₀ image i = (i ≤ m) × (image ≡ divergesInto (isWide image₀) (listed i (divAt dt dn)) image₀)
 
 abbrev μ-loop : tie.MeasureT-loop
-μ-loop image₀ dt dn m i₀ image i = m - i
+μ-loop image₀ dt dn m wide e i₀ image i = m - i
+
+is-wide-requires : tie.Need-is-wide-requires Inv-loop μ-loop
+is-wide-requires c κs = search needs
+
+est-count-requires : tie.Need-est-count-requires Inv-loop μ-loop
+est-count-requires c κs = search needs
 
 loop-holds : tie.Need-loop-holds Inv-loop μ-loop
 unfolding listed putEach
@@ -35,8 +41,8 @@ cast-u32-of-2 c = search needs
 u32-of-requires-2 : tie.Need-u32-of-requires-2 Inv-loop μ-loop
 u32-of-requires-2 c κs = search needs
 
-put-diverge-requires : tie.Need-put-diverge-requires Inv-loop μ-loop
-put-diverge-requires c κs = search needs
+put-diverge-with-requires : tie.Need-put-diverge-with-requires Inv-loop μ-loop
+put-diverge-with-requires c κs = search needs
 
 add-i : tie.Need-add-i Inv-loop μ-loop
 add-i c = search needs
@@ -47,23 +53,25 @@ loop-less c = search needs
 loop-again : tie.Need-loop-again Inv-loop μ-loop
 loop-again c =
     let l = c .before .before .before .before .before .before .before .loop in
-    let a = c .before .before .before .before .before .before .before .before .before .before .before .args in
+    let a = c .before .before .before .before .before .before .before .before .before .before .before .before .before .before .before .args in
+    let w = c .before .before .before .before .before .before .before .before .before .before .is-wide in
+    let k = c .before .before .before .before .before .before .before .before .est-count in
     let t = c .before .before .before .before .before .u32-of in
     let n = c .before .before .before .before .u32-of2 in (
       search needs,
-      diverges-next (l .i) (divAt (now (a .dt)) (now (a .dn))) (now (a .image)) _ (l .image) (c .before .before .put-diverge .last .0) (l .inv .1) (ap₂ (λ (x y : ℕ). record { «train_idx» = tr x; «disp_node_idx» = y }) (t .ensures) (n .ensures)) (c .before .before .put-diverge .ensures),
+      diverges-more (l .i) (divAt (now (a .dt)) (now (a .dn))) (now (a .image)) _ (w .result) (k .result) (l .image) (c .before .before .put-diverge-with .last .0) (l .inv .1) (ap₂ (λ (x y : ℕ). record { «train_idx» = tr x; «disp_node_idx» = y }) (t .ensures) (n .ensures)) (w .ensures) (k .ensures) (c .before .before .put-diverge-with .ensures),
     )
 
 same-length : tie.Need-same-length Inv-loop μ-loop
 same-length c =
     let l = c .before .loop in
-    let a = c .before .before .before .before .before .args in
+    let a = c .before .before .before .before .before .before .before .before .before .args in
     ap length (l .inv .1) ∙ diverges-long (l .i) (divAt (now (a .dt)) (now (a .dn))) (now (a .image))
 
 returns : tie.Need-returns Inv-loop μ-loop
 returns c =
     let l = c .before .loop in
-    let a = c .before .before .before .before .before .args in
+    let a = c .before .before .before .before .before .before .before .before .before .args in
     let e : l .i ≡ a .m = omega arith in
     l .inv .1 ∙ ap (λ (i : ℕ). divergesInto (isWide (now (a .image))) (listed i (divAt (now (a .dt)) (now (a .dn)))) (now (a .image))) e
 
@@ -73,12 +81,14 @@ put-diverges-spec =
     (tie.spec
     Inv-loop
     μ-loop
+    is-wide-requires
+    est-count-requires
     loop-holds
     cast-u32-of
     u32-of-requires
     cast-u32-of-2
     u32-of-requires-2
-    put-diverge-requires
+    put-diverge-with-requires
     add-i
     loop-less
     loop-again

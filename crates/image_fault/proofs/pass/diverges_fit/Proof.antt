@@ -11,10 +11,10 @@ use Rattle.image_fault.proofs.pass.diverges_fit.Statement.{statement}
 use Rattle.image_fault.proofs.pass.diverges_fit.Tie as tie
 
 abbrev Inv-loop : tie.InvT-loop
-Inv-loop img m i₀ i = (i ≤ m) × (allBelow i (divergeFits img) ≡ true)
+Inv-loop img wide m i₀ i = (i ≤ m) × (allBelow i (divergeFits img) ≡ true)
 
 abbrev μ-loop : tie.MeasureT-loop
-μ-loop img m i₀ i = m - i
+μ-loop img wide m i₀ i = m - i
 
 loop-holds : tie.Need-loop-holds Inv-loop μ-loop
 unfolding allBelow

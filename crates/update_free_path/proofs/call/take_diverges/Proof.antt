@@ -12,20 +12,26 @@ use Rattle.update_free_path.proofs.call.take_diverges.Statement.{statem
 use Rattle.update_free_path.proofs.call.take_diverges.Tie as tie
 
 abbrev Inv-loop : tie.InvT-loop
-Inv-loop img m dt₀ dn₀ i₀ dt dn i = (i ≤ m) × (length dt ≡ length dt₀) × (length dn ≡ length dn₀) × (listed i (divAt dt dn) ≡ listed i (divergeAt img))
+Inv-loop img m dt₀ dn₀ wide e i₀ dt dn i = (i ≤ m) × (length dt ≡ length dt₀) × (length dn ≡ length dn₀) × (listed i (divAt dt dn) ≡ listed i (divergeAt img))
 
 abbrev μ-loop : tie.MeasureT-loop
-μ-loop img m dt₀ dn₀ i₀ dt dn i = m - i
+μ-loop img m dt₀ dn₀ wide e i₀ dt dn i = m - i
+
+is-wide-requires : tie.Need-is-wide-requires Inv-loop μ-loop
+is-wide-requires c κs = search needs
+
+est-count-requires : tie.Need-est-count-requires Inv-loop μ-loop
+est-count-requires c κs = search needs
 
 loop-holds : tie.Need-loop-holds Inv-loop μ-loop
 unfolding listed
 loop-holds c = (search needs, refl, refl, refl)
 
-cast-diverge-at : tie.Need-cast-diverge-at Inv-loop μ-loop
-cast-diverge-at c = search needs
+cast-diverge-with : tie.Need-cast-diverge-with Inv-loop μ-loop
+cast-diverge-with c = search needs
 
-diverge-at-requires : tie.Need-diverge-at-requires Inv-loop μ-loop
-diverge-at-requires c κs = search needs
+diverge-with-requires : tie.Need-diverge-with-requires Inv-loop μ-loop
+diverge-with-requires c κs = search needs
 
 mul-dt : tie.Need-mul-dt Inv-loop μ-loop
 mul-dt c = search needs
@@ -48,11 +54,11 @@ loop-less c = search needs
 loop-again : tie.Need-loop-again Inv-loop μ-loop
 loop-again c =
     let g = c .before .before .loop in
-    let a = c .before .before .before .before .before .before .args in (
+    let a = c .before .before .before .before .before .before .before .before .args in (
       search needs,
       search needs,
       search needs,
-      diverge-turn (divergeAt (now (a .img))) (g .dt) (g .dn) (g .i) (c .diverge-at .result) (omega arith) (omega arith) (c .diverge-at .ensures) (g .inv .3),
+      diverge-turn (divergeAt (now (a .img))) (g .dt) (g .dn) (g .i) (c .diverge-with .result) (omega arith) (omega arith) (rw (← c .before .before .before .before .is-wide .ensures, ← c .before .before .before .est-count .ensures) (c .diverge-with .ensures)) (g .inv .3),
     )
 
 same-length : tie.Need-same-length Inv-loop μ-loop
@@ -64,7 +70,7 @@ same-length-2 c = search needs
 returns : tie.Need-returns Inv-loop μ-loop
 returns c =
     let g = c .before .loop in
-    let a = c .before .before .before .before .before .args in
+    let a = c .before .before .before .before .before .before .before .args in
     let e : g .i ≡ a .m = omega arith in
     rw e at (g .inv .3)
 
@@ -74,9 +80,11 @@ take-diverges-spec =
     (tie.spec
     Inv-loop
     μ-loop
+    is-wide-requires
+    est-count-requires
     loop-holds
-    cast-diverge-at
-    diverge-at-requires
+    cast-diverge-with
+    diverge-with-requires
     mul-dt
     slice-write-dt
     mul-dn
