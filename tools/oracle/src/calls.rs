@@ -1,8 +1,10 @@
 //! Random calls of each operation, as cases without answers.
 
+use crate::carry_calls;
 use crate::cases::*;
 use crate::demand3;
 use crate::gen::*;
+use crate::index_calls;
 use crate::layout::*;
 use crate::leaves;
 use crate::model::{LINKS, ROW};
@@ -318,6 +320,8 @@ pub fn by_name(name: &str, rng: &mut Rng) -> Option<Case> {
         "recorded" => undo_calls::recorded(rng),
         "recorded-wide" => undo_calls::recorded_wide(rng),
         "undo" => undo_calls::undo(rng),
+        "index" => index_calls::any(rng),
+        "carry" => carry_calls::any(rng),
         "any" => any(rng),
         _ => return None,
     })

@@ -5,7 +5,7 @@ use crate::model::{self, Checked};
 use crate::wide::{Slots, WideArgs};
 
 /// Where the slots of the second buffer lie, all wide: one offset more than there are slots, the last its size.
-fn wide_offsets(yard: &[u8], parts: &[std::ops::Range<usize>]) -> Vec<u64> {
+pub fn wide_offsets(yard: &[u8], parts: &[std::ops::Range<usize>]) -> Vec<u64> {
     let mut at = 8 + 4 * parts.len() as u64;
     let mut offsets = vec![at];
     for part in parts {

@@ -2,7 +2,9 @@
 //! README.md describes the format.
 
 use crate::candidate;
+use crate::carry;
 use crate::game::{closer_can_force, Game};
+use crate::index::{self, Order};
 use crate::layout::*;
 use crate::leaves;
 use crate::model::{self, CheckArgs, Checked, Outcome, Updated};
@@ -41,6 +43,15 @@ pub const ACT: u32 = 25;
 pub const RECORDED_CHECK: u32 = 26;
 pub const WIDE_RECORDED_CHECK: u32 = 27;
 pub const UNDO: u32 = 28;
+pub const INDEX: u32 = 29;
+pub const INDEXED_CHECK: u32 = 30;
+pub const WIDE_INDEXED_CHECK: u32 = 31;
+pub const RECORDED_INDEXED_CHECK: u32 = 32;
+pub const WIDE_RECORDED_INDEXED_CHECK: u32 = 33;
+pub const INDEXED_LAY_OUT: u32 = 34;
+pub const INDEXED_UNDO: u32 = 35;
+pub const CARRY: u32 = 36;
+pub const HALF_CHECK: u32 = 37;
 
 const HEAD: usize = 104;
 /// The length of an output buffer that is as its input was.
@@ -72,6 +83,13 @@ fn before(op: u32) -> [Option<usize>; 2] {
         ACT => [Some(1), None],
         RECORDED_CHECK | WIDE_RECORDED_CHECK => [None, Some(3)],
         UNDO => [Some(0), None],
+        INDEX => [Some(1), None],
+        INDEXED_CHECK | WIDE_INDEXED_CHECK => [Some(0), Some(3)],
+        RECORDED_INDEXED_CHECK | WIDE_RECORDED_INDEXED_CHECK => [None, Some(3)],
+        INDEXED_LAY_OUT => [Some(1), Some(2)],
+        INDEXED_UNDO => [Some(0), Some(2)],
+        CARRY => [Some(2), Some(3)],
+        HALF_CHECK => [Some(0), Some(3)],
         _ => [None, None],
     }
 }
@@ -191,14 +209,71 @@ impl Case {
         check
     }
 
-    /// The yard that a recorded check left, and the record behind it.
+    /// The yard that a check left, and the record behind it; a check in a list has no yard among its inputs.
     pub fn recorded_left(&self) -> (Vec<u8>, Vec<u8>) {
-        let (yard, record) = self.outs[0].split_at(self.ins[0].len());
+        let (yard, record) = self.outs[0].split_at(self.outs[0].len() - self.args[4] as usize);
         (yard.to_vec(), record.to_vec())
     }
 
     pub fn undo(yard: &[u8], record: &[u8]) -> Case {
         Case { op: UNDO, ins: [yard.to_vec(), record.to_vec(), vec![], vec![]], ..Case::default() }
+    }
+
+    /// An index of a yard, built in a buffer.
+    pub fn index(yard: &[u8], index: &[u64]) -> Case {
+        let ins = [yard.to_vec(), u64_bytes(index), vec![], vec![]];
+        Case { op: INDEX, ins, ..Case::default() }
+    }
+
+    /// The check, over either width and with or without an undo record, beside an index, which stands behind the report.
+    pub fn indexed(mut check: Case, index: &[u64]) -> Case {
+        check.op = match check.op {
+            CHECK => INDEXED_CHECK,
+            WIDE_CHECK => WIDE_INDEXED_CHECK,
+            RECORDED_CHECK => RECORDED_INDEXED_CHECK,
+            WIDE_RECORDED_CHECK => WIDE_RECORDED_INDEXED_CHECK,
+            op => panic!("operation {op} is no check"),
+        };
+        check.args[5] = index.len() as u32;
+        check.ins[3].extend(u64_bytes(index));
+        check
+    }
+
+    /// The report and the index behind it, of a buffer of a check beside an index.
+    pub fn report_and_index(&self, b: &[u8]) -> (Vec<u8>, Vec<u64>) {
+        let (report, index) = b.split_at(b.len() - 8 * self.args[5] as usize);
+        (report.to_vec(), u64s(index))
+    }
+
+    /// The layout beside an index.
+    pub fn indexed_lay_out(mut lay_out: Case, index: &[u64]) -> Case {
+        lay_out.op = INDEXED_LAY_OUT;
+        lay_out.ins[2] = u64_bytes(index);
+        lay_out
+    }
+
+    pub fn indexed_undo(yard: &[u8], record: &[u8], index: &[u64]) -> Case {
+        let ins = [yard.to_vec(), record.to_vec(), u64_bytes(index), vec![]];
+        Case { op: INDEXED_UNDO, ins, ..Case::default() }
+    }
+
+    /// A step of a sitting of which so many slots are carried.
+    pub fn carry(yard: &[u8], occ: &[u16], count: u32, second: &[u8], wide_occ: &[u32]) -> Case {
+        let ins = [yard.to_vec(), u16_bytes(occ), second.to_vec(), u32_bytes(wide_occ)];
+        Case { op: CARRY, args: [count, 0, 0, 0, 0, 0, 0, 0], ins, ..Case::default() }
+    }
+
+    /// A check of a yard of which so many slots are carried; the second buffer stands behind the first.
+    pub fn half_check(yard: &[u8], second: &[u8], count: u32, a: &WideArgs, report: &[u8]) -> Case {
+        let mut half = Case::wide_check(&[yard, second].concat(), a, report);
+        (half.op, half.args[4], half.args[5]) = (HALF_CHECK, count, yard.len() as u32);
+        half
+    }
+
+    /// The first yard of a half check and the second, of a buffer that has both.
+    pub fn both_yards(&self, b: &[u8]) -> (Vec<u8>, Vec<u8>) {
+        let (yard, second) = b.split_at(self.args[5] as usize);
+        (yard.to_vec(), second.to_vec())
     }
 
     pub fn tagged(mut self, tag: u32) -> Case {
@@ -229,6 +304,14 @@ impl Case {
             ACT => self.answer_act(),
             RECORDED_CHECK | WIDE_RECORDED_CHECK => self.answer_recorded(),
             UNDO => self.answer_undo(),
+            INDEX => self.answer_index(),
+            INDEXED_CHECK | WIDE_INDEXED_CHECK | RECORDED_INDEXED_CHECK | WIDE_RECORDED_INDEXED_CHECK => {
+                self.answer_indexed()
+            }
+            INDEXED_LAY_OUT => self.answer_indexed_lay_out(),
+            INDEXED_UNDO => self.answer_indexed_undo(),
+            CARRY => self.answer_carry(),
+            HALF_CHECK => self.answer_half_check(),
             WIDEN => self.answer_conversion(wide::widen),
             NARROW => self.answer_conversion(wide::narrow),
             YARD_CEILING => self.put_number(model::yard_ceiling(&self.ins[0], self.args[0] as u16)),
@@ -380,6 +463,64 @@ impl Case {
         let r = undo::undo(&mut yard, &self.ins[1]);
         self.put_plain(r);
         self.outs = [yard, vec![]];
+    }
+
+    fn answer_index(&mut self) {
+        let mut index = u64s(&self.ins[1]);
+        let r = index::build(&self.ins[0], &mut index);
+        self.put_plain(r);
+        self.outs = [u64_bytes(&index), vec![]];
+    }
+
+    /// The record stands behind the yard, the index behind the report.
+    fn answer_indexed(&mut self) {
+        let (mut yard, blocking) = (self.ins[0].clone(), u32s(&self.ins[2]));
+        let (mut report, mut index) = self.report_and_index(&self.ins[3]);
+        let mut record = vec![0; self.args[4] as usize];
+        let (narrow, wide) = (u16s(&self.ins[1]), u32s(&self.ins[1]));
+        let (n, w) = (self.check_args(&narrow, &blocking), self.wide_args(&wide, &blocking));
+        let (y, r, i) = (&mut yard, &mut report, &mut index);
+        let checked = match self.op {
+            INDEXED_CHECK => index::check(y, &n, r, i),
+            WIDE_INDEXED_CHECK => index::check_wide(y, &w, r, i),
+            RECORDED_INDEXED_CHECK => index::check_recorded(y, &n, r, &mut record, i),
+            _ => index::check_recorded_wide(y, &w, r, &mut record, i),
+        };
+        self.put_checked(checked);
+        self.outs = [[yard, record].concat(), [report, u64_bytes(&index)].concat()];
+    }
+
+    fn answer_indexed_lay_out(&mut self) {
+        let [train, room, links, ..] = self.args;
+        let o = Order { train: train as u16, search: self.float(3), fixed_max: self.float(5), room, links };
+        let (mut image, mut index) = (self.ins[1].clone(), u64s(&self.ins[2]));
+        let r = index::lay_out(&self.ins[0], &o, &mut image, &mut index);
+        self.put_plain(r);
+        self.outs = [image, u64_bytes(&index)];
+    }
+
+    fn answer_indexed_undo(&mut self) {
+        let (mut yard, mut index) = (self.ins[0].clone(), u64s(&self.ins[2]));
+        let r = index::undo(&mut yard, &self.ins[1], &mut index);
+        self.put_plain(r);
+        self.outs = [yard, u64_bytes(&index)];
+    }
+
+    fn answer_carry(&mut self) {
+        let (mut second, mut wide_occ) = (self.ins[2].clone(), u32s(&self.ins[3]));
+        let occ = u16s(&self.ins[1]);
+        let r = carry::carry(&self.ins[0], &occ, self.args[0], &mut second, &mut wide_occ);
+        self.put_plain(r);
+        self.outs = [second, u32_bytes(&wide_occ)];
+    }
+
+    fn answer_half_check(&mut self) {
+        let (mut yard, mut second) = self.both_yards(&self.ins[0]);
+        let (occ, blocking, mut report) = (u32s(&self.ins[1]), u32s(&self.ins[2]), self.ins[3].clone());
+        let a = self.wide_args(&occ, &blocking);
+        let checked = carry::check_half(&mut yard, &mut second, self.args[4], &a, &mut report);
+        self.put_checked(checked);
+        self.outs = [[yard, second].concat(), report];
     }
 
     fn answer_conversion(&mut self, convert: fn(&[u8], &mut [u8]) -> Result<(), Refusal>) {

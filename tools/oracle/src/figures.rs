@@ -58,6 +58,15 @@ fn done(op: &str, number: u32) -> String {
     }
 }
 
+/// The name of a check's answer.
+fn checked(op: &str, answer: [u32; 8]) -> String {
+    match answer[0] {
+        0 => format!("{op} not erred"),
+        1 => format!("{op} erred"),
+        _ => refused(op, answer[1]),
+    }
+}
+
 fn slot_code(code: u16) -> String {
     format!("slot   code {code:2}")
 }
@@ -73,7 +82,7 @@ fn sheet_name(text: &[u8]) -> String {
 }
 
 /// What an answered case counts as.
-fn names(c: &Case) -> Vec<String> {
+pub fn names(c: &Case) -> Vec<String> {
     let a = c.answer;
     match c.op {
         MARK => vec![done("mark", a[0])],
@@ -88,19 +97,24 @@ fn names(c: &Case) -> Vec<String> {
         WIDE_MARK => vec![done("wide mark", a[0])],
         GAME if a[0] == 0 => vec![["game   no", "game   yes"][a[2] as usize].into()],
         GAME => vec![refused("game", a[0])],
-        RECORDED_CHECK | WIDE_RECORDED_CHECK if a[0] == 2 => vec![refused("recorded check", a[1])],
-        RECORDED_CHECK | WIDE_RECORDED_CHECK => {
-            vec![["recorded check not erred", "recorded check erred"][a[0] as usize].into()]
-        }
+        RECORDED_CHECK | WIDE_RECORDED_CHECK => vec![checked("recorded check", a)],
         UNDO => vec![done("undo", a[0])],
+        INDEX => vec![done("index", a[0])],
+        INDEXED_CHECK => vec![checked("check beside an index", a)],
+        WIDE_INDEXED_CHECK => vec![checked("wide check beside an index", a)],
+        RECORDED_INDEXED_CHECK => vec![checked("recorded check beside an index", a)],
+        WIDE_RECORDED_INDEXED_CHECK => vec![checked("recorded wide check beside an index", a)],
+        INDEXED_LAY_OUT => vec![done("layout beside an index", a[0])],
+        INDEXED_UNDO => vec![done("undo beside an index", a[0])],
+        CARRY => vec![done("step of carrying", a[0])],
+        HALF_CHECK => vec![checked("half check", a)],
         WIDEN => vec![done("widen", a[0])],
         NARROW => vec![done("narrow", a[0])],
         WIDE_UPDATE if a[0] < 3 => {
             vec![format!("wide update {}", ["success", "blocked", "faulty"][a[0] as usize])]
         }
         WIDE_UPDATE => vec![refused("wide update", a[1])],
-        WIDE_CHECK if a[0] == 2 => vec![refused("wide check", a[1])],
-        WIDE_CHECK => vec![["wide check not erred", "wide check erred"][a[0] as usize].into()],
+        WIDE_CHECK => vec![checked("wide check", a)],
         UPDATE if a[0] < 3 => vec![format!("update {}", ["success", "blocked", "faulty"][a[0] as usize])],
         UPDATE if a[1] == 11 => {
             vec![refused("update", 11), format!("{} by {}", refused("update", 11), hook::state().cause)]

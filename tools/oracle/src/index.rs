@@ -12,17 +12,30 @@ fn arrived(image: &[u8], l: usize) -> Vec<usize> {
 }
 
 /// The bits of one slot as in an index built afresh; those of others stay.
-fn put_slot(index: &mut [u64], slot: usize, image: Option<&[u8]>) {
+fn put_slot(index: &mut [u64], slot: usize, image: &[u8]) {
     let bit = 1u64 << slot;
     index.iter_mut().for_each(|x| *x &= !bit);
-    for link in image.map_or(vec![], |b| arrived(b, index.len())) {
+    for link in arrived(image, index.len()) {
         index[link] |= bit;
     }
 }
 
-/// The image of a slot, if the yard has one.
-fn image_of_slot(yard: &[u8], slot: usize) -> Option<&[u8]> {
-    read_yard(yard)?.get(slot - 1).map(|part| &yard[part.clone()])
+/// A u32 of a yard's header; bytes beyond the end are 0.
+fn header_u32(yard: &[u8], at: usize) -> usize {
+    (0..4).map(|i| (*yard.get(at + i).unwrap_or(&0) as usize) << (8 * i)).sum()
+}
+
+/// The image of a slot, no bytes where the yard has none: the part that the offsets say, cut off at the yard's end. An undo asks it of a yard that no build
+/// has judged.
+fn image_of_slot(yard: &[u8], slot: usize) -> &[u8] {
+    let slots = header_u32(yard, 4);
+    if slots < slot {
+        return &[];
+    }
+    let begin = header_u32(yard, 4 + 4 * slot);
+    let end = if slot < slots { header_u32(yard, 8 + 4 * slot) } else { yard.len() };
+    let begin = begin.min(yard.len());
+    &yard[begin..end.min(yard.len()).max(begin)]
 }
 
 /// The bits of the slots whose image changed.
@@ -68,11 +81,6 @@ pub fn check_wide(yard: &mut [u8], a: &WideArgs, report: &mut [u8], index: &mut 
 }
 
 /// 20 stays first; the index is asked before the check's other refusals.
-fn recorded(record: &[u8], yard: &[u8]) -> bool {
-    let needs = undo::RECORD_HEADER as u64 + 2 * yard.len() as u64;
-    needs <= u32::MAX as u64 && record.len() as u64 >= needs
-}
-
 pub fn check_recorded(
     yard: &mut [u8],
     a: &CheckArgs,
@@ -80,7 +88,7 @@ pub fn check_recorded(
     record: &mut [u8],
     index: &mut [u64],
 ) -> Checked {
-    if !recorded(record, yard) {
+    if !undo::has_room(record, yard) {
         return Checked::Refused(refusal(20));
     }
     beside(yard, index, a.occ.len(), |yard| undo::check_recorded(yard, a, report, record))
@@ -93,7 +101,7 @@ pub fn check_recorded_wide(
     record: &mut [u8],
     index: &mut [u64],
 ) -> Checked {
-    if !recorded(record, yard) {
+    if !undo::has_room(record, yard) {
         return Checked::Refused(refusal(20));
     }
     beside(yard, index, a.occ.len(), |yard| undo::check_recorded_wide(yard, a, report, record))
@@ -124,7 +132,7 @@ pub fn lay_out(est: &[u8], o: &Order, image: &mut [u8], index: &mut [u64]) -> Re
     }
     done?;
     if laid != image {
-        put_slot(index, o.train as usize, Some(&laid));
+        put_slot(index, o.train as usize, &laid);
         image.copy_from_slice(&laid);
     }
     Ok(())

@@ -623,9 +623,15 @@ pub fn u16s(b: &[u8]) -> Vec<u16> {
 pub fn u32s(b: &[u8]) -> Vec<u32> {
     b.chunks_exact(4).map(|r| u32_at(r, 0)).collect()
 }
+pub fn u64s(b: &[u8]) -> Vec<u64> {
+    b.chunks_exact(8).map(|r| u64::from_le_bytes(r.try_into().unwrap())).collect()
+}
 pub fn u16_bytes(xs: &[u16]) -> Vec<u8> {
     xs.iter().flat_map(|x| x.to_le_bytes()).collect()
 }
 pub fn u32_bytes(xs: &[u32]) -> Vec<u8> {
+    xs.iter().flat_map(|x| x.to_le_bytes()).collect()
+}
+pub fn u64_bytes(xs: &[u64]) -> Vec<u8> {
     xs.iter().flat_map(|x| x.to_le_bytes()).collect()
 }

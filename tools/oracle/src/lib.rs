@@ -6,6 +6,7 @@
 pub mod calls;
 pub mod candidate;
 pub mod carry;
+pub mod carry_calls;
 pub mod cases;
 pub mod demand3;
 pub mod figures;
@@ -13,6 +14,7 @@ pub mod game;
 pub mod gen;
 pub mod hook;
 pub mod index;
+pub mod index_calls;
 pub mod layout;
 pub mod leaves;
 pub mod model;

@@ -16,7 +16,8 @@ const USAGE: &str = "usage:
   oracle summary < CASES                  counts of answers, sites and branches
   oracle generate KIND SEED COUNT > CASES KIND: mark, layout, update, large, check, tidy, sheet, list, leaf, page, profile,
                                           ceiling, yard-ceiling, mark-wide, update-wide, check-wide,
-                                          widen, narrow, game, replay, view, act, recorded, recorded-wide, undo, any
+                                          widen, narrow, game, replay, view, act, recorded, recorded-wide, undo,
+                                          index, carry, any
   oracle replay  < SITTING                what the program replay prints of a sitting
   oracle record SEED > CASES              the recorded list
   oracle fuzz SEED UPDATES                plain text against hooked text, and counts

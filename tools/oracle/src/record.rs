@@ -5,6 +5,7 @@ use crate::calls::*;
 use crate::cases::*;
 use crate::gen::*;
 use crate::hook;
+use crate::index_calls;
 use crate::layout::*;
 use crate::leaves;
 use crate::model;
@@ -28,6 +29,7 @@ pub const SAMPLED: u32 = 80;
 pub const LEAF: u32 = 90;
 pub const LISTED: u32 = 100;
 pub const TAKEN_BACK: u32 = 110;
+pub const INDEXED: u32 = 120;
 
 /// Keeps the smallest cases for each key.
 struct Chooser {
@@ -718,6 +720,26 @@ fn taken_back(rng: &mut Rng) -> Vec<Case> {
     list
 }
 
+/// Lengths of an index at their boundaries; the smallest indexes of random yards for each answer and number of slots; some as they come.
+fn indexes(rng: &mut Rng) -> Vec<Case> {
+    let mut cases: Vec<Case> =
+        [0, 1, 2, 3, 4_000, 4_001].iter().map(|&l| Case::index(&tiny_yard(2), &vec![u64::MAX; l])).collect();
+    cases.extend([63, 64].map(|slots| Case::index(&tiny_yard(slots), &[7; 3])));
+    let mut chooser = Chooser::new(1);
+    let mut some = vec![];
+    for i in 0..2_000 {
+        let c = index_calls::build(rng);
+        let slots = read_yard(&c.ins[0]).map_or(0, |parts| parts.len());
+        chooser.offer(format!("{:?}", (c.answer[0], slots.min(8))), &c);
+        if i % 100 == 0 {
+            some.push(c);
+        }
+    }
+    cases.extend(chooser.cases(INDEXED));
+    cases.extend(some);
+    cases
+}
+
 pub fn recorded(seed: u64) -> Vec<Case> {
     let mut rng = Rng::new(seed);
     let rng = &mut rng;
@@ -745,6 +767,7 @@ pub fn recorded(seed: u64) -> Vec<Case> {
     list.extend(tag(leaf_cases(rng), LEAF));
     list.extend(tag(lists(rng), LISTED));
     list.extend(tag(taken_back(rng), TAKEN_BACK));
+    list.extend(tag(indexes(rng), INDEXED));
     let mut seen = BTreeSet::new();
     list.retain(|c| seen.insert((c.op, c.args, c.ins.clone())));
     list.into_iter().map(Case::answered).collect()

@@ -1,7 +1,7 @@
 //! The answers of cases in words, with a checksum of each buffer that a call left: what the program `answers` prints behind `--sums`.
 
 use crate::cases::*;
-use crate::layout::read_image;
+use crate::layout::{read_image, u64_bytes};
 
 /// From 1 on, each byte is added to the sum by 16,777,619, modulo the prime 4,294,967,291.
 pub fn sum_of(bytes: &[u8]) -> u64 {
@@ -55,12 +55,37 @@ fn check(c: &Case) -> String {
         1 => format!("erred {erred}"),
         _ => refused(number, place),
     };
-    if c.op == RECORDED_CHECK || c.op == WIDE_RECORDED_CHECK {
-        let (yard, record) = c.recorded_left();
-        let (yard, record) = (sum_of(&yard), sum_of(&record));
-        return format!("{answer} yard {yard} report {} record {record}", sum_of(&c.outs[1]));
+    if c.op == HALF_CHECK {
+        let (yard, second) = c.both_yards(&c.outs[0]);
+        return format!(
+            "{answer} yard {} second {} report {}",
+            sum_of(&yard),
+            sum_of(&second),
+            sum_of(&c.outs[1])
+        );
     }
-    format!("{answer} yard {} report {}", sum_of(&c.outs[0]), sum_of(&c.outs[1]))
+    let (yard, record) = c.recorded_left();
+    let (report, index) = c.report_and_index(&c.outs[1]);
+    let mut words = format!("{answer} yard {} report {}", sum_of(&yard), sum_of(&report));
+    if RECORDED.contains(&c.op) {
+        words += &format!(" record {}", sum_of(&record));
+    }
+    if INDEXED.contains(&c.op) {
+        words += &format!(" index {}", sum_of(&u64_bytes(&index)));
+    }
+    words
+}
+
+/// The checks that have an undo record, and those beside an index.
+const RECORDED: [u32; 4] =
+    [RECORDED_CHECK, WIDE_RECORDED_CHECK, RECORDED_INDEXED_CHECK, WIDE_RECORDED_INDEXED_CHECK];
+const INDEXED: [u32; 4] =
+    [INDEXED_CHECK, WIDE_INDEXED_CHECK, RECORDED_INDEXED_CHECK, WIDE_RECORDED_INDEXED_CHECK];
+
+/// The refusal, and both buffers under their names.
+fn two(c: &Case, names: [&str; 2]) -> String {
+    let [first, second] = [0, 1].map(|i| sum_of(&c.outs[i]));
+    format!("{} {} {first} {} {second}", fault(c.answer[0], c.answer[1]), names[0], names[1])
 }
 
 /// The list of refusals stands behind the occupancy.
@@ -95,7 +120,12 @@ pub fn words(c: &Case) -> String {
         MARK | WIDE_MARK | ACT => format!("{} occupancy {}", fault(number, place), sum_of(&c.outs[0])),
         LAY_OUT => format!("{} image {}", fault(number, place), sum_of(&c.outs[0])),
         UPDATE | WIDE_UPDATE => update(c),
-        CHECK | WIDE_CHECK | RECORDED_CHECK | WIDE_RECORDED_CHECK => check(c),
+        CHECK | WIDE_CHECK | RECORDED_CHECK | WIDE_RECORDED_CHECK | HALF_CHECK => check(c),
+        op if INDEXED.contains(&op) => check(c),
+        INDEX => format!("{} index {}", fault(number, place), sum_of(&c.outs[0])),
+        INDEXED_LAY_OUT => two(c, ["image", "index"]),
+        INDEXED_UNDO => two(c, ["yard", "index"]),
+        CARRY => two(c, ["second", "occupancy"]),
         UNDO => format!("{} yard {}", fault(number, place), sum_of(&c.outs[0])),
         WIDEN | NARROW => format!("{} image {}", fault(number, place), sum_of(&c.outs[0])),
         SHEET => format!("sheet {}", sum_of(&c.outs[0])),

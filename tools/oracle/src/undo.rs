@@ -17,10 +17,15 @@ pub fn record_of(old: &[u8], written: &[u8]) -> Vec<u8> {
     record
 }
 
+/// Has the buffer room for the record of a check of this yard? Else it is 20.
+pub fn has_room(record: &[u8], yard: &[u8]) -> bool {
+    let needs = RECORD_HEADER as u64 + 2 * yard.len() as u64;
+    record.len() as u64 >= needs && needs <= u32::MAX as u64
+}
+
 /// A check between the copies of the yard before it and after it: 20, then the check's own refusals.
 fn recorded(yard: &mut [u8], record: &mut [u8], check: impl FnOnce(&mut [u8]) -> Checked) -> Checked {
-    let needs = RECORD_HEADER as u64 + 2 * yard.len() as u64;
-    if (record.len() as u64) < needs || needs > u32::MAX as u64 {
+    if !has_room(record, yard) {
         return Checked::Refused(refusal(20));
     }
     let old = yard.to_vec();

@@ -62,7 +62,7 @@ impl Turn {
 }
 
 /// A train about the bounds of a width.
-fn beside_top(rng: &mut Rng) -> u32 {
+pub fn beside_top(rng: &mut Rng) -> u32 {
     rng.pick(&[0, 1, 65_535, 65_536, 999_998, 999_999, 1_000_000, u32::MAX])
 }
 

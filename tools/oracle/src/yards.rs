@@ -367,6 +367,20 @@ pub fn odd_yard(rng: &mut Rng, slots: usize, most: usize, l: usize) -> Yard {
     Yard { table: table_of(&odd_table(rng, l)), occ: odd_occupancy(rng, l), yard: yard_of(&images) }
 }
 
+/// A yard of 20 to 63 small odd trains, none of which is refused.
+pub fn many_trains(rng: &mut Rng) -> Yard {
+    let (slots, l) = (rng.pick(&[20, 62, 63]), rng.pick(&[8, 24]));
+    let image = |t: usize| loop {
+        let e = rng.from(1, 6);
+        let b = image_of(&Train { train: t as u16, ..odd_train(rng, e, l) });
+        if read_image(&b, l).is_ok() {
+            return b;
+        }
+    };
+    let images: Vec<Vec<u8>> = (1..=slots).map(image).collect();
+    Yard { table: table_of(&odd_table(rng, l)), occ: odd_occupancy(rng, l), yard: yard_of(&images) }
+}
+
 pub fn odd_check(rng: &mut Rng) -> CheckCase {
     let slots = rng.from(1, 5);
     let l = rng.pick(&[4, 8, 24, 60]);
@@ -408,15 +422,23 @@ pub fn damaged_check(rng: &mut Rng) -> (CheckCase, usize) {
         4 => c.limit = 0,
         5 => c.begin = rng.pick(&[0, slots as u32, slots as u32 + 1, slots as u32 + 2]),
         6 => report = rng.pick(&[0, 16 * slots, report - 1, report + 1]),
-        7 => put_u32(&mut c.yard, 4 * rng.below(2 + slots), rng.pick(&[0, 1, 63, 64, u32::MAX])),
-        8 => {
-            let part = read_yard(&c.yard).unwrap()[rng.below(slots)].clone();
-            put_u16(&mut c.yard, part.start + 32, rng.pick(&[0, slots as u16 + 1]));
-        }
-        _ => {
-            let to = rng.pick(&[0, 7, 8, 11, 40, c.yard.len() - 1]).min(c.yard.len());
-            c.yard.truncate(to);
-        }
+        way => damaged_yard(rng, &mut c.yard, way - 7),
     }
     (c, report)
+}
+
+/// A yard that 14 refuses in most cases: another number in its header, another train in a slot, or cut short.
+pub fn damaged_yard(rng: &mut Rng, yard: &mut Vec<u8>, way: usize) {
+    let slots = u32_at(yard, 4) as usize;
+    match way {
+        0 => put_u32(yard, 4 * rng.below(2 + slots), rng.pick(&[0, 1, 63, 64, u32::MAX])),
+        1 => {
+            let part = read_yard(yard).unwrap()[rng.below(slots)].clone();
+            put_u16(yard, part.start + 32, rng.pick(&[0, slots as u16 + 1]));
+        }
+        _ => {
+            let to = rng.pick(&[0, 7, 8, 11, 40, yard.len() - 1]).min(yard.len());
+            yard.truncate(to);
+        }
+    }
 }

@@ -7,7 +7,7 @@ use crate::demand3::{self, Call, ALL};
 use crate::layout::*;
 use crate::model::{self, CheckArgs, Checked};
 use crate::rng::Rng;
-use crate::wide::{self, WideArgs, WIDE_ROW};
+use crate::wide::{self, WideArgs, NARROW_TRAIN, WIDE_ROW};
 use crate::yards::Yard;
 
 #[derive(Default)]
@@ -31,9 +31,10 @@ struct Sitting {
     count: u32,
 }
 
-fn narrowed(image: &[u8]) -> Vec<u8> {
-    let t = laid_out(image).expect("a carried image");
-    image_of(&Train { wide: false, ..t })
+/// The image in the narrow width; none where it is not laid out as one, or has a train that does not fit.
+pub fn narrowed(image: &[u8]) -> Option<Vec<u8>> {
+    let t = laid_out(image).ok().filter(|t| t.div.iter().all(|d| d.train <= NARROW_TRAIN))?;
+    Some(image_of(&Train { wide: false, ..t }))
 }
 
 /// The size of the second buffer, from the images.
@@ -95,7 +96,7 @@ impl Sittings {
         let parts = read_yard(&s.narrow.yard).expect("a yard");
         let same = parts.iter().enumerate().all(|(i, p)| {
             if i < s.count as usize {
-                narrowed(&s.second[read_part(&s.second, i)]) == s.narrow.yard[p.clone()]
+                narrowed(&s.second[read_part(&s.second, i)]).as_deref() == Some(&s.narrow.yard[p.clone()])
             } else {
                 s.yard[p.clone()] == s.narrow.yard[p.clone()]
             }

@@ -26,18 +26,21 @@ struct Indexes {
     failed: Failed,
 }
 
-/// Bit t of link x by the bytes: the image of slot t is accepted and a path record of type Arrive has this link.
-fn fresh(yard: &[u8], l: usize) -> Vec<u64> {
+/// The links at which the path of an image arrives, by the bytes of its path records; none where it is refused.
+pub fn links(b: &[u8], l: usize) -> Vec<usize> {
+    if read_any(b, l).is_err() {
+        return vec![];
+    }
+    let (e, n) = (u32_at(b, 4) as usize, u32_at(b, 8) as usize);
+    let path = b[path_offset(e)..].chunks(RECORD).take(n);
+    path.filter(|r| r[26] == ARRIVE).map(|r| u32_at(r, 16) as usize).collect()
+}
+
+/// Bit t of link x: the image of slot t is accepted and its path arrives at the link.
+pub fn fresh(yard: &[u8], l: usize) -> Vec<u64> {
     let mut bits = vec![0; l];
     for (i, part) in read_yard(yard).expect("a yard").into_iter().enumerate() {
-        let b = &yard[part];
-        if read_any(b, l).is_err() {
-            continue;
-        }
-        let (e, n) = (u32_at(b, 4) as usize, u32_at(b, 8) as usize);
-        for r in b[path_offset(e)..].chunks(RECORD).take(n).filter(|r| r[26] == ARRIVE) {
-            bits[u32_at(r, 16) as usize] |= 2u64 << i;
-        }
+        links(&yard[part], l).into_iter().for_each(|x| bits[x] |= 2u64 << i);
     }
     bits
 }
@@ -153,11 +156,8 @@ impl Indexes {
         }
         self.laid += 1;
         let bit = 1u64 << train;
-        let path = read_image(&image, l).expect("a laid out image").path;
-        let right = (0..l).all(|x| {
-            let on = path.iter().any(|n| n.kind == ARRIVE && n.link as usize == x);
-            index[x] == was[x] & !bit | if on { bit } else { 0 }
-        });
+        let path = links(&image, l);
+        let right = (0..l).all(|x| index[x] == was[x] & !bit | if path.contains(&x) { bit } else { 0 });
         self.failed.unless("the bits of the laid out train", right && image == plain, String::new);
     }
 }

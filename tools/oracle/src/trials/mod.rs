@@ -4,7 +4,7 @@ pub mod candidate;
 pub mod carry;
 mod game;
 mod holder;
-mod index;
+pub mod index;
 mod met;
 pub mod replay;
 mod steps;

@@ -10,7 +10,7 @@ use crate::model::{self, Checked, Updated, Visit};
 use crate::rng::Rng;
 use crate::wide::{self, WideArgs, NARROW_TRAIN};
 use crate::wide_calls::*;
-use crate::yards::CheckCase;
+use crate::yards::{CheckCase, Yard};
 
 #[derive(Default)]
 struct Wide {
@@ -136,13 +136,24 @@ pub enum Answer {
     Checked(Checked, Vec<Visit>),
 }
 
-pub fn wide_start(rng: &mut Rng) -> WideYard {
+fn start(rng: &mut Rng) -> Yard {
     let mut y = demand3::start(rng);
     if rng.chance(98) {
         y.occ[0] = 0;
     }
+    y
+}
+
+pub fn wide_start(rng: &mut Rng) -> WideYard {
+    let y = start(rng);
     let (yard, occ) = widened_yard(rng, &y.yard, &y.occ);
     WideYard { table: y.table, occ, yard }
+}
+
+/// A yard of narrow images.
+pub fn narrow_start(rng: &mut Rng) -> WideYard {
+    let y = start(rng);
+    WideYard { table: y.table, occ: y.occ.iter().map(|&train| train as u32).collect(), yard: y.yard }
 }
 
 /// A call of the narrow lists, its trains above the slots up to six digits or somewhat above.
