@@ -6,7 +6,7 @@
  * refused check leaves `answer` as it was.
  *
  * No call keeps anything, allocates, prints or locks: any thread may call at any time. Bytes may lie at any address, numbers at
- * one that fits their type. A sheet takes 320 KB of stack at most, a game 192 KB, a replay 160 KB, any other call 128 KB; README.md
+ * one that fits their type. A sheet takes 320 KB of stack at most, a game 192 KB, a check beside an index 176 KB, a replay 160 KB, any other call 128 KB; README.md
  * beside this file has each. Text has no byte 0 at its end.
  *
  * A refusal is a number with its place in the upper 16 bits; 0 is none. The bytes of every buffer are in docs/LAYOUTS.md, the
@@ -207,6 +207,34 @@ uint32_t lavtoeu_widen(const uint8_t *image, size_t image_len, uint8_t *out, siz
 
 /* Writes a wide image narrow. Refused as lavtoeu_widen is, the widths changed over, then by 23: a train above 65,535. */
 uint32_t lavtoeu_narrow(const uint8_t *image, size_t image_len, uint8_t *out, size_t out_len);
+
+/* Which trains run over a link: an index beside the yard, with an entry for each link. Bit t of an entry, 2 to the power of t, is set exactly
+ * if the path of slot t has an Arrive on that link; a slot with a refused image sets none, and bit 0 is never set. After a call beside an
+ * index the bits of the slots whose image has other bytes than before are as lavtoeu_index would write them, over index_len links and
+ * images of either width; all others stay, wrong ones too, so a right index stays right. A refused call leaves the index. Stack: up to 176 KB. */
+
+/* Writes the index of a yard, every entry of it. Refused by 25, fewer than 2 entries or more than 4,000, then by 14. */
+uint32_t lavtoeu_index(const uint8_t *yard, size_t yard_len, uint64_t *index, size_t index_len);
+
+/* lavtoeu_check beside an index. Refused by 2, 25 where index_len is not occupancy_len, 4, 5, 14, 15, 16. */
+uint32_t lavtoeu_check_indexed(uint8_t *yard, size_t yard_len, const uint16_t *occupancy, size_t occupancy_len, const uint32_t *blocking, size_t blocking_len, uint16_t moved, uint16_t begin, uint32_t local, uint16_t limit, uint8_t *report, size_t report_len, uint64_t *index, size_t index_len, uint64_t *answer, size_t answer_len);
+
+/* lavtoeu_check_wide beside an index. Refused by 2, 25, 4, 5, 14, 22, 15, 16. */
+uint32_t lavtoeu_check_indexed_wide(uint8_t *yard, size_t yard_len, const uint32_t *occupancy, size_t occupancy_len, const uint32_t *blocking, size_t blocking_len, uint32_t moved, uint16_t begin, uint32_t local, uint16_t limit, uint8_t *report, size_t report_len, uint64_t *index, size_t index_len, uint64_t *answer, size_t answer_len);
+
+/* lavtoeu_check_recorded beside an index. Refused by 20, then as lavtoeu_check_indexed is. */
+uint32_t lavtoeu_check_recorded_indexed(uint8_t *yard, size_t yard_len, const uint16_t *occupancy, size_t occupancy_len, const uint32_t *blocking, size_t blocking_len, uint16_t moved, uint16_t begin, uint32_t local, uint16_t limit, uint8_t *report, size_t report_len, uint8_t *record, size_t record_len, uint64_t *index, size_t index_len, uint64_t *answer, size_t answer_len);
+
+/* lavtoeu_check_recorded_wide beside an index. Refused by 20, then as lavtoeu_check_indexed_wide is. */
+uint32_t lavtoeu_check_recorded_indexed_wide(uint8_t *yard, size_t yard_len, const uint32_t *occupancy, size_t occupancy_len, const uint32_t *blocking, size_t blocking_len, uint32_t moved, uint16_t begin, uint32_t local, uint16_t limit, uint8_t *report, size_t report_len, uint8_t *record, size_t record_len, uint64_t *index, size_t index_len, uint64_t *answer, size_t answer_len);
+
+/* lavtoeu_lay_out beside an index: the image is that of slot `train`, and its bits are written where the bytes of the image change. Refused
+ * by 5, a train of 0 or above 63, 6, 25 where index_len is not `links`, 7, 8, 9, 11. */
+uint32_t lavtoeu_lay_out_indexed(const uint8_t *est, size_t est_len, uint16_t train, double search, double fixed, uint32_t room, uint32_t links, uint8_t *image, size_t image_len, uint64_t *index, size_t index_len);
+
+/* lavtoeu_undo beside an index. A slot that only one of the two yards has has changed; it has no bits where it is gone. Refused by 25, fewer
+ * than 2 entries or more than 4,000, then by 21. */
+uint32_t lavtoeu_undo_indexed(uint8_t *yard, size_t yard_len, const uint8_t *record, size_t record_len, uint64_t *index, size_t index_len);
 
 #ifdef __cplusplus
 }

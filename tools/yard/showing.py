@@ -30,6 +30,10 @@ REFUSALS = {
     21: "the undo record is malformed, or the yard is not the one that it says was written",
     22: "a train is above 999,999, or above 65,535 beside a narrow image",
     23: "a train of the image is above 65,535 and does not go narrow",
+    24: "the count of carried slots is not below the slots, or the second yard is not the one that so many steps leave",
+    25: "the index has not one entry for each link, or fewer than 2 or more than 4,000",
+    26: "the candidate's slot has no image that is accepted",
+    27: "the node is beyond the candidate's path, or the path does not arrive at the link",
     28: "a game has a link twice, link 0 or one that there is not, more than 8 links or more than 6 turns",
     29: "a value outside the training track profile",
 }

@@ -20,6 +20,7 @@
 mod game;
 mod candidate;
 mod image;
+mod index;
 pub mod layout;
 mod parts;
 pub mod raw;
@@ -32,6 +33,10 @@ mod wide;
 pub use game::{closer_can_force, Game};
 pub use candidate::{Candidate, View};
 pub use image::{Diverge, Image, Node};
+pub use index::{
+    build_index, check_indexed, check_indexed_into, check_recorded_indexed, check_recorded_indexed_into, check_recorded_wide_indexed,
+    check_recorded_wide_indexed_into, check_wide_indexed, check_wide_indexed_into, lay_out_indexed, slots_on, undo_indexed,
+};
 pub use parts::{bundle, parts};
 pub use recording::{replay, Check, Recording};
 pub use table::{links, table, Link};
@@ -90,6 +95,8 @@ impl Refusal {
             26 => "no accepted image in the candidate's slot",
             27 => "not of the candidate's path",
             23 => "a train that has no room in a narrow image",
+            24 => "a count that the sitting belies",
+            25 => "index of a wrong length",
             29 => "outside the training track profile",
             _ => "no number of a refusal",
         }

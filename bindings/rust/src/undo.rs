@@ -12,7 +12,7 @@ pub fn undo_record_size(yard_len: usize) -> usize {
 ///
 /// It serves as often as the yard is what the check wrote, so that the last check is taken back first.
 #[derive(Clone, Debug, PartialEq, Eq)]
-pub struct UndoRecord(Vec<u8>);
+pub struct UndoRecord(pub(crate) Vec<u8>);
 
 impl UndoRecord {
     /// The record in bytes that were kept. Whether they undo a check is asked by [`UndoRecord::undo`].
@@ -28,6 +28,11 @@ impl UndoRecord {
     /// Takes its check back: [`undo`] of its bytes.
     pub fn undo(&self, yard: &mut [u8]) -> Result<(), Refusal> {
         undo(yard, &self.0)
+    }
+
+    /// Takes its check back beside an index: [`undo_indexed`](crate::undo_indexed) of its bytes.
+    pub fn undo_indexed(&self, yard: &mut [u8], index: &mut [u64]) -> Result<(), Refusal> {
+        crate::undo_indexed(yard, &self.0, index)
     }
 }
 

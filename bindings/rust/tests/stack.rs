@@ -222,3 +222,51 @@ fn each_call_with_an_undo_record_keeps_to_its_stack() {
         assert!(small[i].max(large[i]) <= bound, "{call} takes more stack than bindings/README.md says");
     }
 }
+
+/// The calls beside an index, over images that `image` makes.
+fn index_stacks(image: fn(u16) -> Vec<u8>, m: Move) -> [usize; 7] {
+    let old = yard(&[&image(1), &laid_out(2, 4)]);
+    let mut record = vec![0; undo_record_size(old.len())];
+    let (mut report, mut answer, mut index) = ([0; 2 * REPORT_RECORD], [0; CHECK_WORDS], vec![0; m.occupancy.len()]);
+    let (r, a) = (&mut report, &mut answer);
+    let (built, builds) = stack_of(|| build_index(&old, &mut index));
+    let occupancy: Vec<u32> = m.occupancy.iter().map(|&train| train as u32).collect();
+    let told = WideMove { occupancy: &occupancy, blocking: m.blocking, moved: 2, local: m.local, limit: m.limit };
+    let mut yards = vec![old.clone(); 4];
+    let [one, two, three, four] = &mut yards[..] else { panic!("four yards") };
+    let (first, narrows) = stack_of(|| check_indexed_into(one, m, 1, r, &mut index, a));
+    let (second, wides) = stack_of(|| check_wide_indexed_into(two, told, 1, r, &mut index, a));
+    let (third, recordeds) = stack_of(|| check_recorded_indexed_into(three, m, 1, r, &mut record, &mut index, a));
+    let (fourth, wide_recordeds) = stack_of(|| check_recorded_wide_indexed_into(four, told, 1, r, &mut record, &mut index, a));
+    assert_eq!([built, first, second, third, fourth], [Ok(()); 5]);
+    assert!(yards.iter().all(|yard| *yard != old && *yard == yards[0]));
+    let (undone, undos) = stack_of(|| undo_indexed(&mut yards[3], &record, &mut index));
+    assert_eq!((undone, &yards[3]), (Ok(()), &old));
+    let header = Image::from_bytes(&image(1)).unwrap();
+    let (est, mut spare) = (est_bytes(&header.ests), vec![0; image(1).len()]);
+    let o = Order { room: header.room, links: m.occupancy.len() as u32, ..order(1, 4) };
+    let (laid, lays) = stack_of(|| lay_out_indexed(&est, o, &mut spare, &mut index));
+    assert_eq!((laid, spare), (Ok(()), image(1)));
+    [builds, narrows, wides, recordeds, wide_recordeds, undos, lays]
+}
+
+#[test]
+fn each_call_beside_an_index_keeps_to_its_stack() {
+    let occupancy = occupancy();
+    let most = Move { occupancy: &occupancy, ..MOVE };
+    let small = index_stacks(|t| laid_out(t, 4), MOVE);
+    let large = index_stacks(large, most);
+    let bounds = [
+        ("build_index", 20 << 10),
+        ("check_indexed", 176 << 10),
+        ("check_wide_indexed", 176 << 10),
+        ("check_recorded_indexed", 128 << 10),
+        ("check_recorded_wide_indexed", 128 << 10),
+        ("undo_indexed", 20 << 10),
+        ("lay_out_indexed", 112 << 10),
+    ];
+    for (i, (call, bound)) in bounds.into_iter().enumerate() {
+        println!("{call}: {} bytes of stack for a small train, {} for the largest, bound {bound}", small[i], large[i]);
+        assert!(small[i].max(large[i]) <= bound, "{call} takes more stack than bindings/README.md says");
+    }
+}

@@ -46,6 +46,8 @@ pub(crate) const WIDE_RECORDED_CHECK: u32 = 27;
 
 pub(crate) const UNDO: u32 = 28;
 
+pub(crate) const INDEX: u32 = 29;
+
 // ---- the head: size, operation, tag, line, 8 arguments, 4 lengths of inputs, 8 numbers of the answer, 2 lengths of outputs
 
 pub(crate) fn operation(head: &[u8]) -> u32 {
@@ -79,7 +81,7 @@ pub(crate) fn is_whole(head: &[u8]) -> bool {
 
 // ---- the buffers
 
-// Room for an image, a yard or a report, for an occupancy and for a blocking list.
+// Room for an image, a yard or a report, for an occupancy, for a blocking list and for an index.
 pub(crate) fn no_bytes() -> [u8; 65536]
     ensures { λ r. ⌜ 65536 ≡ length r ⌝ }
 {
@@ -96,6 +98,12 @@ pub(crate) fn no_links() -> [u32; 8192]
     ensures { λ r. ⌜ 8192 ≡ length r ⌝ }
 {
     [0u32; 8192]
+}
+
+pub(crate) fn no_entries() -> [u64; 8192]
+    ensures { λ r. ⌜ 8192 ≡ length r ⌝ }
+{
+    [0u64; 8192]
 }
 
 // Copies a buffer into one of the same length.
@@ -142,6 +150,17 @@ pub(crate) fn u32s(to: &mut [u32], bytes: &[u8]) {
     while i < to.len() {
         to[i] = octets::u32_at(bytes, at);
         at = std::num::wrapping_add_usize(at, 4);
+        i += 1;
+    }
+}
+
+// Fills a column with u64 numbers; past the bytes they are 0.
+pub(crate) fn u64s(to: &mut [u64], bytes: &[u8]) {
+    let mut at: usize = 0;
+    let mut i = 0;
+    while i < to.len() {
+        to[i] = octets::u64_at(bytes, at);
+        at = std::num::wrapping_add_usize(at, 8);
         i += 1;
     }
 }

@@ -7,6 +7,7 @@ ghost use lib.ListN.{length};
 mod act;
 mod case;
 mod check;
+mod index;
 mod lay_out;
 mod leaf;
 mod lesson;
@@ -224,6 +225,9 @@ fn answer(head: &[u8], body: &[u8], sums: bool) -> bool {
     }
     if operation == case::UNDO {
         return recorded::answer_undo(head, body, sums);
+    }
+    if operation == case::INDEX {
+        return index::answer(head, body, sums);
     }
     if operation == case::LIST {
         return list::answer(head, body, sums);

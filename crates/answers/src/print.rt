@@ -92,10 +92,29 @@ pub(crate) fn sum_of_u32s(col: &[u32]) -> u64 {
     let mut sum: u64 = 1;
     let mut i = 0;
     while i < col.len() {
-        let low = with(sum, (col[i] % 256) as u8);
-        let second = with(low, (col[i] / 256 % 256) as u8);
-        let third = with(second, (col[i] / 65536 % 256) as u8);
-        sum = with(third, (col[i] / 16777216 % 256) as u8);
+        sum = with_u32(sum, col[i]);
+        i += 1;
+    }
+    sum
+}
+
+fn with_u32(sum: u64, n: u32) -> u64
+    requires { ⌜ sum < 4294967291 ⌝ }
+    ensures { λ r. ⌜ r < 4294967291 ⌝ }
+{
+    let low = with(sum, (n % 256) as u8);
+    let second = with(low, (n / 256 % 256) as u8);
+    let third = with(second, (n / 65536 % 256) as u8);
+    with(third, (n / 16777216 % 256) as u8)
+}
+
+// Of the bytes of numbers of 64 bits.
+pub(crate) fn sum_of_u64s(col: &[u64]) -> u64 {
+    let mut sum: u64 = 1;
+    let mut i = 0;
+    while i < col.len() {
+        let low = with_u32(sum, (col[i] % 4294967296) as u32);
+        sum = with_u32(low, (col[i] / 4294967296 % 4294967296) as u32);
         i += 1;
     }
     sum

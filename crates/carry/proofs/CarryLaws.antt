@@ -173,7 +173,7 @@ module _ (links k : ℕ) (yard wide : List ℕ) (b : Bytes yard) (far : CarriedF
   train : leAt 2 old 32 ≡ suc k
   train =
       let m = part-long yard f (suc k) (omega arith) l in
-      sym (part-le yard f (suc k) (omega arith) l 2 32 (omega (arith, m))) ∙ part-train yard f (suc k) (omega arith) l
+      sym (part-le yard f (suc k) (omega arith) l 2 32 (omega (arith, m))) ∙ part-train yard (far .first) (suc k) (omega arith) l
 
   -- the image of slot k + 1 is the first yard's written wide
   pub next-image : partOf (withWidened yard k wide) (suc k) ≡ widened yard (suc k)

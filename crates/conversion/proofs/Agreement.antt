@@ -60,7 +60,7 @@ number-same bs n = go (leAt 2 bs 42) refl
     go (suc zero) e = clash (isWide bs) (width-read true bs e) n
     go (suc (suc x)) e = lt-leb (suc (suc x)) 1 (omega arith) ∙ sym (lt-leb (suc (suc x)) 0 (omega arith))
 
-fits-same : (bs : List ℕ) → isWide bs ≡ false → imageFits Either bs ≡ imageFits Narrow bs
+pub fits-same : (bs : List ℕ) → isWide bs ≡ false → imageFits Either bs ≡ imageFits Narrow bs
 unfolding imageFits trainFits
 fits-same bs n = rw (number-same bs n)
 

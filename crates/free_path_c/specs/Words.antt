@@ -14,6 +14,7 @@ use Rattle.update_definition.specs.Update.{Status, Success, Blocked, Faulty, Re
 use Rattle.update_definition.specs.UpdateImage.{UpdatedImage}
 use Rattle.yard_check.specs.Check as Check
 use Rattle.undo.specs.Undo as Undo
+use Rattle.link_index.specs.Indexed as Indexed
 use Rattle.ceiling.specs.declared.StepCeiling.{StepCeiling}
 use Rattle.sitting.specs.Replay.{Replayed}
 use Rattle.game.specs.Game.{Game}
@@ -125,6 +126,37 @@ pub record ToldRecorded (k : Undo.Recorded) (r : ℕ) (yard report undoRecord ws
   pub reportBytes : report ≡ k .report
   pub recordBytes : undoRecord ≡ k .undoRecord
   pub words : ws ≡ checkWords (k .answer) ws₀
+
+-- ---- beside an index
+
+-- a check
+pub record ToldIndexed (k : Indexed.Checked) (r : ℕ) (yard report index ws₀ ws : List ℕ) : Type 0 where
+  pub word : r ≡ checkWord (k .answer)
+  pub yardBytes : yard ≡ k .yard
+  pub reportBytes : report ≡ k .report
+  pub entries : index ≡ k .index
+  pub words : ws ≡ checkWords (k .answer) ws₀
+
+-- one that fills an undo record
+pub record ToldRecordedIndexed (k : Indexed.Recorded) (r : ℕ) (yard report undoRecord index ws₀ ws : List ℕ) : Type 0 where
+  pub word : r ≡ checkWord (k .answer)
+  pub yardBytes : yard ≡ k .yard
+  pub reportBytes : report ≡ k .report
+  pub recordBytes : undoRecord ≡ k .undoRecord
+  pub entries : index ≡ k .index
+  pub words : ws ≡ checkWords (k .answer) ws₀
+
+-- a layout
+pub record ToldLaid (k : Indexed.Laid) (r : ℕ) (image index : List ℕ) : Type 0 where
+  pub word : r ≡ answerWord (k .answer)
+  pub imageBytes : image ≡ k .image
+  pub entries : index ≡ k .index
+
+-- an undo
+pub record ToldUndone (k : Indexed.Undone) (r : ℕ) (yard index : List ℕ) : Type 0 where
+  pub word : r ≡ answerWord (k .answer)
+  pub yardBytes : yard ≡ k .yard
+  pub entries : index ≡ k .index
 
 -- ---- a game
 

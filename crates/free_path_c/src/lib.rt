@@ -1,5 +1,6 @@
 // The calls for C and Rust. A function named `lavtoeu_` and so on is exported under that name, takes numbers and slices (a pointer
 // and a length), is total for every argument, and calls one proved function of another crate; the others serve these.
+pub mod index;
 pub mod recorded;
 pub mod version;
 pub mod wide;
@@ -26,11 +27,10 @@ ghost use Rattle.path_page.specs.Page.{drawingRule, pageFault, pageAfter};
 ghost use Rattle.sitting.specs.Replay.{replayOf};
 ghost use Rattle.free_path_c.specs.Words.{gameWith, verdictWords, ToldGame};
 ghost use Rattle.candidate.specs.Candidate.{viewOf, actOf};
-ghost use Rattle.free_path_c.specs.Words.{answerWord, faultWord, settingsOf, flagOf, statusWord, codeOf, errorsOf, Told, ceilingWords, ToldCeiling, checkWord, bitOf, threeWords, checkWords, ToldCheck, ToldReplay};
 ghost use Rattle.free_path_c.specs.Words.{viewWords, ToldView};
+ghost use Rattle.free_path_c.specs.Words.{answerWord, faultWord, settingsOf, flagOf, statusWord, codeOf, errorsOf, updateWords, Told, ceilingWords, ToldCeiling, checkWord, bitOf, threeWords, checkWords, ToldCheck, ToldReplay};
 use candidate;
 use candidate::Viewed;
-ghost use Rattle.free_path_c.specs.Words.{answerWord, faultWord, settingsOf, flagOf, statusWord, codeOf, errorsOf, updateWords, Told, ceilingWords, ToldCeiling, checkWord, bitOf, threeWords, checkWords, ToldCheck, ToldReplay};
 use ceiling;
 use ceiling::StepCeiling;
 use disp_structs::Metres;

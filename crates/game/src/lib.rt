@@ -8,6 +8,7 @@ mod tables;
 use link_rules::link_idx::TrainIdx;
 use link_rules::refusal::Refusal;
 use update_free_path::start::Args;
+use yard_check::bytes;
 ghost use mathlib.Core.Path.{_≡_};
 ghost use Prim.Native.Nat.{_^_, _≤_};
 ghost use lib.ListN.{length};
@@ -29,13 +30,7 @@ fn told(f: Refusal, can_force: bool) -> Verdict
     }
 }
 
-// Room for the largest image; a function makes it, so that no proof holds its octets.
-fn image_room() -> [u8; 41024]
-    ensures { λ r. ⌜ 41024 ≡ length r ⌝ }
-{
-    [0u8; 41024]
-}
-
+// A function makes it, so that no proof holds its entries.
 fn occupancy_room() -> [u32; 4000]
     ensures { λ r. ⌜ 4000 ≡ length r ⌝ }
 {
@@ -73,7 +68,7 @@ fn can_force(image: &[u8], occ: &[u32], o: Args, links: &[u32], turns: u32) -> b
 {
     let n = image.len();
     let m = occ.len();
-    let mut img = image_room();
+    let mut img = bytes::image_room();
     let mut held = occupancy_room();
     let last = last_verdicts(image, occ, o, links, &mut img[..n], &mut held[..m]);
     let t = tables::judge(links.len(), last, turns);

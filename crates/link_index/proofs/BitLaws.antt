@@ -4,10 +4,11 @@ use mathlib.Core.Logic.{⊎-elim}
 use mathlib.Core.Bool.{Bool, true, false, cond}
 use Prim.Native.Nat.{ℕ, zero, suc, _+_, _-_, _*_, _/_, _%_, _^_, _≤_, _<_}
 use native.Mathlib.Nat.{add-div-right, add-mul-div-right, div-eq-of-lt, mod-one, mod-eq-of-lt, two-pow-succ, eq-or-lt-of-le, one-le-pow}
+use native.Mathlib.Numerals.{add-one}
 use native.Mathlib.Omega.{arith}
 use lib.Arith.{mod-mul}
 use lib.Dec.{ltb, eqb}
-use lib.Pow.{pow-add, shl-exact}
+use lib.Pow.{pow-add}
 use borrow.Author.Tests.{ltb-true, ltb-false, eq-eqb, ne-eqb, eqb-true, eqb-false}
 use Rattle.link_index.specs.Bits.{bitOf, numberOf, withBit}
 
@@ -91,7 +92,7 @@ cond-few : (b : Bool) (p : ℕ) → cond b p 0 ≤ p
 cond-few true p = omega arith
 cond-few false p = omega arith
 
-number-lt : (f : ℕ → Bool) (k : ℕ) → numberOf f k < 2 ^ k
+pub number-lt : (f : ℕ → Bool) (k : ℕ) → numberOf f k < 2 ^ k
 unfolding numberOf
 number-lt f zero = omega arith
 number-lt f (suc k) = omega (arith, number-lt f k, cond-few (f k) (2 ^ k), two-pow-succ k)
@@ -203,6 +204,24 @@ with-room n k t l h o =
     sym (with-off n t true o) ∙ (ap (λ (x : ℕ). withBit x t true) (sym (bits-number n k l)) ∙ number-with (bitOf n) k t true h) in
     omega (arith, e, number-lt (bitsWith (bitOf n) t true) k)
 
--- 1 shifted to bit t
-pub shifted : (t : ℕ) → t < 64 → 1 * 2 ^ t % 2 ^ 64 ≡ 2 ^ t
-shifted t h = shl-exact {a = 1} 1 t 64 (omega arith) (omega arith) ∙ omega arith
+-- ---- the bits below t, then bit t
+
+pub bit-off : (n t : ℕ) → n < 2 ^ t → bitOf n t ≡ false
+bit-off n t h = go (bitOf n t) refl
+  where
+    go : (b : Bool) → bitOf n t ≡ b → bitOf n t ≡ false
+    go true e = absurd (omega (arith, power-in n t e))
+    go false e = e
+
+pub number-next : (f : ℕ → Bool) (t : ℕ) → cond (f t) (withBit (numberOf f t) t true) (numberOf f t) ≡ numberOf f (t + 1)
+unfolding numberOf
+number-next f t = rw (add-one t) (go (f t))
+  where
+    go : (b : Bool) → cond b (withBit (numberOf f t) t true) (numberOf f t) ≡ numberOf f t + cond b (2 ^ t) 0
+    go true = with-off (numberOf f t) t true (bit-off (numberOf f t) t (number-lt f t))
+    go false = omega arith
+
+-- all 64 bits
+pub all-ones : 18446744073709551615 ≡ numberOf (λ t. true) 64
+unfolding numberOf
+all-ones = refl

@@ -1,26 +1,25 @@
 -- A right index stays right: proofs of the statements of specs/StaysRight. Assumes nothing.
 use mathlib.Core.Path.{_≡_, refl, sym, ap, _∙_}
-use mathlib.Core.Bool.{Bool, true, false, cond, not, _&&_, and-false}
-use mathlib.Core.List.{List, [], _∷_}
+use mathlib.Core.Bool.{Bool, true, false, cond, not, and-false}
+use mathlib.Core.List.{List, []}
 use Prim.Native.Nat.{ℕ, zero, suc, _≤_, _<_}
 use native.Mathlib.Omega.{arith}
-use lib.Dec.{leb, eqb}
-use lib.ListN.{length, getD}
-use lib.Seq.{ext-getD}
-use borrow.Author.Tests.{eqb-true, eq-eqb, ne-eqb, not-false, leb-true, le-leb, lt-leb}
-use Rattle.link_rules.specs.Network.{allBelow}
+use lib.Dec.{leb}
+use lib.ListN.{length}
+use borrow.Author.Tests.{not-false, leb-true, le-leb, lt-leb}
 use Rattle.link_rules.specs.Octets.{leAt}
 use Rattle.link_rules.specs.Refusals.{orElse, refusedUnless}
 use Rattle.link_rules.specs.declared.refusal.Refusal.{Refusal}
-use Rattle.link_rules.proofs.TableLaws.{all-at}
 use Rattle.disp_structs.proofs.ListedLaws.{listed-length, listed-at}
 use Rattle.image_fault.specs.ImageFault.{arrived}
 use Rattle.image_fault.proofs.ScanLaws.{both}
-use Rattle.yard_check.specs.Yard.{slotCount, partOf, yardFits, yardFault}
+use Rattle.yard_check.specs.Bytes.{sameBytes}
+use Rattle.yard_check.specs.Yard.{slotCount, partOf, yardFault}
+use Rattle.yard_check.proofs.SeenLaws.{same-bytes, lengths-differ}
 use Rattle.yard_check.proofs.YardLaws.{Fits, part-long, part-length}
 use Rattle.link_index.specs.Bits.{numberOf, bitOf}
-use Rattle.link_index.specs.LinkIndex.{slotImage, isAccepted, runsOver, indexOf, hasBit, built, sameBytes, changed, refreshed, lengthFits, buildFault, leaves, builtBy, buildOf, canRefresh, refreshOf, refreshedAll, allFit, lastOf}
-use Rattle.link_index.specs.StaysRight.{BuiltBits, NoBitZero, ChangedAsBuilt, OthersStay, StaysRight, RightThrough}
+use Rattle.link_index.specs.LinkIndex.{slotImage, isAccepted, runsOver, indexOf, hasBit, built, changed, refreshed, lengthFits, buildFault, leaves, builtBy, buildOf}
+use Rattle.link_index.specs.StaysRight.{BuiltBits, NoBitZero, ChangedAsBuilt, OthersStay, StaysRight}
 use Rattle.link_index.proofs.BitLaws.{number-bit}
 use Rattle.link_index.proofs.SlotLaws.{index-same}
 
@@ -40,25 +39,9 @@ image-is yard t h k = rw (le-leb 1 t h, le-leb t (slotCount yard) k)
 
 -- ---- changed is of bytes
 
-pub same-bytes : (xs ys : List ℕ) → sameBytes xs ys ≡ true → xs ≡ ys
-unfolding sameBytes
-same-bytes xs ys e =
-    let test : ℕ → Bool = λ i. eqb (getD xs i 0) (getD ys i 0) in
-    let long = eqb-true (length xs) (length ys) (both (eqb (length xs) (length ys)) (allBelow (length xs) test) e .0) in
-    let all = both (eqb (length xs) (length ys)) (allBelow (length xs) test) e .1 in
-    ext-getD 0 xs ys long (λ i h. eqb-true (getD xs i 0) (getD ys i 0) (all-at test (length xs) i all h))
-
 pub unchanged-image : (old new : List ℕ) (t : ℕ) → changed old new t ≡ false → slotImage old t ≡ slotImage new t
 unfolding changed
 unchanged-image old new t e = same-bytes (slotImage old t) (slotImage new t) (not-false (sameBytes (slotImage old t) (slotImage new t)) e)
-
-pub lengths-differ : (xs ys : List ℕ) → (length xs ≡ length ys → ⊥) → sameBytes xs ys ≡ false
-unfolding sameBytes
-lengths-differ xs ys h = ap (λ (b : Bool). b && allBelow (length xs) (λ i. eqb (getD xs i 0) (getD ys i 0))) (ne-eqb (length xs) (length ys) h)
-
-pub lengths-same : (xs ys : List ℕ) → length xs ≡ length ys → sameBytes xs ys ≡ allBelow (length xs) (λ i. eqb (getD xs i 0) (getD ys i 0))
-unfolding sameBytes
-lengths-same xs ys h = ap (λ (b : Bool). b && allBelow (length xs) (λ i. eqb (getD xs i 0) (getD ys i 0))) (eq-eqb (length xs) (length ys) h)
 
 -- a slot that one of two yards past 14 has, and the other has not, has changed
 module _ (old new : List ℕ) (t : ℕ) (l : 1 ≤ t) where
@@ -130,10 +113,6 @@ fault-low yard links h = go (lengthFits links) refl
     go true e = leb-true links 4000 (both (leb 2 links) (leb links 4000) e .1)
     go false e = let q : buildFault yard links .number ≡ 25 = ap (λ (b : Bool). orElse (refusedUnless b 25) (yardFault yard) .number) e in absurd (omega (arith, q, h))
 
-pub refresh-low : (old new : List ℕ) (links : ℕ) → canRefresh old new links ≡ true → links ≤ 4000
-unfolding canRefresh
-refresh-low old new links e = leb-true links 4000 (both (leb 2 links) (leb links 4000) (both (lengthFits links) (yardFits old && yardFits new) e .0) .1)
-
 -- ---- refresh
 
 module _ (old new index : List ℕ) where
@@ -171,22 +150,3 @@ stays-right old new links = lengths ∙ bits
     bits =
         index-same links (λ l t. bitIn links l t (changed old new t)) (λ l t. runsOver (slotImage new t) links l)
         (λ l t h k. bit l t h k (changed old new t) refl)
-
--- ---- many yards
-
-pub refresh-fits : (old new index : List ℕ) → canRefresh old new (length index) ≡ true → refreshOf old new index ≡ refreshed old new index
-unfolding refreshOf
-refresh-fits old new index e = ap (λ (b : Bool). cond b (refreshed old new index) index) e
-
-pub refresh-stays : (old new index : List ℕ) → canRefresh old new (length index) ≡ false → refreshOf old new index ≡ index
-unfolding refreshOf
-refresh-stays old new index e = ap (λ (b : Bool). cond b (refreshed old new index) index) e
-
-pub right-through : RightThrough
-unfolding refreshedAll lastOf allFit
-right-through old [] links e = refl
-right-through old (new ∷ yards) links e =
-    let fits : canRefresh old new (length (built old links)) ≡ true =
-    ap (canRefresh old new) (built-length old links) ∙ both (canRefresh old new links) (allFit links new yards) e .0 in
-    ap (refreshedAll new yards) (refresh-fits old new (built old links) fits ∙ stays-right old new links)
-    ∙ right-through new yards links (both (canRefresh old new links) (allFit links new yards) e .1)

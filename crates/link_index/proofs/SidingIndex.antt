@@ -3,9 +3,10 @@ use mathlib.Core.Path.{_≡_, refl}
 use mathlib.Core.List.{List, [], _∷_, _++_}
 use Prim.Native.Nat.{ℕ, _*_}
 use Rattle.link_rules.specs.Refusals.{noRefusal, refused}
+use Rattle.yard_check.specs.Bytes.{sameBytes}
 use Rattle.yard_check.proofs.Siding.{words, siding, diverted, plain, twoSlots, everything}
 use Rattle.link_index.specs.Bits.{bitOf, numberOf}
-use Rattle.link_index.specs.LinkIndex.{slotImage, isAccepted, runsOver, built, buildFault, buildOf, leaves, sameBytes, changed, refreshed, canRefresh, refreshOf}
+use Rattle.link_index.specs.LinkIndex.{slotImage, isAccepted, runsOver, built, buildFault, buildOf, leaves, changed, refreshed}
 
 -- train 1 goes over link 1, or by the siding over link 2; train 2 over link 3
 abbrev before : List ℕ
@@ -16,7 +17,7 @@ after = twoSlots 400 (diverted 1 2 1 2) (plain 2 1 3)
 
 -- what the examples compute with
 unfoldable indexing : ℕ
-unfolding everything bitOf numberOf slotImage isAccepted runsOver built buildFault buildOf sameBytes changed refreshed canRefresh refreshOf
+unfolding everything bitOf numberOf slotImage isAccepted runsOver built buildFault buildOf sameBytes changed refreshed
 indexing = 0
 
 -- bit 1 at link 1, bit 2 at link 3
@@ -25,12 +26,12 @@ unfolding indexing
 built-siding = refl
 
 -- train 1 alone has changed
-refreshed-siding : refreshOf before after (0 ∷ 2 ∷ 0 ∷ 4 ∷ []) ≡ 0 ∷ 0 ∷ 2 ∷ 4 ∷ []
+refreshed-siding : refreshed before after (0 ∷ 2 ∷ 0 ∷ 4 ∷ []) ≡ 0 ∷ 0 ∷ 2 ∷ 4 ∷ []
 unfolding indexing
 refreshed-siding = refl
 
 -- of a wrong index its bits are mended; bit 0, those of train 2 and those of slot 3, which no yard has, stay
-mended-siding : refreshOf before after (15 ∷ 0 ∷ 0 ∷ 0 ∷ []) ≡ 13 ∷ 0 ∷ 2 ∷ 0 ∷ []
+mended-siding : refreshed before after (15 ∷ 0 ∷ 0 ∷ 0 ∷ []) ≡ 13 ∷ 0 ∷ 2 ∷ 0 ∷ []
 unfolding indexing
 mended-siding = refl
 
@@ -61,6 +62,6 @@ built-mixed : built (mixed 1) 4 ≡ 0 ∷ 2 ∷ 0 ∷ 4 ∷ []
 unfolding indexing plainOf
 built-mixed = refl
 
-refused-image : refreshOf (mixed 1) (mixed 2) (0 ∷ 2 ∷ 0 ∷ 4 ∷ []) ≡ 0 ∷ 2 ∷ 0 ∷ 0 ∷ []
+refused-image : refreshed (mixed 1) (mixed 2) (0 ∷ 2 ∷ 0 ∷ 4 ∷ []) ≡ 0 ∷ 2 ∷ 0 ∷ 0 ∷ []
 unfolding indexing plainOf
 refused-image = refl

@@ -1,9 +1,9 @@
 -- Laws of the bits of one slot in every entry of an index: what the code does a step at a time. Assumes nothing.
 use mathlib.Core.Path.{_≡_, refl, sym, ap, ap₂, subst, _∙_}
 use mathlib.Core.Logic.{⊎-elim}
-use mathlib.Core.Bool.{Bool, true, false, cond, not, _&&_, _||_}
+use mathlib.Core.Bool.{Bool, true, false, cond, _&&_, _||_}
 use mathlib.Core.List.{List}
-use Prim.Native.Nat.{ℕ, _+_, _^_, _≤_, _<_}
+use Prim.Native.Nat.{ℕ, _+_, _≤_, _<_}
 use native.Mathlib.Numerals.{add-one}
 use native.Mathlib.Omega.{arith}
 use lib.Dec.{ltb, eqb}
@@ -17,8 +17,9 @@ use Rattle.disp_structs.proofs.ListedLaws.{listed-length, listed-same, listed-a
 use Rattle.image.specs.Image.{pathCount, nodeAt}
 use Rattle.image_fault.specs.ImageFault.{arrivesOn, arrived}
 use Rattle.link_index.specs.Bits.{numberOf, withBit}
-use Rattle.link_index.specs.LinkIndex.{slotImage, isAccepted, runsOver, indexOf, hasBit, built, sameBytes, changed, refreshed}
-use Rattle.link_index.specs.Slots.{slotSet, slotCleared, bitsAdded, bitAdded, arrivalAdded, arrivalsAdded, slotBuilt, slotsDone, slotRefreshed}
+use Rattle.link_index.specs.LinkIndex.{slotImage, isAccepted, runsOver, indexOf, hasBit, built, changed, refreshed}
+use Rattle.link_index.specs.IndexCalls.{Entries}
+use Rattle.link_index.specs.Slots.{withSlot, slotCleared, bitsAdded, bitAdded, arrivalAdded, arrivalsAdded, slotBuilt, slotsDone, slotRebuilt}
 use Rattle.link_index.proofs.BitLaws.{with-twice, number-same, bits-number, bitsWith, number-with}
 
 -- ---- bits that are added
@@ -141,29 +142,29 @@ module _ (t : ℕ) (xs : List ℕ) where
       (λ l m z. ap (entryBy l) (next-test i l z)) (ap (entryBy i) (lt-ltb i (i + 1) (omega arith))))
 
   pub cleared-end : (i : ℕ) → length xs ≤ i → clearedTo i t xs ≡ slotCleared t xs
-  unfolding clearedTo slotSet
+  unfolding clearedTo withSlot
   cleared-end i h = listed-same (length xs) (λ l. withBit (getD xs l 0) t false) (entryTo i) (λ l m. ap (entryBy l) (lt-ltb l i (omega arith)))
 
   -- ---- cleared, then set at some links
 
-  pub set-length : (f : ℕ → Bool) → length (slotSet f t xs) ≡ length xs
-  unfolding slotSet
+  pub set-length : (f : ℕ → Bool) → length (withSlot f t xs) ≡ length xs
+  unfolding withSlot
   set-length f = listed-length (length xs) (λ l. withBit (getD xs l 0) t (f l))
 
-  set-entry : (f : ℕ → Bool) (l : ℕ) → l < length xs → getD (slotSet f t xs) l 0 ≡ withBit (getD xs l 0) t (f l)
-  unfolding slotSet
+  set-entry : (f : ℕ → Bool) (l : ℕ) → l < length xs → getD (withSlot f t xs) l 0 ≡ withBit (getD xs l 0) t (f l)
+  unfolding withSlot
   set-entry f l h = listed-at (length xs) (λ i. withBit (getD xs i 0) t (f i)) l 0 h
 
-  pub set-same : (f g : ℕ → Bool) → ((l : ℕ) → f l ≡ g l) → slotSet f t xs ≡ slotSet g t xs
-  unfolding slotSet
+  pub set-same : (f g : ℕ → Bool) → ((l : ℕ) → f l ≡ g l) → withSlot f t xs ≡ withSlot g t xs
+  unfolding withSlot
   set-same f g h = listed-same (length xs) (λ l. withBit (getD xs l 0) t (g l)) (λ l. withBit (getD xs l 0) t (f l)) (λ l m. ap (λ (b : Bool). withBit (getD xs l 0) t b) (h l))
 
   set-step : (a : Bool) (x : ℕ) → cond a (withBit (withBit x t false) t true) (withBit x t false) ≡ withBit x t a
   set-step true x = with-twice x t false true
   set-step false x = refl
 
-  pub cleared-added : (f : ℕ → Bool) → bitsAdded f t (slotCleared t xs) ≡ slotSet f t xs
-  unfolding bitsAdded slotSet
+  pub cleared-added : (f : ℕ → Bool) → bitsAdded f t (slotCleared t xs) ≡ withSlot f t xs
+  unfolding bitsAdded withSlot
   cleared-added f = lengths ∙ entries
     where
       ys : List ℕ
@@ -172,7 +173,7 @@ module _ (t : ℕ) (xs : List ℕ) where
       lengths : bitsAdded f t ys ≡ listed (length xs) (λ l. cond (f l) (withBit (getD ys l 0) t true) (getD ys l 0))
       lengths = ap (λ (n : ℕ). listed n (λ l. cond (f l) (withBit (getD ys l 0) t true) (getD ys l 0))) (set-length (λ l. false))
 
-      entries : listed (length xs) (λ l. cond (f l) (withBit (getD ys l 0) t true) (getD ys l 0)) ≡ slotSet f t xs
+      entries : listed (length xs) (λ l. cond (f l) (withBit (getD ys l 0) t true) (getD ys l 0)) ≡ withSlot f t xs
       entries =
           listed-same (length xs) (λ l. withBit (getD xs l 0) t (f l)) (λ l. cond (f l) (withBit (getD ys l 0) t true) (getD ys l 0))
           (λ l h. ap (λ (x : ℕ). cond (f l) (withBit x t true) x) (set-entry (λ i. false) l h) ∙ set-step (f l) (getD xs l 0))
@@ -190,9 +191,6 @@ module _ (t : ℕ) (xs : List ℕ) where
 
 -- ---- one slot of an index given by its bits
 
-abbrev pub Entries : List ℕ → Type 0
-Entries index = (l : ℕ) → getD index l 0 < 2 ^ 64
-
 pub index-same : (n : ℕ) (f g : (l t : ℕ) → Bool) → ((l t : ℕ) → l < n → t < 64 → f l t ≡ g l t) → indexOf n f ≡ indexOf n g
 index-same n f g h = listed-same n (λ l. numberOf (g l) 64) (λ l. numberOf (f l) 64) (λ l m. number-same (f l) (g l) 64 (λ t k. h l t m k))
 
@@ -202,14 +200,14 @@ index-own index h =
     listed-same (length index) (λ l. getD index l 0) (λ l. numberOf (hasBit index l) 64) (λ l m. bits-number (getD index l 0) 64 (h l))
     ∙ listed-entries index 0
 
-set-index : (f : ℕ → Bool) (t n : ℕ) (bits : (l t : ℕ) → Bool) → t < 64 → slotSet f t (indexOf n bits) ≡ indexOf n (λ l. bitsWith (bits l) t (f l))
-unfolding slotSet
+pub set-index : (f : ℕ → Bool) (t n : ℕ) (bits : (l t : ℕ) → Bool) → t < 64 → withSlot f t (indexOf n bits) ≡ indexOf n (λ l. bitsWith (bits l) t (f l))
+unfolding withSlot
 set-index f t n bits h = lengths ∙ entries
   where
     ys : List ℕ
     ys = indexOf n bits
 
-    lengths : slotSet f t ys ≡ listed n (λ l. withBit (getD ys l 0) t (f l))
+    lengths : withSlot f t ys ≡ listed n (λ l. withBit (getD ys l 0) t (f l))
     lengths = ap (λ (k : ℕ). listed k (λ l. withBit (getD ys l 0) t (f l))) (listed-length n (λ l. numberOf (bits l) 64))
 
     entries : listed n (λ l. withBit (getD ys l 0) t (f l)) ≡ indexOf n (λ l. bitsWith (bits l) t (f l))
@@ -244,7 +242,7 @@ module _ (redone : ℕ → Bool) (yard index : List ℕ) where
   pub slots-redone : (t : ℕ) → t < 64 → redone t ≡ true → slotBuilt (slotImage yard t) t (slotsDone redone yard t index) ≡ slotsDone redone yard (t + 1) index
   unfolding slotsDone
   slots-redone t h e =
-      ap (λ (k : ℕ). slotSet (runsOver (slotImage yard t) k) t (indexOf n (bitsTo t))) (listed-length n (λ l. numberOf (bitsTo t l) 64))
+      ap (λ (k : ℕ). withSlot (runsOver (slotImage yard t) k) t (indexOf n (bitsTo t))) (listed-length n (λ l. numberOf (bitsTo t l) 64))
       ∙ (set-index (runsOver (slotImage yard t) n) t n (bitsTo t) h
       ∙ index-same n (λ l. bitsWith (bitsTo t l) t (runsOver (slotImage yard t) n l)) (bitsTo (t + 1)) (λ l s m k. turn l s (eqb s t) refl))
     where
@@ -283,24 +281,22 @@ slots-refreshed old new index =
     (λ l s. cond (changed old new s) (runsOver (slotImage new s) (length index) l) (hasBit index l s))
     (λ l s m k. ap (λ (b : Bool). cond (b && changed old new s) (runsOver (slotImage new s) (length index) l) (hasBit index l s)) (lt-ltb s 64 k))
 
--- ---- a slot that changed, and one that did not
+-- the same slots redone
+pub slots-same : (f g : ℕ → Bool) (yard index : List ℕ) → ((s : ℕ) → s < 64 → f s ≡ g s) → slotsDone f yard 64 index ≡ slotsDone g yard 64 index
+unfolding slotsDone
+slots-same f g yard index h =
+    index-same (length index) (λ l s. cond (ltb s 64 && f s) (runsOver (slotImage yard s) (length index) l) (hasBit index l s))
+    (λ l s. cond (ltb s 64 && g s) (runsOver (slotImage yard s) (length index) l) (hasBit index l s))
+    (λ l s m k. ap (λ (b : Bool). cond (ltb s 64 && b) (runsOver (slotImage yard s) (length index) l) (hasBit index l s)) (h s k))
 
-module _ (old new : List ℕ) (t : ℕ) (xs : List ℕ) where
-  pub left-is : sameBytes (slotImage old t) (slotImage new t) ≡ true → xs ≡ slotRefreshed old new t xs
-  unfolding changed
-  left-is e = sym (ap (λ (b : Bool). cond (not b) (slotBuilt (slotImage new t) t xs) xs) e)
-
-  pub redone-is : sameBytes (slotImage old t) (slotImage new t) ≡ false → slotBuilt (slotImage new t) t xs ≡ slotRefreshed old new t xs
-  unfolding changed
-  redone-is e = sym (ap (λ (b : Bool). cond (not b) (slotBuilt (slotImage new t) t xs) xs) e)
-
-pub slots-turn : (old new index : List ℕ) (t : ℕ) → t < 64
-    → slotRefreshed old new t (slotsDone (changed old new) new t index) ≡ slotsDone (changed old new) new (t + 1) index
-slots-turn old new index t h = go (changed old new t) refl
+-- the next one
+pub slots-turn : (redone : ℕ → Bool) (yard index : List ℕ) (t : ℕ) → t < 64
+    → slotRebuilt (redone t) yard t (slotsDone redone yard t index) ≡ slotsDone redone yard (t + 1) index
+slots-turn redone yard index t h = go (redone t) refl
   where
     ys : List ℕ
-    ys = slotsDone (changed old new) new t index
+    ys = slotsDone redone yard t index
 
-    go : (b : Bool) → changed old new t ≡ b → slotRefreshed old new t ys ≡ slotsDone (changed old new) new (t + 1) index
-    go true e = ap (λ (b : Bool). cond b (slotBuilt (slotImage new t) t ys) ys) e ∙ slots-redone (changed old new) new index t h e
-    go false e = ap (λ (b : Bool). cond b (slotBuilt (slotImage new t) t ys) ys) e ∙ slots-left (changed old new) new index t e
+    go : (b : Bool) → redone t ≡ b → slotRebuilt (redone t) yard t ys ≡ slotsDone redone yard (t + 1) index
+    go true e = ap (λ (b : Bool). slotRebuilt b yard t ys) e ∙ slots-redone redone yard index t h e
+    go false e = ap (λ (b : Bool). slotRebuilt b yard t ys) e ∙ slots-left redone yard index t e

@@ -1,18 +1,18 @@
 -- Which trains run over a link (change request Q-10): beside a yard goes an index with one u64 for each link, whose bit t is set exactly if slot t's path has an
 -- Arrive on it; a slot with a refused image sets none. How it is built, and how it is refreshed from one yard to the next. Assumes nothing.
 use Prim.Native.Nat.{ℕ, zero, suc}
-use mathlib.Core.Bool.{Bool, true, cond, not, _&&_}
-use mathlib.Core.List.{List, [], _∷_}
+use mathlib.Core.Bool.{Bool, cond, not, _&&_}
+use mathlib.Core.List.{List, []}
 use lib.Dec.{leb, eqb}
 use lib.ListN.{length, getD}
-use Rattle.link_rules.specs.Network.{allBelow}
 use Rattle.link_rules.specs.Refusals.{noRefusal, refusedUnless, orElse}
 use Rattle.link_rules.specs.declared.refusal.Refusal.{Refusal}
 use Rattle.disp_structs.specs.Listed.{listed}
 use Rattle.image.specs.Image.{pathCount}
 use Rattle.image_fault.specs.ImageFault.{arrived, faultWith}
 use Rattle.image_fault.specs.declared.Widths.the-variants.{Either}
-use Rattle.yard_check.specs.Yard.{slotCount, partOf, yardFits, yardFault}
+use Rattle.yard_check.specs.Bytes.{sameBytes}
+use Rattle.yard_check.specs.Yard.{slotCount, partOf, yardFault}
 use Rattle.link_index.specs.Bits.{bitOf, numberOf}
 
 -- ---- the train of a slot
@@ -71,9 +71,6 @@ buildOf yard index = let f = buildFault yard (length index) in builtBy (f .numbe
 
 -- ---- refresh
 
-unfoldable pub sameBytes : List ℕ → List ℕ → Bool
-sameBytes xs ys = eqb (length xs) (length ys) && allBelow (length xs) (λ i. eqb (getD xs i 0) (getD ys i 0))
-
 -- the bytes of the slot's image differ; so they do where one of the yards alone has the slot
 unfoldable pub changed : (old new : List ℕ) (t : ℕ) → Bool
 changed old new t = not (sameBytes (slotImage old t) (slotImage new t))
@@ -82,25 +79,3 @@ changed old new t = not (sameBytes (slotImage old t) (slotImage new t))
 unfoldable pub refreshed : (old new index : List ℕ) → List ℕ
 refreshed old new index =
     indexOf (length index) (λ l t. cond (changed old new t) (runsOver (slotImage new t) (length index) l) (hasBit index l t))
-
--- two yards past 14 beside an index of 2 to 4,000 links; a refresh leaves every other index as it is
-unfoldable pub canRefresh : (old new : List ℕ) (links : ℕ) → Bool
-canRefresh old new links = lengthFits links && (yardFits old && yardFits new)
-
-unfoldable pub refreshOf : (old new index : List ℕ) → List ℕ
-refreshOf old new index = cond (canRefresh old new (length index)) (refreshed old new index) index
-
--- from one yard to the next: each refresh from the yard before it
-unfoldable pub refreshedAll : (old : List ℕ) (yards : List (List ℕ)) (index : List ℕ) → List ℕ
-refreshedAll old [] index = index
-refreshedAll old (new ∷ yards) index = refreshedAll new yards (refreshOf old new index)
-
--- each of these refreshes is one of two yards past 14 beside 2 to 4,000 links
-unfoldable pub allFit : (links : ℕ) (old : List ℕ) (yards : List (List ℕ)) → Bool
-allFit links old [] = true
-allFit links old (new ∷ yards) = canRefresh old new links && allFit links new yards
-
--- the yard that is last
-unfoldable pub lastOf : (old : List ℕ) (yards : List (List ℕ)) → List ℕ
-lastOf old [] = old
-lastOf old (new ∷ yards) = lastOf new yards

@@ -8,15 +8,15 @@ use Rattle.disp_structs.specs.Listed.{listed}
 use Rattle.disp_structs.specs.declared.LinkEvent.{LinkEvent}
 use Rattle.image_fault.specs.ImageFault.{arrivesOn, arrived}
 use Rattle.link_index.specs.Bits.{withBit}
-use Rattle.link_index.specs.LinkIndex.{slotImage, runsOver, indexOf, hasBit, changed}
+use Rattle.link_index.specs.LinkIndex.{slotImage, runsOver, indexOf, hasBit}
 
 -- bit t of every entry as f says of its link
-unfoldable pub slotSet : (f : ℕ → Bool) (t : ℕ) (index : List ℕ) → List ℕ
-slotSet f t index = listed (length index) (λ l. withBit (getD index l 0) t (f l))
+unfoldable pub withSlot : (f : ℕ → Bool) (t : ℕ) (index : List ℕ) → List ℕ
+withSlot f t index = listed (length index) (λ l. withBit (getD index l 0) t (f l))
 
 -- bit t is 0 in every entry
 abbrev pub slotCleared : (t : ℕ) (index : List ℕ) → List ℕ
-slotCleared t index = slotSet (λ l. false) t index
+slotCleared t index = withSlot (λ l. false) t index
 
 -- bit t is 1 in the entries of links that pass, and the others stay
 unfoldable pub bitsAdded : (f : ℕ → Bool) (t : ℕ) (index : List ℕ) → List ℕ
@@ -36,13 +36,13 @@ arrivalsAdded img n t index = bitsAdded (λ l. arrived img (record { 0 = l }) n)
 
 -- slot t as in an index of this image built afresh
 abbrev pub slotBuilt : (img : List ℕ) (t : ℕ) (index : List ℕ) → List ℕ
-slotBuilt img t index = slotSet (runsOver img (length index)) t index
+slotBuilt img t index = withSlot (runsOver img (length index)) t index
 
 -- the slots below t that pass are as in an index built afresh, and all other bits stay
 unfoldable pub slotsDone : (redone : ℕ → Bool) (yard : List ℕ) (t : ℕ) (index : List ℕ) → List ℕ
 slotsDone redone yard t index =
     indexOf (length index) (λ l s. cond (ltb s t && redone s) (runsOver (slotImage yard s) (length index) l) (hasBit index l s))
 
--- the bits of slot t, where it changed
-abbrev pub slotRefreshed : (old new : List ℕ) (t : ℕ) (index : List ℕ) → List ℕ
-slotRefreshed old new t index = cond (changed old new t) (slotBuilt (slotImage new t) t index) index
+-- the bits of slot t, where it is redone
+abbrev pub slotRebuilt : (redone : Bool) (yard : List ℕ) (t : ℕ) (index : List ℕ) → List ℕ
+slotRebuilt redone yard t index = cond redone (slotBuilt (slotImage yard t) t index) index

@@ -8,7 +8,7 @@ use Rattle.link_rules.specs.Renumbering.{Renumbering}
 use Rattle.image.specs.Image.{largestOf}
 use Rattle.yard_check.specs.Yard.{slotCount, yardFits}
 use Rattle.yard_check.specs.YardMatch.{YardsMatch}
-use Rattle.link_index.specs.LinkIndex.{slotImage, runsOver, hasBit, built, changed, refreshed, refreshedAll, lastOf, allFit}
+use Rattle.link_index.specs.LinkIndex.{slotImage, runsOver, hasBit, built, changed, refreshed}
 
 -- bit t of entry l of an index built afresh: slot t's image is accepted over L links, and its path has an Arrive on l
 abbrev pub BuiltBits : Type 0
@@ -31,10 +31,6 @@ OthersStay = (old new index : List ℕ) (l t : ℕ) → l < length index → t <
 -- so a right index stays right
 abbrev pub StaysRight : Type 0
 StaysRight = (old new : List ℕ) (links : ℕ) → refreshed old new (built old links) ≡ built new links
-
--- over a list of yards too
-abbrev pub RightThrough : Type 0
-RightThrough = (old : List ℕ) (yards : List (List ℕ)) (links : ℕ) → allFit links old yards ≡ true → refreshedAll old yards (built old links) ≡ built (lastOf old yards) links
 
 -- the links and the slots of a yard renumbered: the entry of the renumbered link has the renumbered bits. top is the largest train that is renumbered
 abbrev pub RenumberedBits : Type 0

@@ -4,7 +4,7 @@ ghost use mathlib.Core.Bool.{true, false};
 ghost use Prim.Native.Nat.{_<_};
 ghost use Rattle.link_index.specs.Bits.{bitOf, withBit};
 
-fn has_bit(entry: u64, t: u32) -> bool
+pub(crate) fn has_bit(entry: u64, t: u32) -> bool
     requires { ⌜ t < 64 ⌝ }
     ensures { λ r. ⌜ r ≡ bitOf entry t ⌝ }
 {

@@ -1,14 +1,17 @@
 // Which trains run over a link (change request Q-10): beside a yard goes an index with one u64 for each link, whose bit t is set exactly if slot t's path has an
-// Arrive on it. It is built from a yard, and refreshed from one yard to the next.
+// Arrive on it. It is built from a yard; a check, a layout and an undo beside it keep it.
 // Every function here is proved, the crate assumes nothing of its own, and no public function has a `requires`.
 mod bits;
+pub mod checks;
+pub mod layout;
 mod slots;
+pub mod undoing;
 
 use link_rules::refusal;
 use link_rules::refusal::Refusal;
 use yard_check::yard;
 ghost use mathlib.Core.Path.{_≡_};
-ghost use Rattle.link_index.specs.LinkIndex.{leaves, lengthFits, buildFault, buildOf, canRefresh, refreshOf};
+ghost use Rattle.link_index.specs.LinkIndex.{leaves, lengthFits, buildFault, buildOf};
 
 // Builds the index of a yard afresh; L is its length. Refused by 25, 14: then it stays.
 pub fn build_index(yard: &[u8], index: &mut [u64]) -> Refusal
@@ -22,19 +25,8 @@ pub fn build_index(yard: &[u8], index: &mut [u64]) -> Refusal
     fault
 }
 
-// From an old yard to a new one: the bits of slots whose image changed are as in an index built afresh, and all others stay.
-// Where a yard does not pass 14, or the length is outside 2 to 4,000, the index stays.
-pub fn refresh(old: &[u8], new: &[u8], index: &mut [u64])
-    ensures { λ _. ⌜ now (index .exit) ≡ refreshOf (now (old .entry)) (now (new .entry)) (now (index .entry)) ⌝ }
-{
-    if can_refresh(old, new, index.len()) {
-        slots::refresh_slots(old, new, index);
-        return;
-    }
-}
-
 // A length outside 2 to 4,000 is that of no index.
-fn length_fits(links: usize) -> bool
+pub(crate) fn length_fits(links: usize) -> bool
     ensures { λ r. ⌜ r ≡ lengthFits links ⌝ }
 {
     if links < 2 {
@@ -50,15 +42,4 @@ fn build_fault(yard: &[u8], links: usize) -> Refusal
     let bad_length = refusal::refused_unless(length_fits(links), 25);
     let bad_yard = refusal::refused_unless(yard::yard_fits(yard), 14);
     refusal::or_else(bad_length, bad_yard)
-}
-
-fn can_refresh(old: &[u8], new: &[u8], links: usize) -> bool
-    ensures { λ r. ⌜ r ≡ canRefresh (now (old .entry)) (now (new .entry)) links ⌝ }
-{
-    if length_fits(links) {
-        if yard::yard_fits(old) {
-            return yard::yard_fits(new);
-        }
-    }
-    false
 }

@@ -1,11 +1,12 @@
 // The bits of a slot in every entry of an index.
 ghost use mathlib.Core.Path.{_≡_};
-ghost use mathlib.Core.Bool.{true};
+ghost use mathlib.Core.Bool.{true, cond};
 ghost use Prim.Native.Nat.{_<_, _≤_};
 ghost use lib.ListN.{length};
 ghost use Rattle.image.specs.Image.{pathCount};
-ghost use Rattle.link_index.specs.LinkIndex.{slotImage, isAccepted, built, sameBytes, changed, refreshed};
-ghost use Rattle.link_index.specs.Slots.{slotCleared, bitAdded, arrivalAdded, arrivalsAdded, slotBuilt, slotRefreshed};
+ghost use Rattle.link_index.specs.Bits.{bitOf, numberOf, withBit};
+ghost use Rattle.link_index.specs.LinkIndex.{slotImage, isAccepted, built, changed, refreshed};
+ghost use Rattle.link_index.specs.Slots.{slotCleared, bitAdded, arrivalAdded, arrivalsAdded, slotBuilt, slotRebuilt, slotsDone};
 use crate::bits;
 use disp_structs::LinkEvent;
 use disp_structs::events;
@@ -14,47 +15,77 @@ use image_fault;
 use image_fault::Widths;
 use link_rules::link_idx::TrainIdx;
 use link_rules::refusal::Refusal;
+use yard_check::bytes;
 use yard_check::yard;
 
 // ---- all slots
+
+// Those of the set are as in an index built afresh, and all others stay.
+pub(crate) fn rebuild_slots(yard: &[u8], set: u64, index: &mut [u64])
+    requires { ⌜ length (now index) ≤ 4000 ⌝ }
+    ensures { λ _. ⌜ now (index .exit) ≡ slotsDone (bitOf set) (now (yard .entry)) 64 (now (index .entry)) ⌝ }
+{
+    let mut t: u32 = 0;
+    while t < 64 {
+        rebuild_slot(yard, set, t, index);
+        t += 1;
+    }
+}
 
 // Bit 0 and those of slots that the yard has not become 0.
 pub(crate) fn build_slots(yard: &[u8], index: &mut [u64])
     requires { ⌜ length (now index) ≤ 4000 ⌝ }
     ensures { λ _. ⌜ now (index .exit) ≡ built (now (yard .entry)) (length (now (index .entry))) ⌝ }
 {
-    let mut t: u32 = 0;
-    while t < 64 {
-        build_slot(slot_image(yard, t), t, index);
-        t += 1;
-    }
+    rebuild_slots(yard, 0xffff_ffff_ffff_ffff, index)
 }
 
+// From an old yard to a new one.
 pub(crate) fn refresh_slots(old: &[u8], new: &[u8], index: &mut [u64])
     requires { ⌜ length (now index) ≤ 4000 ⌝ }
     ensures { λ _. ⌜ now (index .exit) ≡ refreshed (now (old .entry)) (now (new .entry)) (now (index .entry)) ⌝ }
 {
+    let set = changed_slots(old, new);
+    rebuild_slots(new, set, index)
+}
+
+// The set of the slots whose image changed.
+fn changed_slots(old: &[u8], new: &[u8]) -> u64
+    ensures { λ r. ⌜ r ≡ numberOf (changed (now (old .entry)) (now (new .entry))) 64 ⌝ }
+{
+    let mut set: u64 = 0;
     let mut t: u32 = 0;
     while t < 64 {
-        refresh_slot(old, new, t, index);
+        set = with_changed(old, new, t, set);
         t += 1;
     }
+    set
 }
 
 // ---- one slot
 
-fn refresh_slot(old: &[u8], new: &[u8], t: u32, index: &mut [u64])
-    requires { ⌜ (t < 64) × (length (now index) ≤ 4000) ⌝ }
-    ensures { λ _. ⌜ now (index .exit) ≡ slotRefreshed (now (old .entry)) (now (new .entry)) t (now (index .entry)) ⌝ }
+fn with_changed(old: &[u8], new: &[u8], t: u32, set: u64) -> u64
+    requires { ⌜ t < 64 ⌝ }
+    ensures { λ r. ⌜ r ≡ cond (changed (now (old .entry)) (now (new .entry)) t) (withBit set t true) set ⌝ }
 {
-    if same_bytes(slot_image(old, t), slot_image(new, t)) {
+    if bytes::same_bytes(slot_image(old, t), slot_image(new, t)) {
+        return set;
+    }
+    bits::with_bit(set, t)
+}
+
+fn rebuild_slot(yard: &[u8], set: u64, t: u32, index: &mut [u64])
+    requires { ⌜ (t < 64) × (length (now index) ≤ 4000) ⌝ }
+    ensures { λ _. ⌜ now (index .exit) ≡ slotRebuilt (bitOf set t) (now (yard .entry)) t (now (index .entry)) ⌝ }
+{
+    if bits::has_bit(set, t) {
+        build_slot(slot_image(yard, t), t, index);
         return;
     }
-    build_slot(slot_image(new, t), t, index);
 }
 
 // Clears the slot's bit in every entry, then sets it at the Arrive links of the path. A refused image's path is not walked.
-fn build_slot(image: &[u8], t: u32, index: &mut [u64])
+pub(crate) fn build_slot(image: &[u8], t: u32, index: &mut [u64])
     requires { ⌜ (t < 64) × (length (now index) ≤ 4000) ⌝ }
     ensures { λ _. ⌜ now (index .exit) ≡ slotBuilt (now (image .entry)) t (now (index .entry)) ⌝ }
 {
@@ -136,21 +167,4 @@ fn is_accepted(image: &[u8], links: u32) -> bool
     };
     let fault = image_fault::fault_with(image, links, Widths::Either, none);
     fault.number == 0
-}
-
-fn same_bytes(a: &[u8], b: &[u8]) -> bool
-    ensures { λ r. ⌜ r ≡ sameBytes (now (a .entry)) (now (b .entry)) ⌝ }
-{
-    if a.len() != b.len() {
-        return false;
-    }
-    let mut i = 0;
-    while i < a.len() {
-        if a[i] == b[i] {
-            i += 1;
-        } else {
-            return false;
-        }
-    }
-    true
 }

@@ -45,7 +45,7 @@ pub fn lay_out(est: &[u8], settings: Settings, image: &mut [u8]) -> Answer
 }
 
 // The first refusal, in document 01's order. The records are judged once train and sizes are good.
-fn lay_out_fault(est: &[u8], settings: Settings, size: usize) -> Refusal
+pub fn lay_out_fault(est: &[u8], settings: Settings, size: usize) -> Refusal
     ensures { λ r. ⌜ r ≡ layOutFault (now (est .entry)) settings size ⌝ }
 {
     let bad_train = refusal::refused_unless(settings.train_idx.0 != 0, 5);

@@ -11,7 +11,8 @@ use Rattle.link_rules.proofs.OctetLaws.{le-cong, le-put-same, le-put-other, len
 use Rattle.image.proofs.Writers.{Writes, then, put-to}
 use Rattle.yard_check.specs.Yard.{slotCount}
 use Rattle.yard_check.proofs.PatchLaws.{patch-length, patch-low, patch-high}
-use Rattle.undo.specs.Undo.{filledBytes, oldOffset, writtenOffset, oldYard, writtenYard, putBytes, withNumbers, withOld, withWritten, filled}
+use Rattle.yard_check.specs.Bytes.{putBytes}
+use Rattle.undo.specs.Undo.{filledBytes, oldOffset, writtenOffset, oldYard, writtenYard, withNumbers, withOld, withWritten, filled}
 
 -- the same bytes from a on, n of them
 pub span-same : (a n : ℕ) (xs ys : List ℕ) → a + n ≤ length xs → a + n ≤ length ys → ((i : ℕ) → a ≤ i → i < a + n → getD xs i 0 ≡ getD ys i 0) → take n (drop a xs) ≡ take n (drop a ys)

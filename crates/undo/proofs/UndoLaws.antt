@@ -24,7 +24,10 @@ use Rattle.yard_check.specs.Checks.{answeredOf, checkedOf}
 use Rattle.yard_check.specs.declared.check.Answer as Code
 use Rattle.yard_check.proofs.YardLaws.{fits}
 use Rattle.yard_check.proofs.CheckLaws.{taken, yard-length}
-use Rattle.undo.specs.Undo.{filledBytes, oldOffset, writtenOffset, oldYard, writtenYard, putBytes, withNumbers, withOld, withWritten, filled, roomFault, recordedFault, Recorded, recording, recordedDone, recordedBy, recordedWith, recordedOf, numbersFit, oldFits, wasWritten, undoFits, Undone, undoing, undoneBy, undone}
+use Rattle.yard_check.specs.Bytes.{putBytes, sameBytes}
+use Rattle.yard_check.proofs.SeenLaws.{lengths-same}
+use Rattle.image_fault.proofs.MatchLaws.{all-same}
+use Rattle.undo.specs.Undo.{filledBytes, oldOffset, writtenOffset, oldYard, writtenYard, withNumbers, withOld, withWritten, filled, roomFault, recordedFault, Recorded, recording, recordedDone, recordedBy, recordedWith, recordedOf, numbersFit, oldFits, wasWritten, undoFits, Undone, undoing, undoneBy, undone}
 use Rattle.undo.proofs.RecordLaws.{span-same, put-back, says-filled, says-slots, says-old, says-written, filled-length, filled-number, filled-old, filled-written}
 
 -- ---- what the test says
@@ -58,6 +61,15 @@ module _ (yard r : List ℕ) where
       ext-getD 0 (writtenYard y r) yard long (λ i l.
       let k : i < y = omega (arith, long) in
       written-at i k ∙ eqb-true (getD r (writtenOffset y + i) 0) (getD yard i 0) (all-at (λ j. eqb (getD r (writtenOffset y + j) 0) (getD yard j 0)) y i h k))
+
+  pub was-same : filledBytes y ≤ length r → sameBytes (writtenYard y r) yard ≡ wasWritten yard r
+  unfolding wasWritten
+  was-same room =
+      let long : length (writtenYard y r) ≡ y = length-take-le y (drop (writtenOffset y) r) (omega (arith, length-drop (writtenOffset y) r, room)) in
+      let test : ℕ → Bool = λ i. eqb (getD (writtenYard y r) i 0) (getD yard i 0) in
+      lengths-same (writtenYard y r) yard long
+      ∙ (ap (λ (n : ℕ). allBelow n test) long
+      ∙ all-same y test (λ i. eqb (getD r (writtenOffset y + i) 0) (getD yard i 0)) (λ i l. ap (λ (x : ℕ). eqb x (getD yard i 0)) (written-at i l)))
 
   yard-same : writtenYard y r ≡ yard → wasWritten yard r ≡ true
   unfolding wasWritten
@@ -158,7 +170,7 @@ module _ (old written r : List ℕ) (ok : yardFits old ≡ true) (long : length 
 
 -- ---- a check that was recorded
 
-room-clean : (y room : ℕ) → roomFault y room .number ≡ 0 → (filledBytes y ≤ room) × (filledBytes y < 4294967296)
+pub room-clean : (y room : ℕ) → roomFault y room .number ≡ 0 → (filledBytes y ≤ room) × (filledBytes y < 4294967296)
 unfolding roomFault
 room-clean y room h =
     let b = both (leb (filledBytes y) room) (ltb (filledBytes y) 4294967296) (refused-clean (leb (filledBytes y) room && ltb (filledBytes y) 4294967296) 20 (lit< tt) h) in

@@ -1,7 +1,7 @@
 -- Taking a check back (change request Q-5): the undo record, the check that fills one, and the undo; refusals 20 and 21. Assumes nothing.
 use Prim.Native.Nat.{ℕ, zero, suc, _+_, _*_}
 use mathlib.Core.Bool.{Bool, true, false, _&&_}
-use mathlib.Core.List.{List, _++_}
+use mathlib.Core.List.{List}
 use lib.Dec.{ltb, leb, eqb}
 use lib.ListN.{length, getD, take, drop}
 use Rattle.link_rules.specs.Octets.{leAt, putLe}
@@ -12,6 +12,7 @@ use Rattle.link_rules.specs.declared.refusal.Answer as Taken
 use Rattle.link_rules.specs.declared.refusal.Answer.the-variants as TakenBack
 use Rattle.image_fault.specs.declared.Widths.{Widths}
 use Rattle.image_fault.specs.declared.Widths.the-variants.{Narrow, Either}
+use Rattle.yard_check.specs.Bytes.{putBytes}
 use Rattle.yard_check.specs.Yard.{slotCount, yardFits}
 use Rattle.yard_check.specs.Check.{CheckArgs, Answer, Refused, Checked, checkFault, checkedWith}
 use Rattle.yard_check.specs.Checks.{answeredOf}
@@ -36,10 +37,6 @@ abbrev pub writtenYard : ℕ → List ℕ → List ℕ
 writtenYard y r = take y (drop (writtenOffset y) r)
 
 -- ---- a record is filled; buffer bytes beyond stay
-
--- with these bytes from k on
-unfoldable pub putBytes : ℕ → List ℕ → List ℕ → List ℕ
-putBytes k xs r = take k r ++ (xs ++ drop (k + length xs) r)
 
 -- the four numbers, for an old yard of y bytes and S slots
 unfoldable pub withNumbers : ℕ → ℕ → List ℕ → List ℕ

@@ -2,6 +2,7 @@
 use link_rules::octets;
 use link_rules::refusal;
 use link_rules::refusal::Refusal;
+use yard_check::bytes;
 use yard_check::yard;
 ghost use mathlib.Core.Path.{_≡_};
 ghost use mathlib.Core.Bool.{_&&_};
@@ -9,7 +10,7 @@ ghost use Prim.Native.Nat.{_+_, _≤_, _<_};
 ghost use lib.Dec.{eqb};
 ghost use lib.ListN.{length};
 ghost use Rattle.yard_check.specs.Yard.{slotCount, yardFits};
-ghost use Rattle.undo.specs.Undo.{filledBytes, writtenOffset, putBytes, withNumbers, withOld, withWritten, roomFault, numbersFit, oldFits, wasWritten, undoFits};
+ghost use Rattle.undo.specs.Undo.{filledBytes, withNumbers, withOld, withWritten, roomFault, numbersFit, oldFits, wasWritten, undoFits};
 
 // ---- 20
 
@@ -24,26 +25,6 @@ pub fn room_fault(y: usize, room: usize) -> Refusal
 }
 
 // ---- filled
-
-// Bytes into a buffer of their length.
-pub(crate) fn copy(to: &mut [u8], from: &[u8])
-    requires { ⌜ length (now to) ≡ length (now from) ⌝ }
-    ensures { λ _. ⌜ now (to .exit) ≡ now (from .entry) ⌝ }
-{
-    let mut i = 0;
-    while i < to.len() {
-        to[i] = from[i];
-        i += 1;
-    }
-}
-
-fn put_bytes(to: &mut [u8], k: usize, from: &[u8])
-    requires { ⌜ k + length (now from) ≤ length (now to) ⌝ }
-    ensures { λ _. ⌜ now (to .exit) ≡ putBytes k (now (from .entry)) (now (to .entry)) ⌝ }
-{
-    let e = k + from.len();
-    copy(&mut to[k..e], from)
-}
 
 fn put_numbers(to: &mut [u8], y: usize, slots: u32)
     requires { ⌜ filledBytes y < 4294967296 ⌝ }
@@ -61,7 +42,7 @@ pub(crate) fn put_old(to: &mut [u8], old: &[u8])
     ensures { λ _. ⌜ now (to .exit) ≡ withOld (now (old .entry)) (now (to .entry)) ⌝ }
 {
     put_numbers(to, old.len(), yard::slot_count(old));
-    put_bytes(to, 16, old)
+    bytes::put_bytes(to, 16, old)
 }
 
 // After the check: the yard that it wrote.
@@ -69,7 +50,7 @@ pub(crate) fn put_written(to: &mut [u8], written: &[u8])
     requires { ⌜ filledBytes (length (now written)) ≤ length (now to) ⌝ }
     ensures { λ _. ⌜ now (to .exit) ≡ withWritten (now (written .entry)) (now (to .entry)) ⌝ }
 {
-    put_bytes(to, 16 + written.len(), written)
+    bytes::put_bytes(to, 16 + written.len(), written)
 }
 
 // ---- read
@@ -118,15 +99,8 @@ fn was_written(yard: &[u8], undo_record: &[u8]) -> bool
     ensures { λ r. ⌜ r ≡ wasWritten (now (yard .entry)) (now («undo_record» .entry)) ⌝ }
 {
     let at = 16 + yard.len();
-    let mut i = 0;
-    while i < yard.len() {
-        if undo_record[at + i] == yard[i] {
-            i += 1;
-        } else {
-            return false;
-        }
-    }
-    true
+    let e = at + yard.len();
+    bytes::same_bytes(&undo_record[at..e], yard)
 }
 
 // Whether the record undoes to this yard; where it does not, it is refused by 21.

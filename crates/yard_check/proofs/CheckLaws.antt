@@ -38,7 +38,7 @@ pub record Taken (yard occ : List ℕ) (a : CheckArgs) (long : ℕ) : Type 0 whe
   pub begin-high : a .begin ≤ slotCount yard + 1
   pub report-long : long ≡ rowSize (wideRows (a .widths) yard) * slotCount yard
 
-clean-test : (n : ℕ) (x : Bool) → cond x noRefusal (refused (suc n) 0) .number ≡ 0 → x ≡ true
+pub clean-test : (n : ℕ) (x : Bool) → cond x noRefusal (refused (suc n) 0) .number ≡ 0 → x ≡ true
 clean-test n true k = refl
 clean-test n false k = absurd (omega arith)
 

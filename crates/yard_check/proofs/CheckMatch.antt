@@ -79,7 +79,7 @@ module _ (yard occ : List ℕ) (a : CheckArgs) (t : ℕ) (l : 1 ≤ t) (m : t �
   room-by Narrow = omega (arith, holder-up Narrow, narrow-holder image occ (a .blocking) (a .moved) (a .local) (a .limit) b w)
   room-by Either = either-room (wideRows Either yard) refl
 
-  holder-room : visited occ a t image .row .holder < holderRoom (wideRows (a .widths) yard)
+  pub holder-room : visited occ a t image .row .holder < holderRoom (wideRows (a .widths) yard)
   unfolding visited
   holder-room = room-by (a .widths)
 

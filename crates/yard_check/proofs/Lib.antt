@@ -9,6 +9,7 @@ pub mod ReportLaws
 pub mod CheckLaws
 pub mod RowLaws
 pub mod WidthLaws
+pub mod SeenLaws
 pub mod TurnLaws
 pub mod VisitMatch
 pub mod CheckMatch

@@ -1,4 +1,4 @@
--- What a visit leaves: an image of the same length, train and width, and bytes; the same image where the row says refused. Assumes nothing.
+-- What a visit leaves: an image of the same length, train, width and room, and bytes; the same image where the row says refused. Assumes nothing.
 use mathlib.Core.Path.{_≡_, refl, ap, _∙_}
 use mathlib.Core.Logic.{_⊎_, inl, inr}
 use mathlib.Core.Bool.{Bool, true, false, cond}
@@ -11,7 +11,7 @@ use Rattle.link_rules.specs.Octets.{leAt}
 use Rattle.link_rules.proofs.OctetLaws.{Bytes}
 use Rattle.disp_structs.specs.Train.{Train}
 use Rattle.image.specs.Fields.{divergeWords, divergeSize}
-use Rattle.image.specs.Image.{isWide, nodePlace, divergePlace, putNode, putDiverge, putPathHeader}
+use Rattle.image.specs.Image.{divergeRoom, isWide, nodePlace, divergePlace, putNode, putDiverge, putPathHeader}
 use Rattle.image.specs.Codec.{pathHeaderOf, putRecords, putChanges, storedInto}
 use Rattle.image.proofs.Writers.{zero-writes, each-writes, le-outside}
 use Rattle.image.proofs.RecordLaws.{node-writes, diverge-writes}
@@ -27,7 +27,7 @@ use Rattle.yard_check.specs.Yard.{slotCount, partOf}
 use Rattle.yard_check.specs.Check.{CheckArgs, Row, unvisitedRow, finishedRow, movedRow, refusedRow, statusRow, updatedRow, visit, visitBy, visited, isFinished, slotVisit, slotRow, slotImage}
 use Rattle.yard_check.proofs.YardLaws.{Fits, ImagesFit, TrainsStay, part-bytes}
 
--- ---- train and width in the header of an image stay
+-- ---- train, width and room for diverge records in the header of an image stay
 
 -- a field of the header behind the counts that lies before fixed or behind back
 stored-field : (v k : ℕ) → 16 ≤ k → k + v ≤ 64 → ((k + v ≤ 34) ⊎ (42 ≤ k)) → (t : Train) (bs : List ℕ) → leAt v (storedInto t bs) k ≡ leAt v bs k
@@ -107,6 +107,9 @@ module _ (occ : List ℕ) (a : CheckArgs) (t : ℕ) (img : List ℕ) where
   visit-width =
       ap (λ (x : ℕ). eqb x 1) (visit-keeps (λ (x : List ℕ). leAt 1 x 42 ≡ leAt 1 img 42) refl (field-kept 1 42 (omega arith) (omega arith) (inr (omega arith)) (a .widths) occ (a .blocking) (a .moved) (a .local) (a .limit) img))
 
+  pub visit-room : divergeRoom (visited occ a t img .image) ≡ divergeRoom img
+  visit-room = visit-keeps (λ (x : List ℕ). divergeRoom x ≡ divergeRoom img) refl (field-kept 4 16 (omega arith) (omega arith) (inl (omega arith)) (a .widths) occ (a .blocking) (a .moved) (a .local) (a .limit) img)
+
   -- a train whose row says refused keeps its image
   visit-refused : 16 ≤ visited occ a t img .row .code → visited occ a t img .image ≡ img
   visit-refused =
@@ -143,6 +146,9 @@ module _ (yard occ : List ℕ) (a : CheckArgs) (t : ℕ) where
 
   pub slot-width : isWide (slotImage yard occ a t) ≡ isWide (partOf yard t)
   slot-width = slot-has (λ (x : List ℕ). isWide x ≡ isWide (partOf yard t)) refl (visit-width occ a t (partOf yard t))
+
+  pub slot-room : divergeRoom (slotImage yard occ a t) ≡ divergeRoom (partOf yard t)
+  slot-room = slot-has (λ (x : List ℕ). divergeRoom x ≡ divergeRoom (partOf yard t)) refl (visit-room occ a t (partOf yard t))
 
   -- a slot whose row says refused keeps its image
   pub slot-refused : 16 ≤ slotRow yard occ a t .code → slotImage yard occ a t ≡ partOf yard t

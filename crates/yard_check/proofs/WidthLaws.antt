@@ -30,7 +30,7 @@ use Rattle.yard_check.proofs.CheckLaws.{taken, by, slots-kept}
 abbrev isWideIn : List ℕ → ℕ → Bool
 isWideIn yard t = isWide (partOf yard t)
 
-held-by : (b : Bool) (img : List ℕ) → (b ≡ true → isWide img ≡ true) → largestOf b ≤ largestTrain img
+pub held-by : (b : Bool) (img : List ℕ) → (b ≡ true → isWide img ≡ true) → largestOf b ≤ largestTrain img
 unfolding largestOf
 held-by true img h = rw (h refl) (omega arith)
 held-by false img h = narrow-held img

@@ -19,19 +19,17 @@ use Rattle.image_fault.proofs.ScanLaws.{both}
 use Rattle.image_fault.proofs.MatchLaws.{all-same}
 use Rattle.yard_check.specs.Yard.{yardSize, slotCount, partBegin, partEnd, partOf, withPart, partFits, yardFits}
 use Rattle.yard_check.specs.Check.{yardAfter}
+use Rattle.yard_check.specs.Checks.{Lies}
 use Rattle.yard_check.proofs.PatchLaws.{le-moved, patched, patch-length, patch-low, patch-mid, patch-high, patch-bytes}
 
 -- ---- what 14 says
 
-pub record Fits (yard : List ℕ) : Type 0 where
-  pub size : yardSize yard ≡ length yard
-  pub some : 1 ≤ slotCount yard
-  pub few : slotCount yard ≤ 63
-  pub first : partBegin yard 1 ≡ 8 + 4 * slotCount yard
-  pub part : (t : ℕ) → 1 ≤ t → t ≤ slotCount yard → partFits yard t ≡ true
+-- where the parts lie
+abbrev pub Fits : List ℕ → Type 0
+Fits yard = Lies yard
 
 pub fits : (yard : List ℕ) → yardFits yard ≡ true → Fits yard
-unfolding yardFits
+unfolding yardFits partFits
 fits yard h =
     let a = both (eqb (yardSize yard) (length yard)) _ h in
     let b = both (leb 1 (slotCount yard)) _ (a .1) in
@@ -44,8 +42,21 @@ fits yard h =
       first = eqb-true (partBegin yard 1) (8 + 4 * slotCount yard) (d .0);
       part = λ t l m.
           let k : t - 1 + 1 ≡ t = omega arith in
-          rw k at (all-at (λ i. partFits yard (i + 1)) (slotCount yard) (t - 1) (d .1) (omega arith));
+          let p : partFits yard t ≡ true = rw k at (all-at (λ i. partFits yard (i + 1)) (slotCount yard) (t - 1) (d .1) (omega arith)) in
+          leb-true (partBegin yard t + 64) (partEnd yard t) (both (leb (partBegin yard t + 64) (partEnd yard t)) (eqb (leAt 2 yard (partBegin yard t + 32)) t) p .0);
     }
+
+-- and that each has the train of its slot
+pub part-train : (yard : List ℕ) → yardFits yard ≡ true → (t : ℕ) → 1 ≤ t → t ≤ slotCount yard → leAt 2 yard (partBegin yard t + 32) ≡ t
+unfolding yardFits partFits
+part-train yard h t l m =
+    let a = both (eqb (yardSize yard) (length yard)) _ h in
+    let b = both (leb 1 (slotCount yard)) _ (a .1) in
+    let c = both (leb (slotCount yard) 63) _ (b .1) in
+    let d = both (eqb (partBegin yard 1) (8 + 4 * slotCount yard)) (allBelow (slotCount yard) (λ i. partFits yard (i + 1))) (c .1) in
+    let k : t - 1 + 1 ≡ t = omega arith in
+    let p : partFits yard t ≡ true = rw k at (all-at (λ i. partFits yard (i + 1)) (slotCount yard) (t - 1) (d .1) (omega arith)) in
+    eqb-true (leAt 2 yard (partBegin yard t + 32)) t (both (leb (partBegin yard t + 64) (partEnd yard t)) (eqb (leAt 2 yard (partBegin yard t + 32)) t) p .1)
 
 -- ---- where the parts lie
 
@@ -54,12 +65,7 @@ module _ (yard : List ℕ) (f : Fits yard) where
   S = slotCount yard
 
   pub part-long : (t : ℕ) → 1 ≤ t → t ≤ S → partBegin yard t + 64 ≤ partEnd yard t
-  unfolding partFits
-  part-long t l m = leb-true (partBegin yard t + 64) (partEnd yard t) (both (leb (partBegin yard t + 64) (partEnd yard t)) _ (f .part t l m) .0)
-
-  pub part-train : (t : ℕ) → 1 ≤ t → t ≤ S → leAt 2 yard (partBegin yard t + 32) ≡ t
-  unfolding partFits
-  part-train t l m = eqb-true (leAt 2 yard (partBegin yard t + 32)) t (both (leb (partBegin yard t + 64) (partEnd yard t)) _ (f .part t l m) .1)
+  part-long t l m = f .part t l m
 
   pub end-next : (t : ℕ) → t < S → partEnd yard t ≡ partBegin yard (t + 1)
   unfolding partEnd
@@ -282,3 +288,18 @@ module _ (yard : List ℕ) (f : Fits yard) (img : ℕ → List ℕ) (fit : Image
       let w = left n (omega arith) in
       rw (next n h w)
       (patch-bytes (b n h w) (e n h w) (img (suc n)) (z n) (up n h w) (inside n h w) (long n h w) (after-bytes i c n (omega arith)) (i (suc n) (omega arith) h))
+
+  -- the parts lie as they lay
+  pub after-lies : (n : ℕ) → n ≤ S′ → Fits (z n)
+  after-lies n h =
+      let w = left n h in
+      let k = slots-after n h in
+      record {
+        size = le-cong 4 (z n) yard 0 (λ i l m. w .head i (omega arith)) ∙ (f .size ∙ sym (w .long));
+        some = omega (arith, k, f .some);
+        few = omega (arith, k, f .few);
+        first = same-begin n w 1 (f .some) ∙ (f .first ∙ ap (λ (x : ℕ). 8 + 4 * x) (sym k));
+        part = λ t l m.
+            let m′ : t ≤ S′ = omega (arith, k) in
+            omega (arith, same-begin n w t m′, same-end n w t m′, part-long yard f t l m′);
+      }

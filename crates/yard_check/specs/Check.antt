@@ -1,6 +1,6 @@
 -- The check over a yard (document 01, Check; check_deadlock, dispatch.rs 45-91): its refusals in order, the visits to the slots, the report, the answer.
 -- One definition over the widths of images that a call takes (document 02, Q-6). Assumes nothing.
-use Prim.Native.Nat.{ℕ, zero, suc, _+_, _*_, _-_}
+use Prim.Native.Nat.{ℕ, zero, suc, _+_, _*_, _-_, _^_}
 use mathlib.Core.Bool.{Bool, true, false, cond, not, _&&_}
 use mathlib.Core.List.{List}
 use lib.Dec.{ltb, leb, eqb}
@@ -17,6 +17,7 @@ use Rattle.link_rules.specs.declared.refusal.Refusal.{Refusal}
 use Rattle.update_definition.specs.Update.{Answer as UpdateAnswer, Status, Success, Blocked, Faulty, Refused as UpdateRefused}
 use Rattle.update_definition.specs.UpdateImage.{UpdatedImage, callFault, updatedImageIn}
 use Rattle.wide_occupancy.specs.WideOccupancy.{largeTrainFault}
+use Rattle.yard_check.specs.Bytes.{sameBytes}
 use Rattle.yard_check.specs.Yard.{slotCount, partOf, withPart, yardFault}
 
 -- what a check is given beside the yard, the occupancy and the report
@@ -325,3 +326,18 @@ checked yard occ blocking moved begin local limit report = checkedIn Narrow yard
 
 abbrev pub checkedWide : List ℕ → List ℕ → List ℕ → ℕ → ℕ → Bool → ℕ → List ℕ → Checked
 checkedWide yard occ blocking moved begin local limit report = checkedIn Either yard occ blocking moved begin local limit report
+
+-- ---- which images a check changed (document 02, Q-10)
+
+-- the set of the slots 1 to n that pass: slot t is the bit 2 ^ t
+unfoldable pub slotSet : (ℕ → Bool) → ℕ → ℕ
+slotSet test zero = 0
+slotSet test (suc n) = cond (test (suc n)) (2 ^ suc n) 0 + slotSet test n
+
+-- an image changed, byte for byte, and room of so many bytes holds its copy
+unfoldable pub isSeen : (room : ℕ) (before after : List ℕ) → Bool
+isSeen room before after = leb (length before) room && not (sameBytes before after)
+
+-- the slots of a yard whose image is another in the yard that a check left
+unfoldable pub changedSlots : (room : ℕ) (yard left : List ℕ) → ℕ
+changedSlots room yard left = slotSet (λ t. isSeen room (partOf yard t) (partOf left t)) (slotCount yard)

@@ -1,4 +1,5 @@
 pub mod Yard
+pub mod Bytes
 pub mod Check
 pub mod Checks
 pub mod YardMatch

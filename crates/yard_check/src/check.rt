@@ -1,6 +1,7 @@
 // check_deadlock (document 01, Check; dispatch.rs 45-91): the refusals, the visits to the slots, the report, the answer.
 // A slot is worked by update_free_path alone, of which only the promise is used. One loop over the slots serves the check over u16 entries, which takes
-// narrow images, and the one over u32 entries, which takes both widths (document 02, Q-6).
+// narrow images, and the one over u32 entries, which takes both widths (document 02, Q-6). Lent room for an image it tells which slots changed (Q-10).
+use crate::bytes;
 use crate::yard;
 use free_path::columns;
 use image::codec;
@@ -20,7 +21,7 @@ use wide_occupancy::trains;
 ghost use mathlib.Core.Path.{_≡_};
 ghost use mathlib.Core.Bool.{true, false, cond, not, _&&_};
 ghost use mathlib.Core.List.{List, []};
-ghost use Prim.Native.Nat.{ℕ, _+_, _*_, _≤_, _<_};
+ghost use Prim.Native.Nat.{ℕ, _+_, _*_, _^_, _≤_, _<_};
 ghost use lib.Dec.{eqb};
 ghost use lib.ListN.{length};
 ghost use Rattle.image.specs.Image.{isWide, largestOf};
@@ -32,7 +33,7 @@ ghost use Rattle.update_definition.specs.UpdateImage.{callFault, givenFault, up
 ghost use Rattle.update_free_path.specs.Updates as Updates;
 ghost use Rattle.yard_check.specs.Yard.{slotCount, partOf};
 ghost use Rattle.yard_check.specs.Check as Check;
-ghost use Rattle.yard_check.specs.Checks.{argsOf, rowOf, answeredOf, checkedOf, staysRow, ColumnsFit, talliedOf, tallyAfter, NextTurn, Visits, SlotVisited, AllVisited};
+ghost use Rattle.yard_check.specs.Checks.{argsOf, rowOf, answeredOf, checkedOf, WatchedAs, staysRow, ColumnsFit, talliedOf, NextTurn, Visits, SlotVisited, Spans, SpanVisited, AllVisited};
 
 pub enum Answer {
     Refused(Refusal),
@@ -59,11 +60,31 @@ pub(crate) struct Row {
     pub met: TrainIdx,
 }
 
-// The slots that erred, those that are blocked, and the first one that is not finished.
+// A visit: its record of the report, and whether the image was seen to change.
+pub(crate) struct Seen {
+    pub row: Row,
+    pub changed: bool,
+}
+
+// The slots that erred, those that are blocked, the first one that is not finished, and the set of those whose image changed.
 pub(crate) struct Counts {
     pub erred: u32,
     pub blocked: u32,
     pub next: u16,
+    pub changed: u64,
+}
+
+// The slots that a loop visits, those behind from up to until, and the width of the report's records.
+pub(crate) struct Span {
+    pub from: u16,
+    pub until: u16,
+    pub wide: bool,
+}
+
+// The answer, and the set of the slots whose image changed: slot t is the bit 2^t.
+pub struct Watched {
+    pub answer: Answer,
+    pub changed: u64,
 }
 
 // ---- the widths of the images of a yard (document 02, Q-6)
@@ -97,7 +118,7 @@ pub(crate) fn wide_rows(yard: &[u8], w: Widths) -> bool
     }
 }
 
-fn largest_of(wide: bool) -> u32
+pub(crate) fn largest_of(wide: bool) -> u32
     ensures { λ r. ⌜ r ≡ largestOf wide ⌝ }
 {
     if wide { 999999 } else { 65535 }
@@ -151,7 +172,7 @@ fn report_fault(wide: bool, slots: u32, long: usize) -> Refusal
 }
 
 // 15, 16.
-fn slots_or_report_fault(wide: bool, slots: u32, a: Args, long: usize) -> Refusal
+pub(crate) fn slots_or_report_fault(wide: bool, slots: u32, a: Args, long: usize) -> Refusal
     ensures { λ r. ⌜ ((w : Widths) → r ≡ orElse (Check.slotsFault slots (argsOf w [] a)) (Check.reportFault wide slots long)) ⌝ }
 {
     let s = slots_fault(slots, a);
@@ -359,17 +380,50 @@ fn visit(img: &mut [u8], w: Widths, occ: &[u32], blocking: &[u32], a: Args, t: u
     updated_row(u)
 }
 
+// The image is copied before the visit, where the room holds it, and compared after it (document 02, Q-10).
+fn seen_visit(
+    img: &mut [u8],
+    w: Widths,
+    occ: &[u32],
+    blocking: &[u32],
+    a: Args,
+    t: u16,
+    room: &mut [u8],
+) -> Seen
+    requires { ⌜ (callFault (now occ) (now blocking) (a .moved .0) (a .limit) .number ≡ 0) × (givenFault w (now img) (now occ) (a .moved .0) ≡ noRefusal) ⌝ }
+    ensures { λ r. ⌜ (Check.visit (rowOf (r .row)) (now (img .exit)) ≡ Check.visited (now (occ .entry)) (argsOf w (now (blocking .entry)) a) t (now (img .entry)))
+        × (r .changed ≡ Check.isSeen (length (now (room .entry))) (now (img .entry)) (now (img .exit))) ⌝ }
+{
+    bytes::put_bytes(room, 0, img);
+    let r = visit(img, w, occ, blocking, a, t);
+    Seen {
+        row: r,
+        changed: bytes::differs(img, room),
+    }
+}
+
 // The slot's own part of the yard is lent to the visit. Slots below begin are not visited.
-fn slot_visit(yard: &mut [u8], w: Widths, occ: &[u32], blocking: &[u32], a: Args, t: u16) -> Row
+fn slot_visit(
+    yard: &mut [u8],
+    w: Widths,
+    occ: &[u32],
+    blocking: &[u32],
+    a: Args,
+    t: u16,
+    room: &mut [u8],
+) -> Seen
     requires { ⌜ Visits (now yard) (now occ) (argsOf w (now blocking) a) t ⌝ }
-    ensures { λ r. ⌜ SlotVisited (now (yard .entry)) (now (occ .entry)) (argsOf w (now (blocking .entry)) a) t r (now (yard .exit)) ⌝ }
+    ensures { λ r. ⌜ SlotVisited (now (yard .entry)) (now (occ .entry)) (argsOf w (now (blocking .entry)) a) t (length (now (room .entry))) r (now (yard .exit)) ⌝ }
 {
     if t < a.begin {
-        return plain_row(0);
+        return Seen {
+            row: plain_row(0),
+            changed: false,
+        };
     }
     let from = yard::part_from(yard, t as u32);
     let until = yard::part_until(yard, t as u32);
-    visit(&mut yard[from..until], w, occ, blocking, a, t)
+    seen_visit(&mut yard[from..until], w, occ, blocking, a, t, room)
 }
 
 // ---- all slots
@@ -387,44 +441,80 @@ fn next_begin(next: u16, finished: bool, t: u16) -> u16
     next
 }
 
-fn tallied(y: Counts, r: Row, t: u16) -> Counts
+// The set of slot t alone, or the empty one.
+fn bit_if(b: bool, t: u16) -> u64
+    requires { ⌜ t ≤ 63 ⌝ }
+    ensures { λ r. ⌜ r ≡ cond b (2 ^ t) 0 ⌝ }
+{
+    if b {
+        return 1u64 << (t as u32);
+    }
+    0
+}
+
+fn tallied(y: Counts, s: Seen, t: u16) -> Counts
     requires { ⌜ NextTurn y t ⌝ }
-    ensures { λ x. ⌜ x ≡ talliedOf y (rowOf r) t ⌝ }
+    ensures { λ x. ⌜ x ≡ talliedOf y (rowOf (s .row)) (s .changed) t ⌝ }
 {
     Counts {
-        erred: one_if(5 <= r.code) + y.erred,
-        blocked: one_if(r.code == 4) + y.blocked,
-        next: next_begin(y.next, r.code == 1, t),
+        erred: one_if(5 <= s.row.code) + y.erred,
+        blocked: one_if(s.row.code == 4) + y.blocked,
+        next: next_begin(y.next, s.row.code == 1, t),
+        changed: bit_if(s.changed, t) + y.changed,
     }
 }
 
-// Every slot, after a blocked, faulty or refused one too.
-fn visits(
+// Every slot of the span, after a blocked, faulty or refused one too. y has the counts of those before it.
+pub(crate) fn visits(
+    yard: &mut [u8],
+    w: Widths,
+    occ: &[u32],
+    blocking: &[u32],
+    a: Args,
+    s: Span,
+    y: Counts,
+    report: &mut [u8],
+    room: &mut [u8],
+) -> Counts
+    requires { ⌜ Spans (now yard) (now occ) (argsOf w (now blocking) a) s y ⌝ }
+    ensures { λ x. ⌜ SpanVisited (now (yard .entry)) (now (occ .entry)) (argsOf w (now (blocking .entry)) a) s (length (now (room .entry))) y (now (report .entry)) x (now (yard .exit)) (now (report .exit)) ⌝ }
+{
+    let mut x = y;
+    let mut n = s.from;
+    while n < s.until {
+        let r = slot_visit(yard, w, occ, blocking, a, n + 1, room);
+        put_row(report, s.wide, rows_length(s.wide, n as u32), r.row);
+        x = tallied(x, r, n + 1);
+        n += 1;
+    }
+    x
+}
+
+// All slots.
+fn visits_all(
     yard: &mut [u8],
     w: Widths,
     occ: &[u32],
     blocking: &[u32],
     a: Args,
     report: &mut [u8],
+    room: &mut [u8],
 ) -> Counts
     requires { ⌜ Check.checkFault (now yard) (now occ) (argsOf w (now blocking) a) (length (now report)) .number ≡ 0 ⌝ }
-    ensures { λ x. ⌜ AllVisited (now (yard .entry)) (now (occ .entry)) (argsOf w (now (blocking .entry)) a) (now (report .entry)) x (now (yard .exit)) (now (report .exit)) ⌝ }
+    ensures { λ x. ⌜ AllVisited (now (yard .entry)) (now (occ .entry)) (argsOf w (now (blocking .entry)) a) (now (report .entry)) (length (now (room .entry))) x (now (yard .exit)) (now (report .exit)) ⌝ }
 {
-    let slots = yard::slot_count(yard) as u16;
-    let wide = wide_rows(yard, w);
-    let mut y = Counts {
+    let s = Span {
+        from: 0,
+        until: yard::slot_count(yard) as u16,
+        wide: wide_rows(yard, w),
+    };
+    let none = Counts {
         erred: 0,
         blocked: 0,
         next: a.begin,
+        changed: 0,
     };
-    let mut n: u16 = 0;
-    while n < slots {
-        let r = slot_visit(yard, w, occ, blocking, a, n + 1);
-        put_row(report, wide, rows_length(wide, n as u32), r);
-        y = tallied(y, r, n + 1);
-        n += 1;
-    }
-    y
+    visits(yard, w, occ, blocking, a, s, none, report, room)
 }
 
 // Of a check over u16 entries: the occupancy is widened once for all slots, into room of its length.
@@ -435,12 +525,13 @@ fn visits_widened(
     blocking: &[u32],
     a: Args,
     report: &mut [u8],
+    room: &mut [u8],
 ) -> Counts
     requires { ⌜ (Check.checkFault (now yard) (now occ) (argsOf Narrow (now blocking) a) (length (now report)) .number ≡ 0) × (length (now wide) ≡ length (now occ)) ⌝ }
-    ensures { λ x. ⌜ AllVisited (now (yard .entry)) (now (occ .entry)) (argsOf Narrow (now (blocking .entry)) a) (now (report .entry)) x (now (yard .exit)) (now (report .exit)) ⌝ }
+    ensures { λ x. ⌜ AllVisited (now (yard .entry)) (now (occ .entry)) (argsOf Narrow (now (blocking .entry)) a) (now (report .entry)) (length (now (room .entry))) x (now (yard .exit)) (now (report .exit)) ⌝ }
 {
     columns::widen(occ, wide);
-    visits(yard, Widths::Narrow, wide, blocking, a, report)
+    visits_all(yard, Widths::Narrow, wide, blocking, a, report, room)
 }
 
 // Room for at most 512 links.
@@ -450,13 +541,14 @@ fn visits_small(
     blocking: &[u32],
     a: Args,
     report: &mut [u8],
+    room: &mut [u8],
 ) -> Counts
     requires { ⌜ (Check.checkFault (now yard) (now occ) (argsOf Narrow (now blocking) a) (length (now report)) .number ≡ 0) × (length (now occ) ≤ 512) ⌝ }
-    ensures { λ x. ⌜ AllVisited (now (yard .entry)) (now (occ .entry)) (argsOf Narrow (now (blocking .entry)) a) (now (report .entry)) x (now (yard .exit)) (now (report .exit)) ⌝ }
+    ensures { λ x. ⌜ AllVisited (now (yard .entry)) (now (occ .entry)) (argsOf Narrow (now (blocking .entry)) a) (now (report .entry)) (length (now (room .entry))) x (now (yard .exit)) (now (report .exit)) ⌝ }
 {
     let mut wide = [0u32; 512];
     let n = occ.len();
-    visits_widened(yard, occ, &mut wide[..n], blocking, a, report)
+    visits_widened(yard, occ, &mut wide[..n], blocking, a, report, room)
 }
 
 fn visits_large(
@@ -465,18 +557,19 @@ fn visits_large(
     blocking: &[u32],
     a: Args,
     report: &mut [u8],
+    room: &mut [u8],
 ) -> Counts
     requires { ⌜ Check.checkFault (now yard) (now occ) (argsOf Narrow (now blocking) a) (length (now report)) .number ≡ 0 ⌝ }
-    ensures { λ x. ⌜ AllVisited (now (yard .entry)) (now (occ .entry)) (argsOf Narrow (now (blocking .entry)) a) (now (report .entry)) x (now (yard .exit)) (now (report .exit)) ⌝ }
+    ensures { λ x. ⌜ AllVisited (now (yard .entry)) (now (occ .entry)) (argsOf Narrow (now (blocking .entry)) a) (now (report .entry)) (length (now (room .entry))) x (now (yard .exit)) (now (report .exit)) ⌝ }
 {
     let mut wide = [0u32; 4000];
     let n = occ.len();
-    visits_widened(yard, occ, &mut wide[..n], blocking, a, report)
+    visits_widened(yard, occ, &mut wide[..n], blocking, a, report, room)
 }
 
 // ---- the answer
 
-fn answered(y: Counts) -> Answer
+pub(crate) fn answered(y: Counts) -> Answer
     ensures { λ r. ⌜ answeredOf r ≡ Check.answerBy (y .erred) (not (eqb (y .blocked) 0)) (y .next) ⌝ }
 {
     if y.erred != 0 {
@@ -486,6 +579,64 @@ fn answered(y: Counts) -> Answer
         deadlock: y.blocked != 0,
         next: y.next,
     }
+}
+
+// With the set of changed slots.
+fn all_watched(y: Counts) -> Watched
+    ensures { λ r. ⌜ (answeredOf (r .answer) ≡ Check.answerBy (y .erred) (not (eqb (y .blocked) 0)) (y .next)) × (r .changed ≡ y .changed) ⌝ }
+{
+    Watched {
+        answer: answered(y),
+        changed: y.changed,
+    }
+}
+
+fn refused(f: Refusal) -> Watched
+    ensures { λ r. ⌜ (answeredOf (r .answer) ≡ Check.Refused f) × (r .changed ≡ 0) ⌝ }
+{
+    Watched {
+        answer: Answer::Refused(f),
+        changed: 0,
+    }
+}
+
+// check_deadlock, and which images changed, of those that the room holds (document 02, Q-10). The room's bytes are scratch.
+pub fn check_watched(
+    yard: &mut [u8],
+    occ: &[u16],
+    blocking: &[u32],
+    a: Args,
+    report: &mut [u8],
+    room: &mut [u8],
+) -> Watched
+    ensures { λ x. ⌜ WatchedAs Narrow (now (yard .entry)) (now (occ .entry)) (now (blocking .entry)) a (now (report .entry)) (length (now (room .entry))) x (now (yard .exit)) (now (report .exit)) ⌝ }
+{
+    let f = check_fault(yard, occ.len(), blocking, a, report.len());
+    if f.number != 0 {
+        return refused(f);
+    }
+    if 512 < occ.len() {
+        return all_watched(visits_large(yard, occ, blocking, a, report, room));
+    }
+    all_watched(visits_small(yard, occ, blocking, a, report, room))
+}
+
+// check_wide, and which images changed.
+pub fn check_wide_watched(
+    yard: &mut [u8],
+    occ: &[u32],
+    blocking: &[u32],
+    a: Args,
+    report: &mut [u8],
+    room: &mut [u8],
+) -> Watched
+    ensures { λ x. ⌜ WatchedAs Either (now (yard .entry)) (now (occ .entry)) (now (blocking .entry)) a (now (report .entry)) (length (now (room .entry))) x (now (yard .exit)) (now (report .exit)) ⌝ }
+{
+    let f = check_wide_fault(yard, occ, blocking, a, report.len());
+    if f.number != 0 {
+        return refused(f);
+    }
+    all_watched(visits_all(yard, Widths::Either, occ, blocking, a, report, room))
 }
 
 // Visits every slot from begin on, over u16 entries. Refused by 2, 4, 5, 14, 15 and 16: then nothing is changed.
@@ -507,14 +658,9 @@ pub fn check_deadlock(
         local: local,
         limit: limit,
     };
-    let f = check_fault(yard, occ.len(), blocking, a, report.len());
-    if f.number != 0 {
-        return Answer::Refused(f);
-    }
-    if 512 < occ.len() {
-        return answered(visits_large(yard, occ, blocking, a, report));
-    }
-    answered(visits_small(yard, occ, blocking, a, report))
+    let mut none = [0u8; 1];
+    let x = check_watched(yard, occ, blocking, a, report, &mut none[..0]);
+    x.answer
 }
 
 // The check over u32 entries, of images of either width (document 02, Q-6). Refused by 2, 4, 5, 14, 22, 15 and 16: then nothing is changed.
@@ -536,9 +682,7 @@ pub fn check_wide(
         local: local,
         limit: limit,
     };
-    let f = check_wide_fault(yard, occ, blocking, a, report.len());
-    if f.number != 0 {
-        return Answer::Refused(f);
-    }
-    answered(visits(yard, Widths::Either, occ, blocking, a, report))
+    let mut none = [0u8; 1];
+    let x = check_wide_watched(yard, occ, blocking, a, report, &mut none[..0]);
+    x.answer
 }

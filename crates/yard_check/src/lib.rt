@@ -1,6 +1,7 @@
 // The check over a yard (document 01, Yard and Check), the theorem of demand 3, and the sheet.
 // Every function here is proved, the crate assumes nothing of its own, and no public function has a `requires`.
 pub mod bundle;
+pub mod bytes;
 pub mod check;
 pub mod sheet;
 pub mod yard;

@@ -13,53 +13,14 @@ abbrev μ-loop : tie.MeasureT-loop
 loop-holds : tie.Need-loop-holds Inv-loop μ-loop
 loop-holds c = search needs
 
-mul-with : tie.Need-mul-with Inv-loop μ-loop
-mul-with c = search needs
+mul-with-u32 : tie.Need-mul-with-u32 Inv-loop μ-loop
+mul-with-u32 c = search needs
 
-shared-slice-read-with : tie.Need-shared-slice-read-with Inv-loop μ-loop
-shared-slice-read-with c = search needs
+shared-slice-read-with-u32 : tie.Need-shared-slice-read-with-u32 Inv-loop μ-loop
+shared-slice-read-with-u32 c = search needs
 
-cast-with : tie.Need-cast-with Inv-loop μ-loop
-cast-with c = search needs
-
-with-requires : tie.Need-with-requires Inv-loop μ-loop
-with-requires c κs = search needs
-
-mul-with-2 : tie.Need-mul-with-2 Inv-loop μ-loop
-mul-with-2 c = search needs
-
-shared-slice-read-with-2 : tie.Need-shared-slice-read-with-2 Inv-loop μ-loop
-shared-slice-read-with-2 c = search needs
-
-cast-with-2 : tie.Need-cast-with-2 Inv-loop μ-loop
-cast-with-2 c = search needs
-
-with-requires-2 : tie.Need-with-requires-2 Inv-loop μ-loop
-with-requires-2 c κs = search needs
-
-mul-with-3 : tie.Need-mul-with-3 Inv-loop μ-loop
-mul-with-3 c = search needs
-
-shared-slice-read-with-3 : tie.Need-shared-slice-read-with-3 Inv-loop μ-loop
-shared-slice-read-with-3 c = search needs
-
-cast-with-3 : tie.Need-cast-with-3 Inv-loop μ-loop
-cast-with-3 c = search needs
-
-with-requires-3 : tie.Need-with-requires-3 Inv-loop μ-loop
-with-requires-3 c κs = search needs
-
-mul-with-4 : tie.Need-mul-with-4 Inv-loop μ-loop
-mul-with-4 c = search needs
-
-shared-slice-read-with-4 : tie.Need-shared-slice-read-with-4 Inv-loop μ-loop
-shared-slice-read-with-4 c = search needs
-
-cast-with-4 : tie.Need-cast-with-4 Inv-loop μ-loop
-cast-with-4 c = search needs
-
-with-requires-4 : tie.Need-with-requires-4 Inv-loop μ-loop
-with-requires-4 c κs = search needs
+with-u32-requires : tie.Need-with-u32-requires Inv-loop μ-loop
+with-u32-requires c κs = search needs
 
 add-i : tie.Need-add-i Inv-loop μ-loop
 add-i c = search needs
@@ -80,22 +41,9 @@ sum-of-u32s-spec =
     Inv-loop
     μ-loop
     loop-holds
-    mul-with
-    shared-slice-read-with
-    cast-with
-    with-requires
-    mul-with-2
-    shared-slice-read-with-2
-    cast-with-2
-    with-requires-2
-    mul-with-3
-    shared-slice-read-with-3
-    cast-with-3
-    with-requires-3
-    mul-with-4
-    shared-slice-read-with-4
-    cast-with-4
-    with-requires-4
+    mul-with-u32
+    shared-slice-read-with-u32
+    with-u32-requires
     add-i
     loop-less
     loop-again

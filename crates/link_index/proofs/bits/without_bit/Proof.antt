@@ -2,7 +2,8 @@ use mathlib.Core.Path.{sym, ap, _∙_}
 use Prim.Native.Nat.{ℕ, _-_}
 use mathlib.Core.Bool.{false}
 use native.Mathlib.Omega.{arith}
-use Rattle.link_index.proofs.BitLaws.{with-on, with-off, power-in, shifted}
+use Rattle.yard_check.proofs.SeenLaws.{shifted}
+use Rattle.link_index.proofs.BitLaws.{with-on, with-off, power-in}
 use borrow.Author.Needs.{needs}
 use Rattle.link_index.proofs.bits.without_bit.Statement.{statement}
 use Rattle.link_index.proofs.bits.without_bit.Tie as tie

@@ -1,3 +1,9 @@
+use mathlib.Core.Path.{_∙_}
+use Prim.Native.Nat.{_+_}
+use native.Mathlib.Omega.{arith}
+use denote.Ref.{now}
+use lib.ListN.{length}
+use Rattle.yard_check.proofs.SeenLaws.{put-some}
 use Rattle.undo.specs.Undo.{withWritten}
 use borrow.Author.Needs.{needs}
 use Rattle.undo.proofs.records.put_written.Statement.{statement}
@@ -14,7 +20,10 @@ same-length c = search needs
 
 returns : tie.Need-returns
 unfolding withWritten
-returns c = c .before .before .put-bytes .ensures
+returns c =
+    let a = c .before .before .before .before .before .before .args in
+    let w = now (a .written) in
+    c .before .before .put-bytes .ensures ∙ put-some (16 + length w) w (now (a .to)) (omega (arith, c .before .before .before .before .before .before .pre))
 
 pub put-written-spec : {M : Type 1} → statement M
 put-written-spec = tie.close (tie.spec add-put-bytes put-bytes-requires same-length returns)

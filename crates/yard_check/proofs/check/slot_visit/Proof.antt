@@ -3,8 +3,9 @@ use mathlib.Core.List.{List}
 use Prim.Native.Nat.{ℕ}
 use native.Mathlib.Omega.{arith}
 use denote.Ref.{now}
+use lib.ListN.{length}
 use Rattle.update_definition.specs.UpdateImage.{givenFault}
-use Rattle.yard_check.specs.Check.{visited}
+use Rattle.yard_check.specs.Check.{visited, isSeen}
 use Rattle.yard_check.specs.Checks.{argsOf, SlotVisited}
 use Rattle.yard_check.proofs.TurnLaws.{slot-kept, slot-left, lent-up, lent-inside, lent-part, part-returned}
 use borrow.Author.Needs.{needs}
@@ -16,8 +17,8 @@ plain-row-requires c κs = search needs
 
 returns : tie.Need-returns
 returns c =
-    let a = c .before .before .before .before .before .before .args in
-    slot-kept (now (a .yard)) (now (a .occ)) (argsOf (a .w) (now (a .blocking)) (a .a)) (a .t) (c .before .before .before .before .before .before .pre) (c .before .if1 .taken) (c .plain-row .result) (c .plain-row .ensures)
+    let a = c .before .before .before .before .before .before .before .args in
+    slot-kept (now (a .yard)) (now (a .occ)) (argsOf (a .w) (now (a .blocking)) (a .a)) (a .t) (c .before .before .before .before .before .before .before .pre) (c .before .if1 .taken) (length (now (a .room))) (c .plain-row .result) (c .plain-row .ensures)
 
 part-from-requires : tie.Need-part-from-requires
 part-from-requires c κs = search needs
@@ -25,42 +26,48 @@ part-from-requires c κs = search needs
 part-until-requires : tie.Need-part-until-requires
 part-until-requires c κs = search needs
 
-sub-visit : tie.Need-sub-visit
-sub-visit c =
-    let a = c .before .before .before .before .before .before .before .before .before .args in
-    omega (arith, lent-up (now (a .yard)) (now (a .occ)) (argsOf (a .w) (now (a .blocking)) (a .a)) (a .t) (c .before .before .before .before .before .before .before .before .before .pre) (c .before .before .part-from .result) (c .part-until .result) (c .before .before .part-from .ensures) (c .part-until .ensures))
-
-part-visit-start : tie.Need-part-visit-start
-part-visit-start c =
-    let a = c .before .before .before .before .before .before .before .before .before .args in
-    omega (arith, lent-up (now (a .yard)) (now (a .occ)) (argsOf (a .w) (now (a .blocking)) (a .a)) (a .t) (c .before .before .before .before .before .before .before .before .before .pre) (c .before .before .part-from .result) (c .part-until .result) (c .before .before .part-from .ensures) (c .part-until .ensures))
-
-part-visit-end : tie.Need-part-visit-end
-part-visit-end c =
-    let a = c .before .before .before .before .before .before .before .before .before .args in
-    omega (arith, lent-inside (now (a .yard)) (now (a .occ)) (argsOf (a .w) (now (a .blocking)) (a .a)) (a .t) (c .before .before .before .before .before .before .before .before .before .pre) (c .before .before .part-from .result) (c .part-until .result) (c .before .before .part-from .ensures) (c .part-until .ensures))
-
-visit-requires : tie.Need-visit-requires
-visit-requires c κs =
+sub-seen-visit : tie.Need-sub-seen-visit
+sub-seen-visit c =
     let a = c .before .before .before .before .before .before .before .before .before .before .args in
-    let k = c .before .before .before .before .before .before .before .before .before .before .pre in
-    let p = c .before .before .before .part-from in
-    let q = c .before .part-until in
+    omega (arith, lent-up (now (a .yard)) (now (a .occ)) (argsOf (a .w) (now (a .blocking)) (a .a)) (a .t) (c .before .before .before .before .before .before .before .before .before .before .pre) (c .before .before .part-from .result) (c .part-until .result) (c .before .before .part-from .ensures) (c .part-until .ensures))
+
+part-seen-visit-start : tie.Need-part-seen-visit-start
+part-seen-visit-start c =
+    let a = c .before .before .before .before .before .before .before .before .before .before .args in
+    omega (arith, lent-up (now (a .yard)) (now (a .occ)) (argsOf (a .w) (now (a .blocking)) (a .a)) (a .t) (c .before .before .before .before .before .before .before .before .before .before .pre) (c .before .before .part-from .result) (c .part-until .result) (c .before .before .part-from .ensures) (c .part-until .ensures))
+
+part-seen-visit-end : tie.Need-part-seen-visit-end
+part-seen-visit-end c =
+    let a = c .before .before .before .before .before .before .before .before .before .before .args in
+    omega (arith, lent-inside (now (a .yard)) (now (a .occ)) (argsOf (a .w) (now (a .blocking)) (a .a)) (a .t) (c .before .before .before .before .before .before .before .before .before .before .pre) (c .before .before .part-from .result) (c .part-until .result) (c .before .before .part-from .ensures) (c .part-until .ensures))
+
+seen-visit-requires : tie.Need-seen-visit-requires
+seen-visit-requires c κs =
+    let a = c .before .before .before .before .before .before .before .before .before .before .before .before .args in
+    let k = c .before .before .before .before .before .before .before .before .before .before .before .before .pre in
+    let p = c .before .before .before .before .part-from in
+    let q = c .before .before .part-until in
     (k .call, ap (λ (x : List ℕ). givenFault (a .w) x (now (a .occ)) (a .a .moved .0)) (lent-part (now (a .yard)) (now (a .occ)) (argsOf (a .w) (now (a .blocking)) (a .a)) (a .t) k (p .result) (q .result) (p .ensures) (q .ensures)) ∙ k .given)
 
 same-length : tie.Need-same-length
 same-length c = search needs
 
+same-length-2 : tie.Need-same-length-2
+same-length-2 c = search needs
+
 returns-2 : tie.Need-returns-2
 returns-2 c =
-    let a = c .before .before .before .before .before .before .before .before .before .before .before .before .before .args in
+    let a = c .before .before .before .before .before .before .before .before .before .before .before .before .before .before .before .before .before .args in
     let A = argsOf (a .w) (now (a .blocking)) (a .a) in
-    let p = c .before .before .before .before .before .before .part-from in
-    let q = c .before .before .before .before .part-until in
-    let w = c .before .before .visit in
-    subst (λ (left : List ℕ). SlotVisited (now (a .yard)) (now (a .occ)) A (a .t) (w .result) left)
-    (sym (part-returned (now (a .yard)) (now (a .occ)) A (a .t) (c .before .before .before .before .before .before .before .before .before .before .before .before .before .pre) (p .result) (q .result) (p .ensures) (q .ensures) (w .last .0)))
-    (slot-left (now (a .yard)) (now (a .occ)) A (a .t) (c .before .before .before .before .before .before .before .before .before .before .before .before .before .pre) (c .before .before .before .before .before .before .before .before .if1 .left) (w .result) (w .last .0) (w .ensures ∙ ap (visited (now (a .occ)) A (a .t)) (lent-part (now (a .yard)) (now (a .occ)) A (a .t) (c .before .before .before .before .before .before .before .before .before .before .before .before .before .pre) (p .result) (q .result) (p .ensures) (q .ensures))))
+    let k = c .before .before .before .before .before .before .before .before .before .before .before .before .before .before .before .before .before .pre in
+    let p = c .before .before .before .before .before .before .before .before .before .part-from in
+    let q = c .before .before .before .before .before .before .before .part-until in
+    let w = c .before .before .before .before .seen-visit in
+    let R = length (now (a .room)) in
+    let lent = lent-part (now (a .yard)) (now (a .occ)) A (a .t) k (p .result) (q .result) (p .ensures) (q .ensures) in
+    subst (λ (left : List ℕ). SlotVisited (now (a .yard)) (now (a .occ)) A (a .t) R (w .result) left)
+    (sym (part-returned (now (a .yard)) (now (a .occ)) A (a .t) k (p .result) (q .result) (p .ensures) (q .ensures) (w .last .0)))
+    (slot-left (now (a .yard)) (now (a .occ)) A (a .t) k (c .before .before .before .before .before .before .before .before .before .before .before .if1 .left) R (w .result) (w .last .0) (w .ensures .0 ∙ ap (visited (now (a .occ)) A (a .t)) lent) (w .ensures .1 ∙ ap (λ (x : List ℕ). isSeen R x (w .last .0)) lent))
 
 pub slot-visit-spec : {M : Type 1} → statement M
 slot-visit-spec =
@@ -70,9 +77,10 @@ slot-visit-spec =
     returns
     part-from-requires
     part-until-requires
-    sub-visit
-    part-visit-start
-    part-visit-end
-    visit-requires
+    sub-seen-visit
+    part-seen-visit-start
+    part-seen-visit-end
+    seen-visit-requires
     same-length
+    same-length-2
     returns-2)

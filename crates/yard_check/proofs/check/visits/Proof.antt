@@ -5,53 +5,49 @@ use Prim.Native.Nat.{ℕ, _+_, _*_, _-_, _≤_, _<_}
 use native.Mathlib.Omega.{arith}
 use denote.Ref.{now}
 use lib.ListN.{length}
-use Rattle.yard_check.specs.Yard.{slotCount}
-use Rattle.yard_check.specs.Check.{wideRows, rowSize, putRow, slotRow, slotImage, yardAfter, reportAfter}
-use Rattle.yard_check.specs.Checks.{argsOf, rowOf, talliedOf, tallyAfter, NextTurn, Visits, SlotVisited}
+use Rattle.yard_check.specs.Check.{rowSize, Row, putRow, yardAfter, reportAfter}
+use Rattle.yard_check.specs.Checks.{argsOf, rowOf, talliedOf, tallyAfter, NextTurn, Visits, SlotVisited, spanImage, Agree}
 use Rattle.yard_check.specs.declared.check.Counts.{Counts}
-use Rattle.yard_check.proofs.ReportLaws.{report-length, rows-few}
-use Rattle.yard_check.proofs.TurnLaws.{next-slot, few-slots, turn-start, turn-length, turn-visits, turn-yard, turn-report, turn-tally}
+use Rattle.yard_check.proofs.ReportLaws.{rows-few}
+use Rattle.yard_check.proofs.TurnLaws.{next-slot, few-slots, span-start, turn-length, turn-visits, turn-yard, turn-report, turn-tally}
 use borrow.Author.Needs.{needs}
 use Rattle.yard_check.proofs.check.visits.Statement.{statement}
 use Rattle.yard_check.proofs.check.visits.Tie as tie
 
 abbrev Inv-loop : tie.InvT-loop
-Inv-loop yard₀ w occ blocking a report₀ slots wide y₀ n₀ yard report y n =
+Inv-loop yard₀ w occ blocking a s report₀ room₀ x₀ n₀ yard report room x n =
     let A = argsOf w blocking a in
-    (n ≤ slots) × (yard ≡ yardAfter yard₀ (slotImage yard₀ occ A) n) × (report ≡ reportAfter (wideRows w yard₀) (slotRow yard₀ occ A) report₀ n) × (y ≡ tallyAfter (slotRow yard₀ occ A) (A .begin) n)
+    (s .from ≤ n) × (n ≤ s .until) × (yard ≡ yardAfter yard₀ (spanImage yard₀ occ A (s .from)) n) × (length room ≡ length room₀) × (length report ≡ length report₀) × (n < s .until → NextTurn x (n + 1))
+    × ((rows : ℕ → Row) (seen : ℕ → Bool) → Agree yard₀ occ A s (length room₀) rows seen
+    → (x₀ ≡ tallyAfter rows seen (A .begin) (s .from) → x ≡ tallyAfter rows seen (A .begin) n) × ((r : List ℕ) → report₀ ≡ reportAfter (s .wide) rows r (s .from) → report ≡ reportAfter (s .wide) rows r n))
 
 abbrev μ-loop : tie.MeasureT-loop
-μ-loop yard₀ w occ blocking a report₀ slots wide y₀ n₀ yard report y n = slots - n
-
-slot-count-requires : tie.Need-slot-count-requires Inv-loop μ-loop
-slot-count-requires c κs = search needs
-
-cast-slots : tie.Need-cast-slots Inv-loop μ-loop
-cast-slots c =
-    let a = c .before .before .before .before .before .before .args in
-    omega (arith, c .slot-count .ensures, few-slots (now (a .yard)) (now (a .occ)) (argsOf (a .w) (now (a .blocking)) (a .a)) (now (a .report)) (c .before .before .before .before .before .before .pre))
-
-wide-rows-requires : tie.Need-wide-rows-requires Inv-loop μ-loop
-wide-rows-requires c κs = search needs
+μ-loop yard₀ w occ blocking a s report₀ room₀ x₀ n₀ yard report room x n = s .until - n
 
 loop-holds : tie.Need-loop-holds Inv-loop μ-loop
-unfolding yardAfter reportAfter
 loop-holds c =
-    let a = c .before .before .before .before .before .before .before .before .args in
-    (omega arith, refl, refl, sym (turn-start (now (a .yard)) (now (a .occ)) (argsOf (a .w) (now (a .blocking)) (a .a)) (now (a .report)) (c .before .before .before .before .before .before .before .before .pre)))
+    let a = c .before .before .before .before .before .args in
+    let p = c .before .before .before .before .before .pre in (
+      omega arith,
+      omega (arith, p .up),
+      span-start (now (a .yard)) (now (a .occ)) (argsOf (a .w) (now (a .blocking)) (a .a)) (a .s) (a .y) 0 p,
+      refl,
+      refl,
+      (λ h. p .turn),
+      (λ rows seen g. ((λ e. e), (λ r e. e))),
+    )
 
 add-slot-visit : tie.Need-add-slot-visit Inv-loop μ-loop
 add-slot-visit c =
-    let a = c .before .before .before .before .before .before .before .before .before .before .before .args in
-    omega (arith, c .before .before .before .before .before .slot-count .ensures, few-slots (now (a .yard)) (now (a .occ)) (argsOf (a .w) (now (a .blocking)) (a .a)) (now (a .report)) (c .before .before .before .before .before .before .before .before .before .before .before .pre), c .before .loop-test .taken)
+    let a = c .before .before .before .before .before .before .before .before .before .args in
+    omega (arith, few-slots (now (a .yard)) (now (a .occ)) (argsOf (a .w) (now (a .blocking)) (a .a)) (a .s) (a .y) 0 (c .before .before .before .before .before .before .before .before .before .pre), c .before .if1 .taken)
 
 slot-visit-requires : tie.Need-slot-visit-requires Inv-loop μ-loop
 slot-visit-requires c κs =
-    let a = c .before .before .before .before .before .before .before .before .before .before .before .args in
+    let a = c .before .before .before .before .before .before .before .before .before .before .args in
     let A = argsOf (a .w) (now (a .blocking)) (a .a) in
-    let n = c .before .before .loop .n in
-    let h : n < slotCount (now (a .yard)) = omega (arith, c .before .before .before .before .before .slot-count .ensures, c .before .loop-test .taken) in
-    subst (λ (x : List ℕ). Visits x (now (a .occ)) A (n + 1)) (sym (c .before .before .loop .inv .1)) (turn-visits (now (a .yard)) (now (a .occ)) A (now (a .report)) (c .before .before .before .before .before .before .before .before .before .before .before .pre) n h)
+    let g = c .before .before .before .before .loop in
+    subst (λ (x : List ℕ). Visits x (now (a .occ)) A (g .n + 1)) (sym (g .inv .2)) (turn-visits (now (a .yard)) (now (a .occ)) A (a .s) (a .y) 0 (c .before .before .before .before .before .before .before .before .before .before .pre) (g .n) (g .inv .0) (c .before .before .if1 .taken))
 
 cast-rows-length : tie.Need-cast-rows-length Inv-loop μ-loop
 cast-rows-length c = search needs
@@ -61,76 +57,80 @@ rows-length-requires c κs = search needs
 
 put-row-requires : tie.Need-put-row-requires Inv-loop μ-loop
 put-row-requires c κs =
-    let a = c .before .before .before .before .before .before .before .before .before .before .before .before .before .before .before .before .args in
-    let n = c .before .before .before .before .before .before .before .loop .n in
-    let h : n ≤ 62 = omega (arith, c .before .before .before .before .before .before .before .before .before .before .slot-count .ensures, few-slots (now (a .yard)) (now (a .occ)) (argsOf (a .w) (now (a .blocking)) (a .a)) (now (a .report)) (c .before .before .before .before .before .before .before .before .before .before .before .before .before .before .before .before .pre), c .before .before .before .before .before .before .loop-test .taken) in
-    omega (arith, c .rows-length .ensures, rows-few (c .before .before .before .before .before .before .before .before .wide-rows .result) n h)
+    let a = c .before .before .before .before .before .before .before .before .before .before .before .before .before .before .before .before .before .args in
+    let n = c .before .before .before .before .before .before .before .before .before .before .before .loop .n in
+    let h : n ≤ 62 = omega (arith, few-slots (now (a .yard)) (now (a .occ)) (argsOf (a .w) (now (a .blocking)) (a .a)) (a .s) (a .y) 0 (c .before .before .before .before .before .before .before .before .before .before .before .before .before .before .before .before .before .pre), c .before .before .before .before .before .before .before .before .before .if1 .taken) in
+    omega (arith, c .rows-length .ensures, rows-few (a .s .wide) n h)
 
 add-tallied : tie.Need-add-tallied Inv-loop μ-loop
 add-tallied c =
-    let a = c .before .before .before .before .before .before .before .before .before .before .before .before .before .before .before .before .before .before .before .args in
-    omega (arith, c .before .before .before .before .before .before .before .before .before .before .before .before .before .slot-count .ensures, few-slots (now (a .yard)) (now (a .occ)) (argsOf (a .w) (now (a .blocking)) (a .a)) (now (a .report)) (c .before .before .before .before .before .before .before .before .before .before .before .before .before .before .before .before .before .before .before .pre), c .before .before .before .before .before .before .before .before .before .loop-test .taken)
+    let a = c .before .before .before .before .before .before .before .before .before .before .before .before .before .before .before .before .before .before .before .before .args in
+    omega (arith, few-slots (now (a .yard)) (now (a .occ)) (argsOf (a .w) (now (a .blocking)) (a .a)) (a .s) (a .y) 0 (c .before .before .before .before .before .before .before .before .before .before .before .before .before .before .before .before .before .before .before .before .pre), c .before .before .before .before .before .before .before .before .before .before .before .before .if1 .taken)
 
 tallied-requires : tie.Need-tallied-requires Inv-loop μ-loop
-tallied-requires c κs =
-    let a = c .before .before .before .before .before .before .before .before .before .before .before .before .before .before .before .before .before .before .before .args in
-    let A = argsOf (a .w) (now (a .blocking)) (a .a) in
-    let n = c .before .before .before .before .before .before .before .before .before .before .loop .n in
-    let h : n < 63 = omega (arith, c .before .before .before .before .before .before .before .before .before .before .before .before .before .slot-count .ensures, few-slots (now (a .yard)) (now (a .occ)) (argsOf (a .w) (now (a .blocking)) (a .a)) (now (a .report)) (c .before .before .before .before .before .before .before .before .before .before .before .before .before .before .before .before .before .before .before .pre), c .before .before .before .before .before .before .before .before .before .loop-test .taken) in
-    subst (λ (x : Counts). NextTurn x (n + 1)) (sym (c .before .before .before .before .before .before .before .before .before .before .loop .inv .3)) (next-slot (slotRow (now (a .yard)) (now (a .occ)) A) (A .begin) n h)
+tallied-requires c κs = c .before .before .before .before .before .before .before .before .before .before .before .before .before .before .loop .inv .5 (c .before .before .before .before .before .before .before .before .before .before .before .before .if1 .taken)
 
 add-n : tie.Need-add-n Inv-loop μ-loop
 add-n c =
-    let a = c .before .before .before .before .before .before .before .before .before .before .before .before .before .before .before .before .before .before .before .before .args in
-    omega (arith, c .before .before .before .before .before .before .before .before .before .before .before .before .before .before .slot-count .ensures, few-slots (now (a .yard)) (now (a .occ)) (argsOf (a .w) (now (a .blocking)) (a .a)) (now (a .report)) (c .before .before .before .before .before .before .before .before .before .before .before .before .before .before .before .before .before .before .before .before .pre), c .before .before .before .before .before .before .before .before .before .before .loop-test .taken)
+    let a = c .before .before .before .before .before .before .before .before .before .before .before .before .before .before .before .before .before .before .before .before .before .args in
+    omega (arith, few-slots (now (a .yard)) (now (a .occ)) (argsOf (a .w) (now (a .blocking)) (a .a)) (a .s) (a .y) 0 (c .before .before .before .before .before .before .before .before .before .before .before .before .before .before .before .before .before .before .before .before .before .pre), c .before .before .before .before .before .before .before .before .before .before .before .before .before .if1 .taken)
 
 loop-less : tie.Need-loop-less Inv-loop μ-loop
-loop-less c = omega (arith, c .before .before .before .before .before .before .before .before .before .before .loop-test .taken)
+loop-less c = omega (arith, c .before .before .before .before .before .before .before .before .before .before .before .before .before .if1 .taken)
 
 loop-again : tie.Need-loop-again Inv-loop μ-loop
 loop-again c =
-    let a = c .before .before .before .before .before .before .before .before .before .before .before .before .before .before .before .before .before .before .before .before .args in
+    let a = c .before .before .before .before .before .before .before .before .before .before .before .before .before .before .before .before .before .before .before .before .before .args in
     let A = argsOf (a .w) (now (a .blocking)) (a .a) in
-    let pre = c .before .before .before .before .before .before .before .before .before .before .before .before .before .before .before .before .before .before .before .before .pre in
-    let n = c .before .before .before .before .before .before .before .before .before .before .before .loop .n in
-    let i = c .before .before .before .before .before .before .before .before .before .before .before .loop .inv in
-    let r = c .before .before .before .before .before .before .before .before .slot-visit .result in
-    let left = c .before .before .before .before .before .before .before .before .slot-visit .last .0 in
-    let wide = c .before .before .before .before .before .before .before .before .before .before .before .before .wide-rows in
-    let h : n < slotCount (now (a .yard)) = omega (arith, c .before .before .before .before .before .before .before .before .before .before .before .before .before .before .slot-count .ensures, c .before .before .before .before .before .before .before .before .before .before .loop-test .taken) in
-    let s = subst (λ (x : List ℕ). SlotVisited x (now (a .occ)) A (n + 1) r left) (i .1) (c .before .before .before .before .before .before .before .before .slot-visit .ensures) in
-    let W = wideRows (a .w) (now (a .yard)) in
-    let report = c .before .before .before .before .before .before .before .before .before .before .before .loop .report in (
-      omega (arith, c .before .before .before .before .before .before .before .before .before .before .loop-test .taken),
-      turn-yard (now (a .yard)) (now (a .occ)) A (now (a .report)) pre n h r left s,
-      c .before .before .before .put-row .ensures
-          ∙ (ap (λ (k : ℕ). putRow (wide .result) (rowOf r) k report) (c .before .before .before .before .rows-length .ensures)
-          ∙ (ap (λ (b : Bool). putRow b (rowOf r) (rowSize b * n) report) (wide .ensures)
-          ∙ (ap (λ (x : List ℕ). putRow W (rowOf r) (rowSize W * n) x) (i .2) ∙ turn-report (now (a .yard)) (now (a .occ)) A (now (a .report)) pre n h r left s))),
-      c .tallied .ensures ∙ (ap (λ (x : Counts). talliedOf x (rowOf r) (n + 1)) (i .3) ∙ turn-tally (now (a .yard)) (now (a .occ)) A (now (a .report)) pre n h r left s),
+    let pre = c .before .before .before .before .before .before .before .before .before .before .before .before .before .before .before .before .before .before .before .before .before .pre in
+    let g = c .before .before .before .before .before .before .before .before .before .before .before .before .before .before .before .loop in
+    let n = g .n in
+    let i = g .inv in
+    let w = c .before .before .before .before .before .before .before .before .before .before .slot-visit in
+    let r = w .result in
+    let left = w .last .0 in
+    let R = length (now (a .room)) in
+    let h = c .before .before .before .before .before .before .before .before .before .before .before .before .before .if1 .taken in
+    let W = a .s .wide in
+    let s = subst (λ (k : ℕ). SlotVisited (yardAfter (now (a .yard)) (spanImage (now (a .yard)) (now (a .occ)) A (a .s .from)) n) (now (a .occ)) A (n + 1) k r left) (i .3) (subst (λ (x : List ℕ). SlotVisited x (now (a .occ)) A (n + 1) (length (g .room)) r left) (i .2) (w .ensures)) in
+    let few = few-slots (now (a .yard)) (now (a .occ)) A (a .s) (a .y) 0 pre in (
+      omega (arith, i .0),
+      omega (arith, h),
+      turn-yard (now (a .yard)) (now (a .occ)) A (a .s) (a .y) R pre n (i .0) h r left s,
+      search needs,
+      search needs,
+      (λ k. subst (λ (x : Counts). NextTurn x (n + 1 + 1)) (sym (c .tallied .ensures)) (next-slot (g .x) (rowOf (r .row)) (r .changed) n (i .5 h) (omega (arith, few, k)))),
+      (λ rows seen q. (
+        (λ e. c .tallied .ensures ∙ (ap (λ (x : Counts). talliedOf x (rowOf (r .row)) (r .changed) (n + 1)) (i .6 rows seen q .0 e) ∙ turn-tally (now (a .yard)) (now (a .occ)) A (a .s) (a .y) R pre n (i .0) h r left s rows seen q)),
+        (λ b e. c .before .before .before .put-row .ensures
+            ∙ (ap (λ (k : ℕ). putRow W (rowOf (r .row)) k (g .report)) (c .before .before .before .before .rows-length .ensures)
+            ∙ (ap (λ (x : List ℕ). putRow W (rowOf (r .row)) (rowSize W * n) x) (i .6 rows seen q .1 b e) ∙ turn-report (now (a .yard)) (now (a .occ)) A (a .s) (a .y) R pre n (i .0) h r left s rows seen q b))),
+      )),
     )
 
 same-length : tie.Need-same-length Inv-loop μ-loop
 same-length c =
-    let a = c .before .before .before .before .before .before .before .before .before .before .args in
-    let i = c .before .loop .inv in
-    ap (λ (x : List ℕ). length x) (i .1) ∙ turn-length (now (a .yard)) (now (a .occ)) (argsOf (a .w) (now (a .blocking)) (a .a)) (now (a .report)) (c .before .before .before .before .before .before .before .before .before .before .pre) (c .before .loop .n) (omega (arith, i .0, c .before .before .before .before .slot-count .ensures))
+    let a = c .before .before .before .before .before .before .before .before .args in
+    let i = c .before .before .loop .inv in
+    ap (λ (x : List ℕ). length x) (i .2) ∙ turn-length (now (a .yard)) (now (a .occ)) (argsOf (a .w) (now (a .blocking)) (a .a)) (a .s) (a .y) 0 (c .before .before .before .before .before .before .before .before .pre) (c .before .before .loop .n) (omega (arith, i .1, c .before .before .before .before .before .before .before .before .pre .inside))
 
 same-length-2 : tie.Need-same-length-2 Inv-loop μ-loop
-same-length-2 c =
-    let a = c .before .before .before .before .before .before .before .before .before .before .args in
-    ap (λ (x : List ℕ). length x) (c .before .loop .inv .2) ∙ report-length (wideRows (a .w) (now (a .yard))) (slotRow (now (a .yard)) (now (a .occ)) (argsOf (a .w) (now (a .blocking)) (a .a))) (now (a .report)) (c .before .loop .n)
+same-length-2 c = c .before .before .loop .inv .4
+
+same-length-3 : tie.Need-same-length-3 Inv-loop μ-loop
+same-length-3 c = c .before .before .loop .inv .3
 
 returns : tie.Need-returns Inv-loop μ-loop
 returns c =
-    let a = c .before .before .before .before .before .before .before .before .before .before .args in
+    let a = c .before .before .before .before .before .before .before .before .args in
     let A = argsOf (a .w) (now (a .blocking)) (a .a) in
-    let i = c .before .loop .inv in
-    let e : c .before .loop .n ≡ slotCount (now (a .yard)) = omega (arith, i .0, c .loop-test .left, c .before .before .before .before .slot-count .ensures) in
+    let g = c .before .before .loop in
+    let i = g .inv in
+    let e : g .n ≡ a .s .until = omega (arith, i .1, c .if1 .left) in
     record {
-      tally = i .3 ∙ ap (tallyAfter (slotRow (now (a .yard)) (now (a .occ)) A) (A .begin)) e;
-      yard-left = i .1 ∙ ap (yardAfter (now (a .yard)) (slotImage (now (a .yard)) (now (a .occ)) A)) e;
-      report-left = i .2 ∙ ap (reportAfter (wideRows (a .w) (now (a .yard))) (slotRow (now (a .yard)) (now (a .occ)) A) (now (a .report))) e;
+      yard-left = i .2 ∙ ap (yardAfter (now (a .yard)) (spanImage (now (a .yard)) (now (a .occ)) A (a .s .from))) e;
+      tally = λ rows seen q h. i .6 rows seen q .0 h ∙ ap (tallyAfter rows seen (A .begin)) e;
+      report-left = λ rows seen r q h. i .6 rows seen q .1 r h ∙ ap (reportAfter (a .s .wide) rows r) e;
     }
 
 pub visits-spec : {M : Type 1} → statement M
@@ -139,9 +139,6 @@ visits-spec =
     (tie.spec
     Inv-loop
     μ-loop
-    slot-count-requires
-    cast-slots
-    wide-rows-requires
     loop-holds
     add-slot-visit
     slot-visit-requires
@@ -155,4 +152,5 @@ visits-spec =
     loop-again
     same-length
     same-length-2
+    same-length-3
     returns)

@@ -13,20 +13,20 @@ use Rattle.yard_check.proofs.check.visits_large.Tie as tie
 
 array-borrow-prefix-wide : tie.Need-array-borrow-prefix-wide
 array-borrow-prefix-wide c =
-    let a = c .before .before .before .before .before .args in
-    let p = c .before .before .before .before .before .pre in
+    let a = c .before .before .before .before .before .before .args in
+    let p = c .before .before .before .before .before .before .pre in
     omega (arith, few-links (now (a .yard)) (now (a .occ)) (argsOf Narrow (now (a .blocking)) (a .a)) (length (now (a .report))) p, length-replicate {A = ℕ} 4000 0)
 
 slice-aggregate-visits-widened : tie.Need-slice-aggregate-visits-widened
 slice-aggregate-visits-widened c =
-    let a = c .before .before .before .before .before .before .args in
-    let p = c .before .before .before .before .before .before .pre in
+    let a = c .before .before .before .before .before .before .before .args in
+    let p = c .before .before .before .before .before .before .before .pre in
     sym (length-take-le (length (now (a .occ))) (replicate 4000 0) (omega (arith, few-links (now (a .yard)) (now (a .occ)) (argsOf Narrow (now (a .blocking)) (a .a)) (length (now (a .report))) p, length-replicate {A = ℕ} 4000 0)))
 
 visits-widened-requires : tie.Need-visits-widened-requires
 visits-widened-requires c κs =
-    let a = c .before .before .before .before .before .before .before .args in
-    let p = c .before .before .before .before .before .before .before .pre in
+    let a = c .before .before .before .before .before .before .before .before .before .args in
+    let p = c .before .before .before .before .before .before .before .before .before .pre in
     (p, length-take-le (length (now (a .occ))) (replicate 4000 0) (omega (arith, few-links (now (a .yard)) (now (a .occ)) (argsOf Narrow (now (a .blocking)) (a .a)) (length (now (a .report))) p, length-replicate {A = ℕ} 4000 0)))
 
 same-length : tie.Need-same-length
@@ -35,8 +35,11 @@ same-length c = search needs
 same-length-2 : tie.Need-same-length-2
 same-length-2 c = search needs
 
+same-length-3 : tie.Need-same-length-3
+same-length-3 c = search needs
+
 returns : tie.Need-returns
-returns c = c .before .before .before .before .before .visits-widened .ensures
+returns c = c .before .before .before .before .before .before .before .visits-widened .ensures
 
 pub visits-large-spec : {M : Type 1} → statement M
 visits-large-spec =
@@ -47,4 +50,5 @@ visits-large-spec =
     visits-widened-requires
     same-length
     same-length-2
+    same-length-3
     returns)
