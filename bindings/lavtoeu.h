@@ -236,6 +236,23 @@ uint32_t lavtoeu_lay_out_indexed(const uint8_t *est, size_t est_len, uint16_t tr
  * than 2 entries or more than 4,000, then by 21. */
 uint32_t lavtoeu_undo_indexed(uint8_t *yard, size_t yard_len, const uint8_t *record, size_t record_len, uint64_t *index, size_t index_len);
 
+/* Carrying a sitting from narrow images to wide ones while it runs. The slots go one by one into a second yard of the all-wide size: yard_len
+ * and 4 bytes for each diverge node that an image has room for. Until the last step, slots 1 to count are those of the second yard, the
+ * others of the first; marks by lavtoeu_mark_wide over the wide occupancy and checks by lavtoeu_check_half may come between steps. After S
+ * steps the second yard has every slot. Stack: up to 128 KB. */
+
+/* One step of a sitting of which `count` slots are carried: writes slot count + 1 to its part of the second yard. With count 0 it also writes
+ * the yard's header, zeroes its other parts and carries the occupancy; later the wide occupancy stays. The first yard and its occupancy are
+ * never written. Refused by 2, either length outside 2 to 4,000 or two that are not equal; 14 of the first yard; 6, 7, 8, 9 of the first of
+ * slots count + 1 to S that fails, a wide image being 6; then 24: a count of S or more, a second yard of another size, or with a count
+ * above 0 one that count steps do not leave: its header, the train and the width of slots 1 to count, a byte other than 0 in the part of
+ * another slot. */
+uint32_t lavtoeu_carry(const uint8_t *yard, size_t yard_len, const uint16_t *occupancy, size_t occupancy_len, uint32_t count, uint8_t *wide_yard, size_t wide_yard_len, uint32_t *wide_occupancy, size_t wide_occupancy_len);
+
+/* lavtoeu_check_wide of a sitting of which `count` slots, 1 to S - 1, are carried: each slot is read and written in its own yard. The report has
+ * 24 bytes for each slot. Refused by 2, 4, 5, 14 of the first yard, 24 as lavtoeu_carry is and for a count of 0, 22, 15, 16. */
+uint32_t lavtoeu_check_half(uint8_t *yard, size_t yard_len, uint8_t *wide_yard, size_t wide_yard_len, uint32_t count, const uint32_t *occupancy, size_t occupancy_len, const uint32_t *blocking, size_t blocking_len, uint32_t moved, uint16_t begin, uint32_t local, uint16_t limit, uint8_t *report, size_t report_len, uint64_t *answer, size_t answer_len);
+
 #ifdef __cplusplus
 }
 #endif

@@ -3,7 +3,8 @@
 //! Every function takes slices and numbers and is total: any bytes get an answer. A refusal has a number and a place, and a
 //! refused call changes no buffer. The bytes of link table, image, yard, report and bundle are in the project's
 //! docs/LAYOUTS.md, the numbers of refusals in its docs/REFUSALS.md. [`Image`], [`table`], [`yard`], [`parts`], [`rows`],
-//! [`bundle`] and [`Recording`] write and read them. [`Candidate`] is one train's hand on a sitting.
+//! [`bundle`] and [`Recording`] write and read them. [`Candidate`] is one train's hand on a sitting, [`Carrying`]
+//! a sitting that is carried to wide images.
 //!
 //! ```
 //! use lavtoeu::{mark, table, Link, Refusal};
@@ -19,6 +20,7 @@
 
 mod game;
 mod candidate;
+mod carry;
 mod image;
 mod index;
 pub mod layout;
@@ -32,6 +34,7 @@ mod wide;
 
 pub use game::{closer_can_force, Game};
 pub use candidate::{Candidate, View};
+pub use carry::{carry, check_half_into, wide_yard_size, Carrying};
 pub use image::{Diverge, Image, Node};
 pub use index::{
     build_index, check_indexed, check_indexed_into, check_recorded_indexed, check_recorded_indexed_into, check_recorded_wide_indexed,

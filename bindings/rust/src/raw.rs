@@ -267,4 +267,34 @@ extern "C" {
         index: *mut u64,
         index_len: usize,
     ) -> u32;
+    pub fn lavtoeu_carry(
+        yard: *const u8,
+        yard_len: usize,
+        occupancy: *const u16,
+        occupancy_len: usize,
+        count: u32,
+        wide_yard: *mut u8,
+        wide_yard_len: usize,
+        wide_occupancy: *mut u32,
+        wide_occupancy_len: usize,
+    ) -> u32;
+    pub fn lavtoeu_check_half(
+        yard: *mut u8,
+        yard_len: usize,
+        wide_yard: *mut u8,
+        wide_yard_len: usize,
+        count: u32,
+        occupancy: *const u32,
+        occupancy_len: usize,
+        blocking: *const u32,
+        blocking_len: usize,
+        moved: u32,
+        begin: u16,
+        local: u32,
+        limit: u16,
+        report: *mut u8,
+        report_len: usize,
+        answer: *mut u64,
+        answer_len: usize,
+    ) -> u32;
 }

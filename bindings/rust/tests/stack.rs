@@ -250,12 +250,24 @@ fn index_stacks(image: fn(u16) -> Vec<u8>, m: Move) -> [usize; 7] {
     [builds, narrows, wides, recordeds, wide_recordeds, undos, lays]
 }
 
+/// A step and a half check of a sitting, over images that `image` makes.
+fn carry_stacks(image: fn(u16) -> Vec<u8>, m: Move) -> [usize; 2] {
+    let mut yard = yard(&[&image(1), &laid_out(2, 4)]);
+    let (mut second, mut occupancy) = (vec![0; wide_yard_size(&yard).unwrap()], vec![0; m.occupancy.len()]);
+    let (stepped, steps) = stack_of(|| carry(&yard, m.occupancy, 0, &mut second, &mut occupancy));
+    let told = WideMove { occupancy: &occupancy, blocking: m.blocking, moved: 2, local: m.local, limit: m.limit };
+    let (mut report, mut answer) = ([0; 2 * WIDE_REPORT_RECORD], [0; CHECK_WORDS]);
+    let (checked, checks) = stack_of(|| check_half_into(&mut yard, &mut second, 1, told, 1, &mut report, &mut answer));
+    assert_eq!((stepped, checked, wide_rows(&report)[0].slot), (Ok(()), Ok(()), WideSlot::Success));
+    [steps, checks]
+}
+
 #[test]
-fn each_call_beside_an_index_keeps_to_its_stack() {
+fn each_call_beside_an_index_and_of_a_carried_sitting_keeps_to_its_stack() {
     let occupancy = occupancy();
     let most = Move { occupancy: &occupancy, ..MOVE };
-    let small = index_stacks(|t| laid_out(t, 4), MOVE);
-    let large = index_stacks(large, most);
+    let small = [&index_stacks(|t| laid_out(t, 4), MOVE)[..], &carry_stacks(|t| laid_out(t, 4), MOVE)].concat();
+    let large = [&index_stacks(large, most)[..], &carry_stacks(large, most)].concat();
     let bounds = [
         ("build_index", 20 << 10),
         ("check_indexed", 176 << 10),
@@ -264,6 +276,8 @@ fn each_call_beside_an_index_keeps_to_its_stack() {
         ("check_recorded_wide_indexed", 128 << 10),
         ("undo_indexed", 20 << 10),
         ("lay_out_indexed", 112 << 10),
+        ("carry", 20 << 10),
+        ("check_half", 128 << 10),
     ];
     for (i, (call, bound)) in bounds.into_iter().enumerate() {
         println!("{call}: {} bytes of stack for a small train, {} for the largest, bound {bound}", small[i], large[i]);

@@ -180,6 +180,11 @@ module _ (links k : ℕ) (yard wide : List ℕ) (b : Bytes yard) (far : CarriedF
   unfolding withWidened
   next-image = part-new yard wide (far .header) k l (widened yard (suc k)) long
 
+  -- those of the slots before it stay
+  pub kept-image : (n : ℕ) → n < k → partOf (withWidened yard k wide) (suc n) ≡ partOf wide (suc n)
+  unfolding withWidened
+  kept-image = part-kept yard wide (far .header) k l (widened yard (suc k)) long
+
   pub next-far : CarriedFar links (suc k) yard (withWidened yard k wide)
   unfolding withWidened
   next-far =
@@ -311,7 +316,7 @@ module _ (yard occ wide wideOcc : List ℕ) (b : Bytes yard) where
 
 -- ---- all slots are carried
 
-all-of : (test : ℕ → Bool) (n : ℕ) → ((i : ℕ) → i < n → test i ≡ true) → allBelow n test ≡ true
+pub all-of : (test : ℕ → Bool) (n : ℕ) → ((i : ℕ) → i < n → test i ≡ true) → allBelow n test ≡ true
 unfolding allBelow
 all-of test zero h = refl
 all-of test (suc n) h = rw (all-of test n (λ i l. h i (omega arith)), h n (omega arith))

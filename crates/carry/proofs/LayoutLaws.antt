@@ -188,7 +188,7 @@ occupancy-later (suc n) occ wideOcc h = refl
 
 -- ---- all refusals in order
 
-or-first : (a b : Refusal) → (a .number ≡ 0 → ⊥) → orElse a b ≡ a
+pub or-first : (a b : Refusal) → (a .number ≡ 0 → ⊥) → orElse a b ≡ a
 or-first a b h = rw (ne-eqb (a .number) 0 h)
 
 or-next : (a b : Refusal) → a .number ≡ 0 → orElse a b ≡ b

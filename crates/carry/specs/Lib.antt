@@ -1,2 +1,4 @@
 pub mod Carry
 pub mod CarriedFar
+pub mod HalfCheck
+pub mod CarryPromises

@@ -1,6 +1,8 @@
 // Carrying a sitting over (document 02, Q-7): a step carries the next image into a second yard of the all-wide size. The image is written by
 // conversion::widen, of which only the promise is used.
 // Every function here is proved, the crate assumes nothing of its own, and no public function has a `requires`.
+pub mod half;
+
 use conversion;
 use image::codec;
 use image_fault;
@@ -173,7 +175,7 @@ fn begun_fits(yard: &[u8], count: u32, wide: &[u8]) -> bool
     false
 }
 
-fn second_fits(yard: &[u8], count: u32, wide: &[u8]) -> bool
+pub(crate) fn second_fits(yard: &[u8], count: u32, wide: &[u8]) -> bool
     requires { ⌜ (length (now yard) < 4294967296) × (slotCount (now yard) ≤ 63) ⌝ }
     ensures { λ r. ⌜ r ≡ secondFits (now (yard .entry)) count (now (wide .entry)) ⌝ }
 {

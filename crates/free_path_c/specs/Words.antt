@@ -13,6 +13,7 @@ use Rattle.train_disp.specs.declared.Settings.{Settings}
 use Rattle.update_definition.specs.Update.{Status, Success, Blocked, Faulty, Refused as RefusedBy, holderIn}
 use Rattle.update_definition.specs.UpdateImage.{UpdatedImage}
 use Rattle.yard_check.specs.Check as Check
+use Rattle.yard_check.specs.Pair as Pair
 use Rattle.undo.specs.Undo as Undo
 use Rattle.link_index.specs.Indexed as Indexed
 use Rattle.ceiling.specs.declared.StepCeiling.{StepCeiling}
@@ -125,6 +126,14 @@ pub record ToldRecorded (k : Undo.Recorded) (r : ℕ) (yard report undoRecord ws
   pub yardBytes : yard ≡ k .yard
   pub reportBytes : report ≡ k .report
   pub recordBytes : undoRecord ≡ k .undoRecord
+  pub words : ws ≡ checkWords (k .answer) ws₀
+
+-- the check k of a half-carried sitting, as C sees it: with the second yard that is left
+pub record ToldHalf (k : Pair.PairChecked) (r : ℕ) (yard wide report ws₀ ws : List ℕ) : Type 0 where
+  pub word : r ≡ checkWord (k .answer)
+  pub yardBytes : yard ≡ k .yard
+  pub wideBytes : wide ≡ k .second
+  pub reportBytes : report ≡ k .report
   pub words : ws ≡ checkWords (k .answer) ws₀
 
 -- ---- beside an index

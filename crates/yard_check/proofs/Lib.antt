@@ -11,6 +11,7 @@ pub mod RowLaws
 pub mod WidthLaws
 pub mod SeenLaws
 pub mod TurnLaws
+pub mod PairLaws
 pub mod VisitMatch
 pub mod CheckMatch
 pub mod MarkedTrains

@@ -3,5 +3,6 @@
 pub mod bundle;
 pub mod bytes;
 pub mod check;
+pub mod pair;
 pub mod sheet;
 pub mod yard;
