@@ -1,6 +1,8 @@
 //! The calls of the proved library, each over a case. Every buffer that is lent is an allocation of just its length.
 
 use crate::candidates;
+use crate::carried;
+use crate::indexes;
 use crate::replays;
 use crate::undos;
 use lavtoeu::{Game, Move, Order, Refusal, WideMove};
@@ -14,7 +16,7 @@ use oracle::wide::WideArgs;
 pub fn number_at(op: u32) -> usize {
     match op {
         MARK | LAY_OUT | PAGE | PROFILE | CEILING | YARD_CEILING | REPLAY | GAME | VIEW | ACT => 0,
-        WIDE_MARK | WIDEN | NARROW | UNDO => 0,
+        WIDE_MARK | WIDEN | NARROW | UNDO | INDEX | INDEXED_LAY_OUT | INDEXED_UNDO | CARRY => 0,
         _ => 1,
     }
 }
@@ -36,6 +38,14 @@ pub fn answered(asked: &Case) -> Case {
         ACT => candidates::act(&mut case),
         RECORDED_CHECK | WIDE_RECORDED_CHECK => undos::recorded(&mut case),
         UNDO => undos::undo(&mut case),
+        INDEX => indexes::index(&mut case),
+        INDEXED_CHECK | WIDE_INDEXED_CHECK | RECORDED_INDEXED_CHECK | WIDE_RECORDED_INDEXED_CHECK => {
+            indexes::check(&mut case)
+        }
+        INDEXED_LAY_OUT => indexes::lay_out(&mut case),
+        INDEXED_UNDO => indexes::undo(&mut case),
+        CARRY => carried::carry(&mut case),
+        HALF_CHECK => carried::half_check(&mut case),
         WIDE_MARK => wide_mark(&mut case),
         WIDE_UPDATE => wide_update(&mut case),
         WIDE_CHECK => wide_check(&mut case),
@@ -72,11 +82,15 @@ fn mark(case: &mut Case) {
     case.outs = [u16_bytes(&occ), vec![]];
 }
 
+/// What the library is told of a layout.
+pub fn order_of(case: &Case) -> Order {
+    let [train, room, links, ..] = case.args;
+    Order { train: train as u16, search: case.float(3), fixed: case.float(5), room, links }
+}
+
 fn lay_out(case: &mut Case) {
     let mut image = case.ins[1].clone();
-    let [train, room, links, ..] = case.args;
-    let order = Order { train: train as u16, search: case.float(3), fixed: case.float(5), room, links };
-    let answer = lavtoeu::lay_out(&case.ins[0], order, &mut image);
+    let answer = lavtoeu::lay_out(&case.ins[0], order_of(case), &mut image);
     (case.answer[0], case.answer[1]) = numbers(answer);
     case.outs = [image, vec![]];
 }

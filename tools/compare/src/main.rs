@@ -2,10 +2,13 @@
 //! of each buffer compared.
 
 mod candidates;
+mod carried;
 mod check_time;
 mod checks;
 mod clock;
 mod game_time;
+mod index_time;
+mod indexes;
 mod library;
 mod page_time;
 mod replays;
@@ -63,6 +66,8 @@ const KINDS: &[(&str, fn(&mut Run))] = &[
     ("recorded-wide", |r| r.call(undo_calls::recorded_wide)),
     ("undo", |r| r.call(undo_calls::undo)),
     ("list-undo", |r| undos::list(&mut r.rng, &mut r.tally)),
+    ("list-index", |r| indexes::list(&mut r.rng, &mut r.tally)),
+    ("sitting-carried", |r| carried::sitting(&mut r.rng, &mut r.tally)),
 ];
 
 const TIMES: &[(&str, fn(u64))] = &[
@@ -75,6 +80,7 @@ const TIMES: &[(&str, fn(u64))] = &[
     ("candidate-time", candidates::time),
     ("wide-time", wide_time::run),
     ("undo-time", undo_time::run),
+    ("index-time", index_time::run),
 ];
 
 impl Run {

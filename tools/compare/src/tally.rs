@@ -2,10 +2,8 @@
 
 use crate::library;
 use crate::updates::Source;
-use oracle::cases::{
-    Case, CHECK, GAME, PAGE, RECORDED_CHECK, REPLAY, UPDATE, VIEW, WIDE_CHECK, WIDE_RECORDED_CHECK,
-    WIDE_UPDATE,
-};
+use oracle::cases::*;
+use oracle::figures::names;
 use oracle::layout::{read_any, u16s, u32_at};
 use oracle::model::LINKS;
 use oracle::wide::{row_at, row_size};
@@ -15,8 +13,10 @@ use std::collections::BTreeMap;
 /// ended, how often a slot of a check has each code, in how many updates and slots a train was met and in how many of them
 /// another than the moved one, how many updates came from each generator, of pages how many lines there were and at how many
 /// the offset is an exact half of a metre, of replays how many steps were refused by each number (0: by none), of views how many
-/// links are taken, of pairs of sittings how often they agree and do not agree after an act, by whether it is a mark, and of lists
-/// how many calls matched their renumbered twins.
+/// links are taken, of pairs of sittings how often they agree and do not agree after an act, by whether it is a mark, of lists how many
+/// calls matched their renumbered twins; of calls of several operations how often each had each answer, beside an index how often a
+/// right one stayed right and how many slots changed, and of sittings that are carried how many half checks said what the check of the
+/// all-narrow yard says and how many last steps left no narrow image.
 #[derive(Default)]
 pub struct Tally {
     pub differ: u64,
@@ -32,6 +32,11 @@ pub struct Tally {
     taken: u64,
     agreements: BTreeMap<(bool, bool), u64>,
     matched: u64,
+    named: BTreeMap<String, u64>,
+    right: u64,
+    changed: u64,
+    as_narrow: u64,
+    carried: u64,
 }
 
 /// How an update or a check ends that is not refused.
@@ -44,12 +49,24 @@ fn end_of(judged: &Case) -> Option<&'static str> {
         (UPDATE | WIDE_UPDATE, 0, _) => Some("success"),
         (UPDATE | WIDE_UPDATE, 1, _) => Some("blocked"),
         (UPDATE | WIDE_UPDATE, 2, _) => Some("faulty"),
-        (CHECK | WIDE_CHECK | RECORDED_CHECK | WIDE_RECORDED_CHECK, 0, 0) => Some("no deadlock"),
-        (CHECK | WIDE_CHECK | RECORDED_CHECK | WIDE_RECORDED_CHECK, 0, _) => Some("deadlock"),
-        (CHECK | WIDE_CHECK | RECORDED_CHECK | WIDE_RECORDED_CHECK, 1, _) => Some("erred"),
+        (op, 0, 0) if CHECKS.contains(&op) => Some("no deadlock"),
+        (op, 0, _) if CHECKS.contains(&op) => Some("deadlock"),
+        (op, 1, _) if CHECKS.contains(&op) => Some("erred"),
         _ => None,
     }
 }
+
+const CHECKS: [u32; 9] = [
+    CHECK,
+    WIDE_CHECK,
+    RECORDED_CHECK,
+    WIDE_RECORDED_CHECK,
+    INDEXED_CHECK,
+    WIDE_INDEXED_CHECK,
+    RECORDED_INDEXED_CHECK,
+    WIDE_RECORDED_INDEXED_CHECK,
+    HALF_CHECK,
+];
 
 fn count<K: Ord>(counts: &mut BTreeMap<K, u64>, key: K) {
     *counts.entry(key).or_default() += 1;
@@ -79,11 +96,7 @@ impl Tally {
             list.into_iter().for_each(|n| count(&mut self.steps, n));
         }
         self.taken += (judged.op == VIEW && judged.answer[2] == 1) as u64;
-        if library::answered(asked) != judged {
-            let mut bytes = vec![];
-            judged.write(&mut bytes);
-            self.differs(&bytes);
-        }
+        self.unless(library::answered(asked) == judged, &judged);
     }
 
     /// The same call in two sittings that agree for a candidate, who must be told the same.
@@ -142,7 +155,39 @@ impl Tally {
     /// Whether a call and its renumbered twin match, in what they answer and in what they leave.
     pub fn add_matched(&mut self, same: bool, call: &Case) {
         self.matched += same as u64;
-        if !same {
+        self.unless(same, call);
+    }
+
+    /// A call of a list that has several operations: its answer by its name too.
+    pub fn add_named(&mut self, asked: &Case) {
+        names(&asked.clone().answered()).into_iter().for_each(|name| count(&mut self.named, name));
+        self.add(asked);
+    }
+
+    /// Of a call beside an index: whether the index was right and is right, and how many slots changed.
+    pub fn add_kept(&mut self, was: bool, is: bool, changed: usize, call: &Case) {
+        self.changed += changed as u64;
+        if was {
+            self.right += 1;
+            self.unless(is, call);
+        }
+    }
+
+    /// Of a half check: whether it says what the check of the all-narrow yard says.
+    pub fn add_narrow(&mut self, same: bool, call: &Case) {
+        self.as_narrow += same as u64;
+        self.unless(same, call);
+    }
+
+    /// Of the last step of a sitting: whether no narrow image is left.
+    pub fn add_carried(&mut self, whole: bool, call: &Case) {
+        self.carried += whole as u64;
+        self.unless(whole, call);
+    }
+
+    /// A claim about what the library made of a call.
+    fn unless(&mut self, holds: bool, call: &Case) {
+        if !holds {
             let mut bytes = vec![];
             call.write(&mut bytes);
             self.differs(&bytes);
@@ -180,6 +225,13 @@ impl Tally {
         }
         if self.matched > 0 {
             println!("  calls that match their twins: {}", self.matched);
+        }
+        self.named.iter().for_each(|(name, n)| println!("  {name}: {n}"));
+        if self.right > 0 {
+            println!("  right indexes before a call: {}; slots that changed: {}", self.right, self.changed);
+        }
+        if self.carried > 0 {
+            println!("  last steps: {}; half checks as all narrow: {}", self.carried, self.as_narrow);
         }
         if self.lines > 0 {
             println!("  lines: {}, exact halves among their offsets: {}", self.lines, self.halves);

@@ -5,11 +5,11 @@ use crate::library::{answered, numbers, put_check, told_check, wide_told};
 use crate::tally::Tally;
 use crate::wide_lists::{matching, premises_met};
 use oracle::cases::{Case, WIDE_RECORDED_CHECK};
-use oracle::demand3::{self, Call, Renumbering};
+use oracle::demand3::{Call, Renumbering};
 use oracle::layout::{u16s, u32s};
 use oracle::model::CheckArgs;
 use oracle::rng::Rng;
-use oracle::trials::wide::{match_states, renumbered, renumbered_yard, wide_call, wide_start};
+use oracle::trials::wide::{match_states, narrow_start, renumbered, renumbered_yard, wide_call, wide_start};
 use oracle::undo::RECORD_HEADER;
 use oracle::wide::{Slots, WideArgs, NARROW_TRAIN};
 use oracle::wide_calls::{report_len, WideYard};
@@ -44,15 +44,6 @@ pub fn undo(case: &mut Case) {
     let answer = lavtoeu::undo(&mut yard, &case.ins[1]);
     (case.answer[0], case.answer[1]) = numbers(answer);
     case.outs = [yard, vec![]];
-}
-
-/// A yard of narrow images.
-fn narrow_start(rng: &mut Rng) -> WideYard {
-    let mut y = demand3::start(rng);
-    if rng.chance(98) {
-        y.occ[0] = 0;
-    }
-    WideYard { table: y.table, occ: y.occ.iter().map(|&train| train as u32).collect(), yard: y.yard }
 }
 
 /// A call over entries of 16 or 32 bits, a check with so many bytes more or fewer than its record takes.
