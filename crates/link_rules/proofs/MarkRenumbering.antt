@@ -1,6 +1,6 @@
 -- Demand 3's part for mark and release: over tables and occupancies that match, markOf matches, refused calls included. Assumes nothing.
 use mathlib.Core.Path.{_≡_, refl, sym, ap, _∙_, subst}
-use mathlib.Core.Bool.{Bool, true, false, cond, not, _&&_}
+use mathlib.Core.Bool.{Bool, true, false, cond, not}
 use mathlib.Core.List.{List, [], _∷_, map}
 use Prim.Native.Nat.{ℕ, zero, suc, _+_, _-_, _≤_, _<_}
 use native.Mathlib.Omega.{arith}
@@ -16,7 +16,7 @@ use Rattle.link_rules.specs.Matching.{TablesMatch, OccupanciesMatch, Mar
 use Rattle.link_rules.specs.declared.link_idx.LinkIdx.{LinkIdx}
 use Rattle.link_rules.specs.declared.link_idx.TrainIdx.{TrainIdx}
 use Rattle.link_rules.proofs.MarkLaws.{numberBy, by-tests}
-use Rattle.link_rules.proofs.TableLaws.{all-at}
+use Rattle.link_rules.proofs.TableLaws.{and-left, and-right, all-at}
 use Rattle.link_rules.proofs.RenumberingLaws.{eqb-renumbered, eqb-renumbered-0, ltb-renumbered, below, entry-r, occupied-r}
 
 -- ---- a table that passes 1 names only links below L
@@ -24,14 +24,6 @@ use Rattle.link_rules.proofs.RenumberingLaws.{eqb-renumbered, eqb-renum
 abbrev AllBelow : ℕ → List LinkIdx → Type 0
 AllBelow n [] = Unit {0}
 AllBelow n (l ∷ ls) = (l .0 < n) × AllBelow n ls
-
-and-left : (a b : Bool) → (a && b) ≡ true → a ≡ true
-and-left true b h = refl
-and-left false b h = h
-
-and-right : (a b : Bool) → (a && b) ≡ true → b ≡ true
-and-right true b h = h
-and-right false b h = let z : _≡_ {A = ℕ} 0 1 = cc in absurd (omega arith)
 
 module _ (tbl : List ℕ) (fits : tableFits tbl ≡ true) where
   records : allBelow (linkCount tbl) (recordFits tbl) ≡ true

@@ -1,6 +1,7 @@
 // The link table: its check, refusal 1, and thin readers (network.rs: idx_flip and link_idxs_lockout of Link).
 ghost use mathlib.Core.Path.{_≡_};
-ghost use Prim.Native.Nat.{_<_, _^_};
+ghost use mathlib.Core.Bool.{true, _&&_};
+ghost use Prim.Native.Nat.{_+_, _*_, _<_, _≤_, _^_};
 ghost use lib.ListN.{length};
 ghost use Rattle.link_rules.specs.Network.{linkCount, lockoutCount, flipAt, startAt, countAt, lockoutAt, linkAt, allBelow, headerFits, recordFits, lockoutFits, tableFits};
 use crate::link_idx::LinkIdx;
@@ -96,46 +97,64 @@ fn header_fits(table: &[u8]) -> bool
     size == table.len()
 }
 
-fn records_fit(table: &[u8]) -> bool
-    ensures { λ r. ⌜ r ≡ allBelow (linkCount (now (table .entry))) (recordFits (now (table .entry))) ⌝ }
+// No test of a record or a lockout branches, so that the compiler asks several at once.
+fn both(a: bool, b: bool) -> bool
+    ensures { λ r. ⌜ r ≡ a && b ⌝ }
 {
-    let n = link_count(table);
-    let mut l: u32 = 0;
-    while l < n {
-        if !record_fits(table, l) {
-            return false;
-        }
-        l += 1;
+    if a {
+        return b;
     }
-    true
+    false
 }
 
-// Sums are taken in 64 bits, where they cannot wrap.
-fn record_fits(table: &[u8], l: u32) -> bool
+fn records_fit(table: &[u8]) -> bool
+    requires { ⌜ headerFits (now table) ≡ true ⌝ }
+    ensures { λ r. ⌜ r ≡ allBelow (linkCount (now (table .entry))) (recordFits (now (table .entry))) ⌝ }
+{
+    let links = link_count(table);
+    let lockouts = octets::u32_at(table, 8);
+    let mut fits = true;
+    let mut l: u32 = 0;
+    while l < links {
+        let good = record_fits(table, links, lockouts, l);
+        fits = both(fits, good);
+        l += 1;
+    }
+    fits
+}
+
+// start + count <= lockouts, without a sum that wraps.
+fn record_fits(table: &[u8], links: u32, lockouts: u32, l: u32) -> bool
+    requires { ⌜ (links ≡ linkCount (now table)) × (lockouts ≡ lockoutCount (now table)) × (28 + 12 * l ≤ length (now table)) ⌝ }
     ensures { λ r. ⌜ r ≡ recordFits (now (table .entry)) l ⌝ }
 {
-    if link_count(table) <= flip_at(table, l) {
-        return false;
-    }
-    (start_at(table, l) as u64) + (count_at(table, l) as u64) <= octets::u32_at(table, 8) as u64
+    let at = 16 + 12 * (l as usize);
+    let flip = octets::u32_in(table, at);
+    let start = octets::u32_in(table, at + 4);
+    let count = octets::u32_in(table, at + 8);
+    let left = std::num::wrapping_sub_u32(lockouts, start);
+    both(flip < links, both(start <= lockouts, count <= left))
 }
 
 fn lockouts_fit(table: &[u8]) -> bool
+    requires { ⌜ headerFits (now table) ≡ true ⌝ }
     ensures { λ r. ⌜ r ≡ allBelow (lockoutCount (now (table .entry))) (lockoutFits (now (table .entry))) ⌝ }
 {
+    let links = link_count(table);
     let n = octets::u32_at(table, 8);
+    let mut fits = true;
     let mut j: u32 = 0;
     while j < n {
-        if !lockout_fits(table, j) {
-            return false;
-        }
+        let good = lockout_fits(table, links, j);
+        fits = both(fits, good);
         j += 1;
     }
-    true
+    fits
 }
 
-fn lockout_fits(table: &[u8], j: u32) -> bool
+fn lockout_fits(table: &[u8], links: u32, j: u32) -> bool
+    requires { ⌜ (links ≡ linkCount (now table)) × (20 + 12 * links + 4 * j ≤ length (now table)) ⌝ }
     ensures { λ r. ⌜ r ≡ lockoutFits (now (table .entry)) j ⌝ }
 {
-    lockout_at(table, j as u64) < link_count(table)
+    octets::u32_in(table, 16 + 12 * (links as usize) + 4 * (j as usize)) < links
 }

@@ -99,7 +99,7 @@ fn u16_in(s: &[u8], at: usize) -> u16
     (s[at] as u16) + 256 * (s[at + 1] as u16)
 }
 
-fn u32_in(s: &[u8], at: usize) -> u32
+pub(crate) fn u32_in(s: &[u8], at: usize) -> u32
     requires { ⌜ at + 4 ≤ length (now s) ⌝ }
     ensures { λ r. ⌜ r ≡ leAt 4 (now (s .entry)) at ⌝ }
 {

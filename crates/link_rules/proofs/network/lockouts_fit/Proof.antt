@@ -1,36 +1,37 @@
-use mathlib.Core.Path.{_≡_, sym, _∙_, ap, refl}
-use mathlib.Core.Bool.{true}
-use Prim.Native.Nat.{ℕ, _-_, _≤_}
+use mathlib.Core.Path.{_≡_, sym, _∙_, ap, ap₂, refl}
+use mathlib.Core.Bool.{_&&_}
+use Prim.Native.Nat.{ℕ, _+_, _*_, _-_, _≤_}
 use denote.Ref.{now}
+use lib.ListN.{length}
 use native.Mathlib.Omega.{arith}
 use borrow.Author.Needs.{needs}
-use borrow.Author.Tests.{not-true, not-false}
-use Rattle.link_rules.specs.Network.{allBelow, lockoutFits}
-use Rattle.link_rules.proofs.TableLaws.{all-more, all-fails}
+use Rattle.link_rules.specs.Network.{linkCount, lockoutCount, allBelow, lockoutFits}
+use Rattle.link_rules.proofs.TableLaws.{all-turn, header-length}
 use Rattle.link_rules.proofs.network.lockouts_fit.Statement.{statement}
 use Rattle.link_rules.proofs.network.lockouts_fit.Tie as tie
 
 abbrev Inv-loop : tie.InvT-loop
-Inv-loop table n j₀ j = (j ≤ n) × (allBelow j (lockoutFits table) ≡ true)
+Inv-loop table links n fits₀ j₀ fits j =
+    (j ≤ n) × (links ≡ linkCount table) × (n ≡ lockoutCount table) × (length table ≡ 16 + 12 * linkCount table + 4 * lockoutCount table) × (fits ≡ allBelow j (lockoutFits table))
 
 abbrev μ-loop : tie.MeasureT-loop
-μ-loop table n j₀ j = n - j
+μ-loop table links n fits₀ j₀ fits j = n - j
+
+link-count-requires : tie.Need-link-count-requires Inv-loop μ-loop
+link-count-requires c κs = search needs
 
 u32-at-requires : tie.Need-u32-at-requires Inv-loop μ-loop
 u32-at-requires c κs = search needs
 
 loop-holds : tie.Need-loop-holds Inv-loop μ-loop
 unfolding allBelow
-loop-holds c = (search needs, refl)
+loop-holds c = (search needs, c .before .link-count .ensures, c .u32-at .ensures, header-length _ (c .before .before .before .pre), refl)
 
 lockout-fits-requires : tie.Need-lockout-fits-requires Inv-loop μ-loop
-lockout-fits-requires c κs = search needs
+lockout-fits-requires c κs = (omega arith, omega (arith, c .before .loop .inv .3, c .loop-test .taken, c .before .before .before .link-count .ensures, c .before .before .u32-at .ensures))
 
-returns : tie.Need-returns Inv-loop μ-loop
-returns c =
-    let t = now (c .before .before .before .before .before .before .args .table) in
-    let l = c .before .before .before .loop .j in
-    sym (all-fails (lockoutFits t) _ l (omega arith) (sym (c .before .lockout-fits .ensures) ∙ not-true _ (c .if1 .taken)))
+both-requires : tie.Need-both-requires Inv-loop μ-loop
+both-requires c κs = search needs
 
 add-j : tie.Need-add-j Inv-loop μ-loop
 add-j c = search needs
@@ -40,14 +41,16 @@ loop-less c = search needs
 
 loop-again : tie.Need-loop-again Inv-loop μ-loop
 loop-again c =
-    let t = now (c .before .before .before .before .before .before .args .table) in
+    let t = now (c .before .before .before .before .before .before .before .args .table) in
     let l = c .before .before .before .loop .j in
-    (search needs, all-more (lockoutFits t) l (c .before .before .before .loop .inv .1) (sym (c .before .lockout-fits .ensures) ∙ not-false _ (c .if1 .left)))
+    let i = c .before .before .before .loop .inv in
+    (search needs, i .1, i .2, i .3, c .both .ensures ∙ ap₂ _&&_ (i .4) (c .before .lockout-fits .ensures) ∙ sym (all-turn (lockoutFits t) l))
 
-returns-2 : tie.Need-returns-2 Inv-loop μ-loop
-returns-2 c =
+returns : tie.Need-returns Inv-loop μ-loop
+returns c =
+    let i = c .before .loop .inv in
     let e : c .before .loop .j ≡ c .before .before .u32-at .result = omega arith in
-    sym (c .before .loop .inv .1) ∙ ap (λ (n : ℕ). allBelow n (lockoutFits (now (c .before .before .before .before .args .table)))) (e ∙ c .before .before .u32-at .ensures)
+    i .4 ∙ ap (λ (n : ℕ). allBelow n (lockoutFits (now (c .before .before .before .before .before .args .table)))) (e ∙ c .before .before .u32-at .ensures)
 
 pub lockouts-fit-spec : {M : Type 1} → statement M
 lockouts-fit-spec =
@@ -55,11 +58,12 @@ lockouts-fit-spec =
     (tie.spec
     Inv-loop
     μ-loop
+    link-count-requires
     u32-at-requires
     loop-holds
     lockout-fits-requires
-    returns
+    both-requires
     add-j
     loop-less
     loop-again
-    returns-2)
+    returns)

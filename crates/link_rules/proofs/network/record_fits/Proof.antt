@@ -1,60 +1,69 @@
+use mathlib.Core.Path.{_≡_, _∙_, ap, ap₂}
+use mathlib.Core.Bool.{_&&_}
+use Prim.Native.Nat.{_+_, _*_}
 use denote.Ref.{now}
+use lib.Dec.{ltb, leb}
 use native.Mathlib.Omega.{arith}
-use borrow.Author.Tests.{lt-ltb, le-ltb}
-use Rattle.link_rules.specs.Network.{recordFits, linkCount, flipAt}
+use Rattle.link_rules.specs.Octets.{leAt}
+use Rattle.link_rules.specs.Network.{recordFits}
+use Rattle.link_rules.proofs.TableLaws.{span-within}
 use borrow.Author.Needs.{needs}
 use Rattle.link_rules.proofs.network.record_fits.Statement.{statement}
 use Rattle.link_rules.proofs.network.record_fits.Tie as tie
 
-link-count-requires : tie.Need-link-count-requires
-link-count-requires c κs = search needs
+mul-at : tie.Need-mul-at
+mul-at c = search needs
 
-flip-at-requires : tie.Need-flip-at-requires
-flip-at-requires c κs = search needs
+add-at : tie.Need-add-at
+add-at c = search needs
+
+u32-in-requires : tie.Need-u32-in-requires
+u32-in-requires c κs = search needs
+
+add-u32-in : tie.Need-add-u32-in
+add-u32-in c = search needs
+
+u32-in-requires-2 : tie.Need-u32-in-requires-2
+u32-in-requires-2 c κs = search needs
+
+add-u32-in-2 : tie.Need-add-u32-in-2
+add-u32-in-2 c = search needs
+
+u32-in-requires-3 : tie.Need-u32-in-requires-3
+u32-in-requires-3 c κs = search needs
+
+wrapping-sub-u32-requires : tie.Need-wrapping-sub-u32-requires
+wrapping-sub-u32-requires c κs = search needs
+
+both-requires : tie.Need-both-requires
+both-requires c κs = search needs
+
+both-requires-2 : tie.Need-both-requires-2
+both-requires-2 c κs = search needs
 
 returns : tie.Need-returns
 unfolding recordFits
-returns c = let a = c .before .before .before .before .args in rw (le-ltb (flipAt (now (a .table)) (a .l)) (linkCount (now (a .table))) (omega arith))
-
-start-at-requires : tie.Need-start-at-requires
-start-at-requires c κs = search needs
-
-cast-result : tie.Need-cast-result
-cast-result c = search needs
-
-count-at-requires : tie.Need-count-at-requires
-count-at-requires c κs = search needs
-
-cast-result-2 : tie.Need-cast-result-2
-cast-result-2 c = search needs
-
-add-result : tie.Need-add-result
-add-result c = search needs
-
-u32-at-requires : tie.Need-u32-at-requires
-u32-at-requires c κs = search needs
-
-cast-result-3 : tie.Need-cast-result-3
-cast-result-3 c = search needs
-
-returns-2 : tie.Need-returns-2
-unfolding recordFits
-returns-2 c =
+returns c =
     let a = c .before .before .before .before .before .before .before .args in
-    rw (lt-ltb (flipAt (now (a .table)) (a .l)) (linkCount (now (a .table))) (omega arith), c .before .before .start-at .ensures, c .before .count-at .ensures, c .u32-at .ensures)
+    let pre = c .before .before .before .before .before .before .before .pre in
+    let t = now (a .table) in
+    let s : 16 + 12 * a .l + 4 ≡ 20 + 12 * a .l = omega arith in
+    let n : 16 + 12 * a .l + 8 ≡ 24 + 12 * a .l = omega arith in
+    let span = span-within (c .before .before .before .before .u32-in2 .result) (c .before .before .before .u32-in3 .result) (a .lockouts) (c .before .before .wrapping-sub-u32 .result) (omega arith) (omega arith) (c .before .before .wrapping-sub-u32 .ensures) in
+    c .both2 .ensures ∙ ap₂ _&&_ (ap₂ ltb (c .before .before .before .before .before .u32-in .ensures) (pre .0)) (c .before .both .ensures ∙ span ∙ ap₂ leb (ap₂ _+_ (c .before .before .before .before .u32-in2 .ensures ∙ ap (leAt 4 t) s) (c .before .before .before .u32-in3 .ensures ∙ ap (leAt 4 t) n)) (pre .1))
 
 pub record-fits-spec : {M : Type 1} → statement M
 record-fits-spec =
     tie.close
     (tie.spec
-    link-count-requires
-    flip-at-requires
-    returns
-    start-at-requires
-    cast-result
-    count-at-requires
-    cast-result-2
-    add-result
-    u32-at-requires
-    cast-result-3
-    returns-2)
+    mul-at
+    add-at
+    u32-in-requires
+    add-u32-in
+    u32-in-requires-2
+    add-u32-in-2
+    u32-in-requires-3
+    wrapping-sub-u32-requires
+    both-requires
+    both-requires-2
+    returns)

@@ -13,14 +13,14 @@ unfolding tableFits
 returns c = rw (sym (c .before .header-fits .ensures) ∙ not-true _ (c .if1 .taken))
 
 records-fit-requires : tie.Need-records-fit-requires
-records-fit-requires c κs = search needs
+records-fit-requires c κs = sym (c .before .header-fits .ensures) ∙ not-false _ (c .if1 .left)
 
 returns-2 : tie.Need-returns-2
 unfolding tableFits
 returns-2 c = rw (sym (c .before .before .before .header-fits .ensures) ∙ not-false _ (c .before .before .if1 .left), sym (c .before .records-fit .ensures) ∙ not-true _ (c .if2 .taken))
 
 lockouts-fit-requires : tie.Need-lockouts-fit-requires
-lockouts-fit-requires c κs = search needs
+lockouts-fit-requires c κs = sym (c .before .before .before .header-fits .ensures) ∙ not-false _ (c .before .before .if1 .left)
 
 returns-3 : tie.Need-returns-3
 unfolding tableFits
