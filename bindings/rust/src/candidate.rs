@@ -1,7 +1,7 @@
 //! A candidate's hand on a sitting (change request Q-11): the train of one slot, and nothing else of the yard.
 
 use crate::image::{node_from, Node};
-use crate::{layout, raw, Refusal};
+use crate::{layout, Refusal};
 
 /// What a candidate sees at a node of their path.
 #[derive(Clone, Copy, Debug, PartialEq, Eq)]
@@ -67,23 +67,7 @@ impl<'a> Candidate<'a> {
     /// The path record of a node, counted from 0, and whether its link is taken.
     pub fn view(&self, node: u32) -> Result<View, Refusal> {
         let (mut record, mut words) = ([0; layout::PATH_RECORD], [0]);
-        // SAFETY: each pointer goes with its own length, and the function keeps to them.
-        Refusal::of(unsafe {
-            raw::lavtoeu_view(
-                self.table.as_ptr(),
-                self.table.len(),
-                self.occupancy.as_ptr(),
-                self.occupancy.len(),
-                self.yard.as_ptr(),
-                self.yard.len(),
-                self.slot,
-                node,
-                record.as_mut_ptr(),
-                record.len(),
-                words.as_mut_ptr(),
-                words.len(),
-            )
-        })?;
+        Refusal::of(call!(lavtoeu_view, &self.table, &self.occupancy, &self.yard, self.slot, node, &mut record, &mut words))?;
         Ok(View { record, taken: words[0] != 0 })
     }
 
@@ -98,19 +82,6 @@ impl<'a> Candidate<'a> {
     }
 
     fn act(&mut self, link: u32, marks: u32) -> Result<(), Refusal> {
-        // SAFETY: each pointer goes with its own length, and the function keeps to them.
-        Refusal::of(unsafe {
-            raw::lavtoeu_act(
-                self.table.as_ptr(),
-                self.table.len(),
-                self.occupancy.as_mut_ptr(),
-                self.occupancy.len(),
-                self.yard.as_ptr(),
-                self.yard.len(),
-                self.slot,
-                link,
-                marks,
-            )
-        })
+        Refusal::of(call!(lavtoeu_act, &self.table, &mut self.occupancy, &self.yard, self.slot, link, marks))
     }
 }

@@ -1,7 +1,7 @@
 //! Carrying a sitting from narrow images to wide ones while it runs (change request Q-7).
 
 use crate::layout::*;
-use crate::{checked_of, mark_wide, parts, raw, Check, Checked, Refusal, WideMove};
+use crate::{checked_of, mark_wide, parts, Check, Checked, Refusal, WideMove};
 
 /// How long the yard of these images is with all of them wide; 14 where it is no yard. Room beyond [`MAX_ROOM`], which 6 refuses, is not
 /// counted.
@@ -15,20 +15,7 @@ pub fn wide_yard_size(yard: &[u8]) -> Result<usize, Refusal> {
 /// length or two that are not equal, 14, then by 6 to 9 of the first image still to carry that fails, then by 24, a count of S or more or
 /// a second yard that is not what so many steps leave.
 pub fn carry(yard: &[u8], occupancy: &[u16], count: u32, wide_yard: &mut [u8], wide_occupancy: &mut [u32]) -> Result<(), Refusal> {
-    // SAFETY: each pointer goes with its own length, and the function keeps to them.
-    Refusal::of(unsafe {
-        raw::lavtoeu_carry(
-            yard.as_ptr(),
-            yard.len(),
-            occupancy.as_ptr(),
-            occupancy.len(),
-            count,
-            wide_yard.as_mut_ptr(),
-            wide_yard.len(),
-            wide_occupancy.as_mut_ptr(),
-            wide_occupancy.len(),
-        )
-    })
+    Refusal::of(call!(lavtoeu_carry, &yard, &occupancy, count, &mut wide_yard, &mut wide_occupancy))
 }
 
 /// A check of a yard of which `count` slots, 1 or more, are carried: these are read and written in the second yard, the others in the
@@ -43,28 +30,20 @@ pub fn check_half_into(
     report: &mut [u8],
     answer: &mut [u64],
 ) -> Result<(), Refusal> {
-    // SAFETY: each pointer goes with its own length, and the function keeps to them.
-    Refusal::of(unsafe {
-        raw::lavtoeu_check_half(
-            yard.as_mut_ptr(),
-            yard.len(),
-            wide_yard.as_mut_ptr(),
-            wide_yard.len(),
-            count,
-            m.occupancy.as_ptr(),
-            m.occupancy.len(),
-            m.blocking.as_ptr(),
-            m.blocking.len(),
-            m.moved,
-            begin,
-            m.local as u32,
-            m.limit,
-            report.as_mut_ptr(),
-            report.len(),
-            answer.as_mut_ptr(),
-            answer.len(),
-        )
-    })
+    Refusal::of(call!(
+        lavtoeu_check_half,
+        &mut yard,
+        &mut wide_yard,
+        count,
+        &m.occupancy,
+        &m.blocking,
+        m.moved,
+        begin,
+        m.local as u32,
+        m.limit,
+        &mut report,
+        &mut answer
+    ))
 }
 
 /// A sitting that is being carried: its narrow yard, the wide one that the slots go to, and the occupancy in both widths. Marks and

@@ -1,6 +1,6 @@
 //! The lesson game of a closer against a dispatcher.
 
-use crate::{raw, Refusal};
+use crate::Refusal;
 
 /// What is played over besides the train's image.
 #[derive(Clone, Copy, Debug)]
@@ -23,22 +23,6 @@ pub struct Game<'a> {
 /// blocking list, 22 where the image cannot hold a train that is given, then by 28.
 pub fn closer_can_force(image: &[u8], game: Game) -> Result<bool, Refusal> {
     let (g, mut words) = (game, [0]);
-    // SAFETY: each pointer goes with its own length, and the function keeps to them.
-    Refusal::of(unsafe {
-        raw::lavtoeu_closer_can_force(
-            image.as_ptr(),
-            image.len(),
-            g.occupancy.as_ptr(),
-            g.occupancy.len(),
-            g.moved,
-            g.local as u32,
-            g.limit,
-            g.links.as_ptr(),
-            g.links.len(),
-            g.turns,
-            words.as_mut_ptr(),
-            words.len(),
-        )
-    })?;
+    Refusal::of(call!(lavtoeu_closer_can_force, &image, &g.occupancy, g.moved, g.local as u32, g.limit, &g.links, g.turns, &mut words))?;
     Ok(words[0] != 0)
 }

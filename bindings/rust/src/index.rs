@@ -1,7 +1,7 @@
 //! Which trains run over a link: an index beside the yard, and the calls that keep it (change request Q-10).
 
 use crate::layout::*;
-use crate::{checked_of, raw, undo_record_size, Checked, Move, Order, Refusal, UndoRecord, WideMove};
+use crate::{checked_of, undo_record_size, Checked, Move, Order, Refusal, UndoRecord, WideMove};
 
 /// The slots whose path arrives at a link, by its entry of an index: slot t is bit t.
 pub fn slots_on(entry: u64) -> impl Iterator<Item = u16> {
@@ -24,8 +24,7 @@ pub fn slots_on(entry: u64) -> impl Iterator<Item = u16> {
 /// # Ok::<(), Refusal>(())
 /// ```
 pub fn build_index(yard: &[u8], index: &mut [u64]) -> Result<(), Refusal> {
-    // SAFETY: each pointer goes with its own length, and the function keeps to them.
-    Refusal::of(unsafe { raw::lavtoeu_index(yard.as_ptr(), yard.len(), index.as_mut_ptr(), index.len()) })
+    Refusal::of(call!(lavtoeu_index, &yard, &mut index))
 }
 
 /// [`check`](crate::check) beside an index: the bits of the slots whose image changes are written as [`build_index`] would, all others
@@ -78,27 +77,19 @@ pub fn check_indexed_into(
     index: &mut [u64],
     answer: &mut [u64],
 ) -> Result<(), Refusal> {
-    // SAFETY: each pointer goes with its own length, and the function keeps to them.
-    Refusal::of(unsafe {
-        raw::lavtoeu_check_indexed(
-            yard.as_mut_ptr(),
-            yard.len(),
-            m.occupancy.as_ptr(),
-            m.occupancy.len(),
-            m.blocking.as_ptr(),
-            m.blocking.len(),
-            m.moved,
-            begin,
-            m.local as u32,
-            m.limit,
-            report.as_mut_ptr(),
-            report.len(),
-            index.as_mut_ptr(),
-            index.len(),
-            answer.as_mut_ptr(),
-            answer.len(),
-        )
-    })
+    Refusal::of(call!(
+        lavtoeu_check_indexed,
+        &mut yard,
+        &m.occupancy,
+        &m.blocking,
+        m.moved,
+        begin,
+        m.local as u32,
+        m.limit,
+        &mut report,
+        &mut index,
+        &mut answer
+    ))
 }
 
 /// [`check_wide_indexed`] with its answer in words.
@@ -110,27 +101,19 @@ pub fn check_wide_indexed_into(
     index: &mut [u64],
     answer: &mut [u64],
 ) -> Result<(), Refusal> {
-    // SAFETY: each pointer goes with its own length, and the function keeps to them.
-    Refusal::of(unsafe {
-        raw::lavtoeu_check_indexed_wide(
-            yard.as_mut_ptr(),
-            yard.len(),
-            m.occupancy.as_ptr(),
-            m.occupancy.len(),
-            m.blocking.as_ptr(),
-            m.blocking.len(),
-            m.moved,
-            begin,
-            m.local as u32,
-            m.limit,
-            report.as_mut_ptr(),
-            report.len(),
-            index.as_mut_ptr(),
-            index.len(),
-            answer.as_mut_ptr(),
-            answer.len(),
-        )
-    })
+    Refusal::of(call!(
+        lavtoeu_check_indexed_wide,
+        &mut yard,
+        &m.occupancy,
+        &m.blocking,
+        m.moved,
+        begin,
+        m.local as u32,
+        m.limit,
+        &mut report,
+        &mut index,
+        &mut answer
+    ))
 }
 
 /// [`check_recorded_indexed`] with its record in a buffer of at least [`undo_record_size`] bytes, whose bytes beyond stay, and its answer
@@ -144,29 +127,20 @@ pub fn check_recorded_indexed_into(
     index: &mut [u64],
     answer: &mut [u64],
 ) -> Result<(), Refusal> {
-    // SAFETY: each pointer goes with its own length, and the function keeps to them.
-    Refusal::of(unsafe {
-        raw::lavtoeu_check_recorded_indexed(
-            yard.as_mut_ptr(),
-            yard.len(),
-            m.occupancy.as_ptr(),
-            m.occupancy.len(),
-            m.blocking.as_ptr(),
-            m.blocking.len(),
-            m.moved,
-            begin,
-            m.local as u32,
-            m.limit,
-            report.as_mut_ptr(),
-            report.len(),
-            record.as_mut_ptr(),
-            record.len(),
-            index.as_mut_ptr(),
-            index.len(),
-            answer.as_mut_ptr(),
-            answer.len(),
-        )
-    })
+    Refusal::of(call!(
+        lavtoeu_check_recorded_indexed,
+        &mut yard,
+        &m.occupancy,
+        &m.blocking,
+        m.moved,
+        begin,
+        m.local as u32,
+        m.limit,
+        &mut report,
+        &mut record,
+        &mut index,
+        &mut answer
+    ))
 }
 
 /// [`check_recorded_indexed_into`] over trains of 32 bits, of a yard with images of either width.
@@ -179,58 +153,31 @@ pub fn check_recorded_wide_indexed_into(
     index: &mut [u64],
     answer: &mut [u64],
 ) -> Result<(), Refusal> {
-    // SAFETY: each pointer goes with its own length, and the function keeps to them.
-    Refusal::of(unsafe {
-        raw::lavtoeu_check_recorded_indexed_wide(
-            yard.as_mut_ptr(),
-            yard.len(),
-            m.occupancy.as_ptr(),
-            m.occupancy.len(),
-            m.blocking.as_ptr(),
-            m.blocking.len(),
-            m.moved,
-            begin,
-            m.local as u32,
-            m.limit,
-            report.as_mut_ptr(),
-            report.len(),
-            record.as_mut_ptr(),
-            record.len(),
-            index.as_mut_ptr(),
-            index.len(),
-            answer.as_mut_ptr(),
-            answer.len(),
-        )
-    })
+    Refusal::of(call!(
+        lavtoeu_check_recorded_indexed_wide,
+        &mut yard,
+        &m.occupancy,
+        &m.blocking,
+        m.moved,
+        begin,
+        m.local as u32,
+        m.limit,
+        &mut report,
+        &mut record,
+        &mut index,
+        &mut answer
+    ))
 }
 
 /// [`lay_out`](crate::lay_out) beside an index: where the bytes of `image` change, the bits of the order's train are written. Refused by
 /// 5, a train of 0 or above 63, 6, 25, an index that has not an entry for each link, 7, 8, 9, 11.
 pub fn lay_out_indexed(est: &[u8], order: Order, image: &mut [u8], index: &mut [u64]) -> Result<(), Refusal> {
     let o = order;
-    // SAFETY: each pointer goes with its own length, and the function keeps to them.
-    Refusal::of(unsafe {
-        raw::lavtoeu_lay_out_indexed(
-            est.as_ptr(),
-            est.len(),
-            o.train,
-            o.search,
-            o.fixed,
-            o.room,
-            o.links,
-            image.as_mut_ptr(),
-            image.len(),
-            index.as_mut_ptr(),
-            index.len(),
-        )
-    })
+    Refusal::of(call!(lavtoeu_lay_out_indexed, &est, o.train, o.search, o.fixed, o.room, o.links, &mut image, &mut index))
 }
 
 /// [`undo`](crate::undo) beside an index, whose bits of the slots that change are written; a slot that only one of the two yards has
 /// changes too. Refused by 25, fewer than 2 entries or more than 4,000, then by 21.
 pub fn undo_indexed(yard: &mut [u8], record: &[u8], index: &mut [u64]) -> Result<(), Refusal> {
-    // SAFETY: each pointer goes with its own length, and the function keeps to them.
-    Refusal::of(unsafe {
-        raw::lavtoeu_undo_indexed(yard.as_mut_ptr(), yard.len(), record.as_ptr(), record.len(), index.as_mut_ptr(), index.len())
-    })
+    Refusal::of(call!(lavtoeu_undo_indexed, &mut yard, &record, &mut index))
 }

@@ -18,9 +18,11 @@
 //! assert_eq!(mark(&table, &mut occupancy, 3, 9), Err(Refusal { number: 3, place: 0 }));
 //! ```
 
-mod game;
+#[macro_use]
+mod call;
 mod candidate;
 mod carry;
+mod game;
 mod image;
 mod index;
 pub mod layout;
@@ -32,9 +34,9 @@ mod undo;
 mod version;
 mod wide;
 
-pub use game::{closer_can_force, Game};
 pub use candidate::{Candidate, View};
 pub use carry::{carry, check_half_into, wide_yard_size, Carrying};
+pub use game::{closer_can_force, Game};
 pub use image::{Diverge, Image, Node};
 pub use index::{
     build_index, check_indexed, check_indexed_into, check_recorded_indexed, check_recorded_indexed_into, check_recorded_wide_indexed,
@@ -43,9 +45,7 @@ pub use index::{
 pub use parts::{bundle, parts};
 pub use recording::{replay, Check, Recording};
 pub use table::{links, table, Link};
-pub use undo::{
-    check_recorded, check_recorded_into, check_recorded_wide, check_recorded_wide_into, undo, undo_record_size, UndoRecord,
-};
+pub use undo::{check_recorded, check_recorded_into, check_recorded_wide, check_recorded_wide_into, undo, undo_record_size, UndoRecord};
 pub use version::{version, VERSION, VERSION_TEXT};
 pub use wide::{
     check_wide, check_wide_into, is_wide, mark_wide, narrow, report_record, update_wide, update_wide_into, wide_image_size, wide_rows,
@@ -116,8 +116,7 @@ impl std::error::Error for Refusal {}
 
 /// Marks a link for a train, or releases it with train 0: the flip and each lockout of the link.
 pub fn mark(table: &[u8], occupancy: &mut [u16], link: u32, train: u16) -> Result<(), Refusal> {
-    // SAFETY: each pointer goes with its own length, and the function keeps to them.
-    Refusal::of(unsafe { raw::lavtoeu_mark(table.as_ptr(), table.len(), occupancy.as_mut_ptr(), occupancy.len(), link, train) })
+    Refusal::of(call!(lavtoeu_mark, &table, &mut occupancy, link, train))
 }
 
 /// The type of an est record.
@@ -175,24 +174,19 @@ pub fn image_size(e: usize, q: usize) -> usize {
 /// Writes the image of a new train into the buffer, its path along next from est 0. `est` has 32 bytes for each est record.
 pub fn lay_out(est: &[u8], order: Order, image: &mut [u8]) -> Result<(), Refusal> {
     let o = order;
-    // SAFETY: each pointer goes with its own length, and the function keeps to them.
-    Refusal::of(unsafe {
-        raw::lavtoeu_lay_out(est.as_ptr(), est.len(), o.train, o.search, o.fixed, o.room, o.links, image.as_mut_ptr(), image.len())
-    })
+    Refusal::of(call!(lavtoeu_lay_out, &est, o.train, o.search, o.fixed, o.room, o.links, &mut image))
 }
 
 /// Refusals 6 to 9 of an image of either width over a number of links, 22 between 7 and 8, or 2 where the links are fewer than 2 or more
 /// than 4,000.
 pub fn judge(image: &[u8], links: u32) -> Result<(), Refusal> {
-    // SAFETY: the pointer goes with its own length, and the function keeps to it.
-    Refusal::of(unsafe { raw::lavtoeu_image_fault(image.as_ptr(), image.len(), links) })
+    Refusal::of(call!(lavtoeu_image_fault, &image, links))
 }
 
 /// Refusals 6 to 9 of an image over 4,000 links, then 29: an est distance, a distance of the header or a path offset is outside
 /// the training track profile, which is the whole multiples of 1/1024 metre from 0 to 40,000 metres.
 pub fn profile(image: &[u8]) -> Result<(), Refusal> {
-    // SAFETY: the pointer goes with its own length, and the function keeps to it.
-    Refusal::of(unsafe { raw::lavtoeu_profile(image.as_ptr(), image.len()) })
+    Refusal::of(call!(lavtoeu_profile, &image))
 }
 
 /// What an update and a check are told besides the image or the yard.
@@ -254,22 +248,7 @@ fn updated_of(answer: Result<(), Refusal>, words: [u64; layout::UPDATE_WORDS]) -
 /// [`update`] with its answer in words, as many as there is room for: the code, the errors, the rounds, the strays, the
 /// steps, of a refused update too, the holder, and the train met.
 pub fn update_into(image: &mut [u8], m: Move, answer: &mut [u64]) -> Result<(), Refusal> {
-    // SAFETY: each pointer goes with its own length, and the function keeps to them.
-    Refusal::of(unsafe {
-        raw::lavtoeu_update(
-            image.as_mut_ptr(),
-            image.len(),
-            m.occupancy.as_ptr(),
-            m.occupancy.len(),
-            m.blocking.as_ptr(),
-            m.blocking.len(),
-            m.moved,
-            m.local as u32,
-            m.limit,
-            answer.as_mut_ptr(),
-            answer.len(),
-        )
-    })
+    Refusal::of(call!(lavtoeu_update, &mut image, &m.occupancy, &m.blocking, m.moved, m.local as u32, m.limit, &mut answer))
 }
 
 /// A yard of images, slot t for the t-th, which must hold train t.
@@ -359,25 +338,18 @@ fn checked_of(words: [u64; layout::CHECK_WORDS]) -> Checked {
 /// [`check`] with its answer in words, as many as there is room for: the number of slots that erred and, where it is 0, 1 for a
 /// deadlock and the next begin. A refused check leaves `answer` as it was.
 pub fn check_into(yard: &mut [u8], m: Move, begin: u16, report: &mut [u8], answer: &mut [u64]) -> Result<(), Refusal> {
-    // SAFETY: each pointer goes with its own length, and the function keeps to them.
-    Refusal::of(unsafe {
-        raw::lavtoeu_check(
-            yard.as_mut_ptr(),
-            yard.len(),
-            m.occupancy.as_ptr(),
-            m.occupancy.len(),
-            m.blocking.as_ptr(),
-            m.blocking.len(),
-            m.moved,
-            begin,
-            m.local as u32,
-            m.limit,
-            report.as_mut_ptr(),
-            report.len(),
-            answer.as_mut_ptr(),
-            answer.len(),
-        )
-    })
+    Refusal::of(call!(
+        lavtoeu_check,
+        &mut yard,
+        &m.occupancy,
+        &m.blocking,
+        m.moved,
+        begin,
+        m.local as u32,
+        m.limit,
+        &mut report,
+        &mut answer
+    ))
 }
 
 /// The sheet of a bundle as text: `refused n`, or one line for the answer and one for each slot.
@@ -389,29 +361,25 @@ pub fn sheet(bundle: &[u8]) -> String {
 
 /// [`sheet`] in a buffer, as many bytes as there is room for. Gives how many these are.
 pub fn sheet_into(bundle: &[u8], text: &mut [u8]) -> usize {
-    // SAFETY: each pointer goes with its own length, and the function keeps to them.
-    unsafe { raw::lavtoeu_sheet(bundle.as_ptr(), bundle.len(), text.as_mut_ptr(), text.len()) }
+    call!(lavtoeu_sheet, &bundle, &mut text)
 }
 
 /// Writes the page of an image's path: for each node a line of 39 columns and a line end. It takes 40 bytes a node, and bytes past
 /// these stay.
 pub fn page(image: &[u8], page: &mut [u8]) -> Result<(), Refusal> {
-    // SAFETY: each pointer goes with its own length, and the function keeps to them.
-    Refusal::of(unsafe { raw::lavtoeu_page(image.as_ptr(), image.len(), page.as_mut_ptr(), page.len()) })
+    Refusal::of(call!(lavtoeu_page, &image, &mut page))
 }
 
 /// The most search steps of a round of an image's train: 3 E + 1. Refused by 6 to 9 over 4,000 links.
 pub fn ceiling(image: &[u8]) -> Result<u64, Refusal> {
     let mut words = [0];
-    // SAFETY: each pointer goes with its own length, and the function keeps to them.
-    Refusal::of(unsafe { raw::lavtoeu_ceiling(image.as_ptr(), image.len(), words.as_mut_ptr(), words.len()) })?;
+    Refusal::of(call!(lavtoeu_ceiling, &image, &mut words))?;
     Ok(words[0])
 }
 
 /// The most search steps of a check of a yard: the ceiling of each slot times the round limit, a refused image adding 0.
 pub fn yard_ceiling(yard: &[u8], limit: u16) -> Result<u64, Refusal> {
     let mut words = [0];
-    // SAFETY: each pointer goes with its own length, and the function keeps to them.
-    Refusal::of(unsafe { raw::lavtoeu_yard_ceiling(yard.as_ptr(), yard.len(), limit, words.as_mut_ptr(), words.len()) })?;
+    Refusal::of(call!(lavtoeu_yard_ceiling, &yard, limit, &mut words))?;
     Ok(words[0])
 }

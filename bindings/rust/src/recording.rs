@@ -1,7 +1,7 @@
 //! The recording of a sitting: marks, releases and checks in order, and their replay.
 
 use crate::layout::*;
-use crate::{raw, Refusal};
+use crate::Refusal;
 
 /// What a recorded check is told. Its occupancy and its yard are those that the step before it left, and its report goes unread.
 #[derive(Clone, Copy, Debug)]
@@ -95,19 +95,5 @@ impl Recording {
 /// entry for each step, and gets the number of its refusal, 0 where there is none; a refused step changes nothing, and the replay
 /// goes on. Refused by 19, a malformed recording or a list of another length, before any step.
 pub fn replay(recording: &[u8], table: &[u8], yard: &mut [u8], occupancy: &mut [u16], list: &mut [u16]) -> Result<(), Refusal> {
-    // SAFETY: each pointer goes with its own length, and the function keeps to them.
-    Refusal::of(unsafe {
-        raw::lavtoeu_replay(
-            recording.as_ptr(),
-            recording.len(),
-            table.as_ptr(),
-            table.len(),
-            yard.as_mut_ptr(),
-            yard.len(),
-            occupancy.as_mut_ptr(),
-            occupancy.len(),
-            list.as_mut_ptr(),
-            list.len(),
-        )
-    })
+    Refusal::of(call!(lavtoeu_replay, &recording, &table, &mut yard, &mut occupancy, &mut list))
 }

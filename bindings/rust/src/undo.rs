@@ -1,7 +1,7 @@
 //! Checks that can be taken back: an undo record, the checks that fill one, and the undo.
 
 use crate::layout::*;
-use crate::{checked_of, raw, Checked, Move, Refusal, WideMove};
+use crate::{checked_of, Checked, Move, Refusal, WideMove};
 
 /// How many bytes the undo record of a check takes, for a yard of so many.
 pub fn undo_record_size(yard_len: usize) -> usize {
@@ -60,27 +60,19 @@ pub fn check_recorded_into(
     record: &mut [u8],
     answer: &mut [u64],
 ) -> Result<(), Refusal> {
-    // SAFETY: each pointer goes with its own length, and the function keeps to them.
-    Refusal::of(unsafe {
-        raw::lavtoeu_check_recorded(
-            yard.as_mut_ptr(),
-            yard.len(),
-            m.occupancy.as_ptr(),
-            m.occupancy.len(),
-            m.blocking.as_ptr(),
-            m.blocking.len(),
-            m.moved,
-            begin,
-            m.local as u32,
-            m.limit,
-            report.as_mut_ptr(),
-            report.len(),
-            record.as_mut_ptr(),
-            record.len(),
-            answer.as_mut_ptr(),
-            answer.len(),
-        )
-    })
+    Refusal::of(call!(
+        lavtoeu_check_recorded,
+        &mut yard,
+        &m.occupancy,
+        &m.blocking,
+        m.moved,
+        begin,
+        m.local as u32,
+        m.limit,
+        &mut report,
+        &mut record,
+        &mut answer
+    ))
 }
 
 /// [`check_recorded_into`] over trains of 32 bits, of a yard with images of either width.
@@ -92,32 +84,23 @@ pub fn check_recorded_wide_into(
     record: &mut [u8],
     answer: &mut [u64],
 ) -> Result<(), Refusal> {
-    // SAFETY: each pointer goes with its own length, and the function keeps to them.
-    Refusal::of(unsafe {
-        raw::lavtoeu_check_recorded_wide(
-            yard.as_mut_ptr(),
-            yard.len(),
-            m.occupancy.as_ptr(),
-            m.occupancy.len(),
-            m.blocking.as_ptr(),
-            m.blocking.len(),
-            m.moved,
-            begin,
-            m.local as u32,
-            m.limit,
-            report.as_mut_ptr(),
-            report.len(),
-            record.as_mut_ptr(),
-            record.len(),
-            answer.as_mut_ptr(),
-            answer.len(),
-        )
-    })
+    Refusal::of(call!(
+        lavtoeu_check_recorded_wide,
+        &mut yard,
+        &m.occupancy,
+        &m.blocking,
+        m.moved,
+        begin,
+        m.local as u32,
+        m.limit,
+        &mut report,
+        &mut record,
+        &mut answer
+    ))
 }
 
 /// Gives the yard back that the record's check was given, while the yard is what that check wrote. The occupancy and the report are
 /// not rewound. Refused by 21, a malformed record or a yard that is another; then nothing is changed.
 pub fn undo(yard: &mut [u8], record: &[u8]) -> Result<(), Refusal> {
-    // SAFETY: each pointer goes with its own length, and the function keeps to them.
-    Refusal::of(unsafe { raw::lavtoeu_undo(yard.as_mut_ptr(), yard.len(), record.as_ptr(), record.len()) })
+    Refusal::of(call!(lavtoeu_undo, &mut yard, &record))
 }

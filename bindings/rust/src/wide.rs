@@ -1,7 +1,7 @@
 //! Trains of six digits: the calls over occupancies of 32 bits, for images of either width, and the conversions.
 
 use crate::layout::*;
-use crate::{checked_of, image_size, parts, raw, updated_of, Checked, Refusal, Updated};
+use crate::{checked_of, image_size, parts, updated_of, Checked, Refusal, Updated};
 
 /// Is it a wide image? By the header's byte for its width.
 pub fn is_wide(image: &[u8]) -> bool {
@@ -15,10 +15,7 @@ pub fn wide_image_size(e: usize, q: usize) -> usize {
 
 /// [`mark`](crate::mark) over trains of 32 bits. Refused by 1, 2, 3, then by 22, a train above 999,999.
 pub fn mark_wide(table: &[u8], occupancy: &mut [u32], link: u32, train: u32) -> Result<(), Refusal> {
-    // SAFETY: each pointer goes with its own length, and the function keeps to them.
-    Refusal::of(unsafe {
-        raw::lavtoeu_mark_wide(table.as_ptr(), table.len(), occupancy.as_mut_ptr(), occupancy.len(), link, train)
-    })
+    Refusal::of(call!(lavtoeu_mark_wide, &table, &mut occupancy, link, train))
 }
 
 /// What a wide update and a wide check are told besides the image or the yard: a [`Move`](crate::Move) with trains of 32 bits.
@@ -41,22 +38,7 @@ pub fn update_wide(image: &mut [u8], m: WideMove) -> Updated {
 
 /// [`update_wide`] with its answer in words, as many as there is room for.
 pub fn update_wide_into(image: &mut [u8], m: WideMove, answer: &mut [u64]) -> Result<(), Refusal> {
-    // SAFETY: each pointer goes with its own length, and the function keeps to them.
-    Refusal::of(unsafe {
-        raw::lavtoeu_update_wide(
-            image.as_mut_ptr(),
-            image.len(),
-            m.occupancy.as_ptr(),
-            m.occupancy.len(),
-            m.blocking.as_ptr(),
-            m.blocking.len(),
-            m.moved,
-            m.local as u32,
-            m.limit,
-            answer.as_mut_ptr(),
-            answer.len(),
-        )
-    })
+    Refusal::of(call!(lavtoeu_update_wide, &mut image, &m.occupancy, &m.blocking, m.moved, m.local as u32, m.limit, &mut answer))
 }
 
 /// The bytes of a slot's row in the report of a wide check of this yard: [`WIDE_REPORT_RECORD`] where an image of it is wide,
@@ -79,25 +61,18 @@ pub fn check_wide(yard: &mut [u8], m: WideMove, begin: u16, report: &mut [u8]) -
 
 /// [`check_wide`] with its answer in words, as many as there is room for. A refused check leaves `answer` as it was.
 pub fn check_wide_into(yard: &mut [u8], m: WideMove, begin: u16, report: &mut [u8], answer: &mut [u64]) -> Result<(), Refusal> {
-    // SAFETY: each pointer goes with its own length, and the function keeps to them.
-    Refusal::of(unsafe {
-        raw::lavtoeu_check_wide(
-            yard.as_mut_ptr(),
-            yard.len(),
-            m.occupancy.as_ptr(),
-            m.occupancy.len(),
-            m.blocking.as_ptr(),
-            m.blocking.len(),
-            m.moved,
-            begin,
-            m.local as u32,
-            m.limit,
-            report.as_mut_ptr(),
-            report.len(),
-            answer.as_mut_ptr(),
-            answer.len(),
-        )
-    })
+    Refusal::of(call!(
+        lavtoeu_check_wide,
+        &mut yard,
+        &m.occupancy,
+        &m.blocking,
+        m.moved,
+        begin,
+        m.local as u32,
+        m.limit,
+        &mut report,
+        &mut answer
+    ))
 }
 
 /// What a wide check found in a slot: a [`Slot`](crate::Slot) with a holder of 32 bits.
@@ -143,13 +118,11 @@ pub fn wide_rows(report: &[u8]) -> Vec<WideRow> {
 /// Writes a narrow image wide; `out` has [`wide_image_size`] bytes. Refused by 6, also where the image is wide already or `out` has
 /// another length, 7, 22, 8, 9 over 4,000 links.
 pub fn widen(image: &[u8], out: &mut [u8]) -> Result<(), Refusal> {
-    // SAFETY: each pointer goes with its own length, and the function keeps to them.
-    Refusal::of(unsafe { raw::lavtoeu_widen(image.as_ptr(), image.len(), out.as_mut_ptr(), out.len()) })
+    Refusal::of(call!(lavtoeu_widen, &image, &mut out))
 }
 
 /// Writes a wide image narrow; `out` has [`image_size`] bytes. Refused as [`widen`] is, the widths changed over, then by 23, a train
 /// above 65,535.
 pub fn narrow(image: &[u8], out: &mut [u8]) -> Result<(), Refusal> {
-    // SAFETY: each pointer goes with its own length, and the function keeps to them.
-    Refusal::of(unsafe { raw::lavtoeu_narrow(image.as_ptr(), image.len(), out.as_mut_ptr(), out.len()) })
+    Refusal::of(call!(lavtoeu_narrow, &image, &mut out))
 }
