@@ -48,6 +48,22 @@ pub(crate) const UNDO: u32 = 28;
 
 pub(crate) const INDEX: u32 = 29;
 
+pub(crate) const INDEXED_CHECK: u32 = 30;
+
+pub(crate) const WIDE_INDEXED_CHECK: u32 = 31;
+
+pub(crate) const RECORDED_INDEXED_CHECK: u32 = 32;
+
+pub(crate) const WIDE_RECORDED_INDEXED_CHECK: u32 = 33;
+
+pub(crate) const INDEXED_LAY_OUT: u32 = 34;
+
+pub(crate) const INDEXED_UNDO: u32 = 35;
+
+pub(crate) const CARRY: u32 = 36;
+
+pub(crate) const HALF_CHECK: u32 = 37;
+
 // ---- the head: size, operation, tag, line, 8 arguments, 4 lengths of inputs, 8 numbers of the answer, 2 lengths of outputs
 
 pub(crate) fn operation(head: &[u8]) -> u32 {
@@ -104,32 +120,6 @@ pub(crate) fn no_entries() -> [u64; 8192]
     ensures { λ r. ⌜ 8192 ≡ length r ⌝ }
 {
     [0u64; 8192]
-}
-
-// Copies a buffer into one of the same length.
-pub(crate) fn copy(to: &mut [u8], from: &[u8]) {
-    if to.len() != from.len() {
-        return;
-    }
-    let mut i = 0;
-    while i < to.len() {
-        to[i] = from[i];
-        i += 1;
-    }
-}
-
-pub(crate) fn same(a: &[u8], b: &[u8]) -> bool {
-    if a.len() != b.len() {
-        return false;
-    }
-    let mut i = 0;
-    while i < a.len() {
-        if a[i] != b[i] {
-            return false;
-        }
-        i += 1;
-    }
-    true
 }
 
 // Fills a column with the u16 numbers that begin at `first` and stand `step` bytes apart; past the bytes they are 0.

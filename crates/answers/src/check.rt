@@ -1,9 +1,11 @@
 // A check of a yard over an occupancy of u16 or of u32 entries; the other one is empty. Arguments: moved, begin, local, limit.
 use crate::case;
+use crate::indexed;
 use crate::print;
 use crate::recorded;
 use link_rules::link_idx::NarrowTrainIdx;
 use link_rules::link_idx::TrainIdx;
+use link_rules::octets;
 use yard_check::check;
 use yard_check::check::Answer;
 
@@ -17,7 +19,7 @@ pub(crate) fn answer(head: &[u8], body: &[u8], sums: bool) -> bool {
 }
 
 fn answer_on(head: &[u8], body: &[u8], yard: &mut [u8], sums: bool) -> bool {
-    case::copy(yard, case::first_input(head, body));
+    octets::put_bytes(yard, 0, case::first_input(head, body));
     if is_wide(case::operation(head)) {
         return answer_wide(head, body, yard, sums);
     }
@@ -25,19 +27,52 @@ fn answer_on(head: &[u8], body: &[u8], yard: &mut [u8], sums: bool) -> bool {
 }
 
 // Is it a check over u32 entries?
-fn is_wide(operation: u32) -> bool {
+pub(crate) fn is_wide(operation: u32) -> bool {
     if operation == case::WIDE_CHECK {
+        return true;
+    }
+    if operation == case::WIDE_INDEXED_CHECK {
+        return true;
+    }
+    if operation == case::WIDE_RECORDED_INDEXED_CHECK {
         return true;
     }
     operation == case::WIDE_RECORDED_CHECK
 }
 
 // Does it fill an undo record?
-fn is_recorded(operation: u32) -> bool {
+pub(crate) fn is_recorded(operation: u32) -> bool {
     if operation == case::RECORDED_CHECK {
         return true;
     }
+    if operation == case::RECORDED_INDEXED_CHECK {
+        return true;
+    }
+    if operation == case::WIDE_RECORDED_INDEXED_CHECK {
+        return true;
+    }
     operation == case::WIDE_RECORDED_CHECK
+}
+
+// Does it stand beside an index?
+pub(crate) fn is_indexed(operation: u32) -> bool {
+    if operation < case::INDEXED_CHECK {
+        return false;
+    }
+    operation <= case::WIDE_RECORDED_INDEXED_CHECK
+}
+
+// The bytes of the report: the fourth input, without the index that may stand behind it.
+fn report_of<'a>(head: &[u8], body: &'a [u8]) -> &'a [u8] {
+    let all = case::fourth_input(head, body);
+    if !is_indexed(case::operation(head)) {
+        return all;
+    }
+    let entries = 8 * (case::argument(head, 5) as usize);
+    if all.len() < entries {
+        return case::part(all, 0, 0);
+    }
+    case::part(all, 0, all.len() - entries)
 }
 
 fn answer_narrow(head: &[u8], body: &[u8], yard: &mut [u8], sums: bool) -> bool {
@@ -102,7 +137,7 @@ fn answer_by(
 ) -> bool {
     case::u32s(blocking, case::third_input(head, body));
     let mut room = case::no_bytes();
-    let n = case::fourth_input(head, body).len();
+    let n = report_of(head, body).len();
     if 65536 < n {
         return print::unread();
     }
@@ -128,7 +163,10 @@ fn answer_with(
     report: &mut [u8],
     sums: bool,
 ) -> bool {
-    case::copy(report, case::fourth_input(head, body));
+    octets::put_bytes(report, 0, report_of(head, body));
+    if is_indexed(case::operation(head)) {
+        return indexed::answer(head, body, yard, narrow, wide, blocking, report, sums);
+    }
     if is_recorded(case::operation(head)) {
         return recorded::answer(head, yard, narrow, wide, blocking, report, sums);
     }

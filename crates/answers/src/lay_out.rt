@@ -6,6 +6,7 @@ use conversion;
 use disp_structs::Metres;
 use disp_structs::floats;
 use link_rules::link_idx::NarrowTrainIdx;
+use link_rules::octets;
 use link_rules::refusal::Answer;
 use link_rules::refusal::Refusal;
 use train_disp::Settings;
@@ -20,7 +21,7 @@ pub(crate) fn answer(head: &[u8], body: &[u8], sums: bool) -> bool {
 }
 
 fn answer_in(head: &[u8], body: &[u8], image: &mut [u8], sums: bool) -> bool {
-    case::copy(image, case::second_input(head, body));
+    octets::put_bytes(image, 0, case::second_input(head, body));
     print_written(
         written(head, case::first_input(head, body), image),
         image,
@@ -39,15 +40,18 @@ fn written(head: &[u8], from: &[u8], image: &mut [u8]) -> Refusal {
     laid_out(head, from, image)
 }
 
-fn laid_out(head: &[u8], ests: &[u8], image: &mut [u8]) -> Refusal {
-    let settings = Settings {
+pub(crate) fn settings_of(head: &[u8]) -> Settings {
+    Settings {
         train_idx: NarrowTrainIdx((case::argument(head, 0) % 65536) as u16),
         dist_disp_path_search: Metres(setting(case::argument(head, 3), case::argument(head, 4))),
         dist_fixed_max: Metres(setting(case::argument(head, 5), case::argument(head, 6))),
         diverge_room: case::argument(head, 1),
         links: case::argument(head, 2),
-    };
-    match train_disp::lay_out(ests, settings, image) {
+    }
+}
+
+fn laid_out(head: &[u8], ests: &[u8], image: &mut [u8]) -> Refusal {
+    match train_disp::lay_out(ests, settings_of(head), image) {
         Answer::Done => Refusal {
             number: 0,
             place: 0,

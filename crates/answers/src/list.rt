@@ -25,7 +25,7 @@ fn answer_on(head: &[u8], body: &[u8], occ: &mut [u16], sums: bool) -> bool {
 }
 
 fn answer_over(head: &[u8], body: &[u8], occ: &mut [u16], yard: &mut [u8], sums: bool) -> bool {
-    case::copy(yard, case::third_input(head, body));
+    octets::put_bytes(yard, 0, case::third_input(head, body));
     if !print::line(b"list") {
         return false;
     }

@@ -5,9 +5,11 @@ ghost use mathlib.Core.Path.{_≡_};
 ghost use lib.ListN.{length};
 
 mod act;
+mod carried;
 mod case;
 mod check;
 mod index;
+mod indexed;
 mod lay_out;
 mod leaf;
 mod lesson;
@@ -24,6 +26,7 @@ use ceiling;
 use ceiling::StepCeiling;
 use libc::STDERR_FILENO;
 use track_profile;
+use yard_check::bytes;
 
 fn main() {
     if answer_arguments() {
@@ -60,7 +63,7 @@ fn answer_arguments() -> bool {
 fn answer_argument(i: usize, sums: bool) -> Run {
     let mut word = io::buffer();
     let n = os::arg(i, &mut word);
-    if case::same(&word[..n], b"--sums") {
+    if bytes::same_bytes(&word[..n], b"--sums") {
         return Run {
             sums: true,
             written: true,
@@ -176,6 +179,7 @@ fn answer_numbered(head: &[u8], body: &[u8], number: u32, sums: bool) -> bool {
     answer(head, body, true)
 }
 
+// The calls of document 01, and their wide forms.
 fn answer(head: &[u8], body: &[u8], sums: bool) -> bool {
     let operation = case::operation(head);
     if operation == case::MARK {
@@ -187,21 +191,21 @@ fn answer(head: &[u8], body: &[u8], sums: bool) -> bool {
     if writes_image(operation) {
         return lay_out::answer(head, body, sums);
     }
-    if operation == case::UPDATE {
+    if updates(operation) {
         return update::answer(head, body, sums);
     }
-    if operation == case::WIDE_UPDATE {
-        return update::answer(head, body, sums);
-    }
-    if operation == case::CHECK {
-        return check::answer(head, body, sums);
-    }
-    if operation == case::WIDE_CHECK {
+    if checks(operation) {
         return check::answer(head, body, sums);
     }
     if operation == case::SHEET {
         return sheet::answer(head, body, sums);
     }
+    answer_request(head, body, sums)
+}
+
+// The calls of the requests.
+fn answer_request(head: &[u8], body: &[u8], sums: bool) -> bool {
+    let operation = case::operation(head);
     if operation == case::PAGE {
         return page::answer(head, body, sums);
     }
@@ -217,12 +221,6 @@ fn answer(head: &[u8], body: &[u8], sums: bool) -> bool {
     if operation == case::GAME {
         return lesson::answer(head, body);
     }
-    if operation == case::RECORDED_CHECK {
-        return check::answer(head, body, sums);
-    }
-    if operation == case::WIDE_RECORDED_CHECK {
-        return check::answer(head, body, sums);
-    }
     if operation == case::UNDO {
         return recorded::answer_undo(head, body, sums);
     }
@@ -231,6 +229,24 @@ fn answer(head: &[u8], body: &[u8], sums: bool) -> bool {
     }
     if operation == case::LIST {
         return list::answer(head, body, sums);
+    }
+    answer_beside(head, body, sums)
+}
+
+// The other calls beside an index, and those of a sitting that is carried.
+fn answer_beside(head: &[u8], body: &[u8], sums: bool) -> bool {
+    let operation = case::operation(head);
+    if operation == case::INDEXED_LAY_OUT {
+        return indexed::answer_lay_out(head, body, sums);
+    }
+    if operation == case::INDEXED_UNDO {
+        return indexed::answer_undo(head, body, sums);
+    }
+    if operation == case::CARRY {
+        return carried::answer_step(head, body, sums);
+    }
+    if operation == case::HALF_CHECK {
+        return carried::answer_half(head, body, sums);
     }
     answer_candidate(head, body, sums)
 }
@@ -255,6 +271,26 @@ fn writes_image(operation: u32) -> bool {
         return true;
     }
     operation == case::LAY_OUT
+}
+
+fn updates(operation: u32) -> bool {
+    if operation == case::WIDE_UPDATE {
+        return true;
+    }
+    operation == case::UPDATE
+}
+
+fn checks(operation: u32) -> bool {
+    if operation == case::WIDE_CHECK {
+        return true;
+    }
+    if check::is_recorded(operation) {
+        return true;
+    }
+    if check::is_indexed(operation) {
+        return true;
+    }
+    operation == case::CHECK
 }
 
 // The training track profile, of which nothing is left but its answer.

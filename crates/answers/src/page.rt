@@ -2,6 +2,7 @@
 use crate::case;
 use crate::print;
 use image::codec;
+use link_rules::octets;
 use link_rules::refusal::Refusal;
 use path_page;
 
@@ -15,7 +16,7 @@ pub(crate) fn answer(head: &[u8], body: &[u8], sums: bool) -> bool {
 }
 
 fn answer_in(head: &[u8], body: &[u8], page: &mut [u8], sums: bool) -> bool {
-    case::copy(page, case::second_input(head, body));
+    octets::put_bytes(page, 0, case::second_input(head, body));
     let image = case::first_input(head, body);
     let f = path_page::page(image, page);
     if sums {

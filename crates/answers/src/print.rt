@@ -1,6 +1,7 @@
 // Answers on standard output. Each function says whether all of it was written.
 ghost use Prim.Native.Nat.{_<_};
 use libc::STDOUT_FILENO;
+use link_rules::refusal::Answer;
 use link_rules::refusal::Refusal;
 
 pub(crate) fn bytes(bytes: &[u8]) -> bool {
@@ -51,6 +52,13 @@ pub(crate) fn fault(f: Refusal) -> bool {
         return bytes(b"done");
     }
     refused(f)
+}
+
+pub(crate) fn answer(answer: Answer) -> bool {
+    match answer {
+        Answer::Done => bytes(b"done"),
+        Answer::Refused(r) => refused(r),
+    }
 }
 
 // ---- checksums: from 1 on, each byte is added to the sum by 16,777,619, modulo the prime 4,294,967,291

@@ -4,7 +4,7 @@ use crate::check;
 use crate::print;
 use link_rules::link_idx::NarrowTrainIdx;
 use link_rules::link_idx::TrainIdx;
-use link_rules::refusal;
+use link_rules::octets;
 use undo;
 use yard_check::check::Answer;
 
@@ -109,19 +109,12 @@ pub(crate) fn answer_undo(head: &[u8], body: &[u8], sums: bool) -> bool {
 }
 
 fn answer_undo_on(head: &[u8], body: &[u8], yard: &mut [u8], sums: bool) -> bool {
-    case::copy(yard, case::first_input(head, body));
-    if !print_undone(undo::undo(yard, case::second_input(head, body))) {
+    octets::put_bytes(yard, 0, case::first_input(head, body));
+    if !print::answer(undo::undo(yard, case::second_input(head, body))) {
         return false;
     }
     if sums {
         return print::sum_line(b" yard ", yard);
     }
     print::end()
-}
-
-fn print_undone(answer: refusal::Answer) -> bool {
-    match answer {
-        refusal::Answer::Done => print::bytes(b"done"),
-        refusal::Answer::Refused(r) => print::refused(r),
-    }
 }

@@ -1,7 +1,7 @@
 // The sheet of a bundle.
 use crate::case;
 use crate::print;
-use yard_check::sheet;
+use sheet_text::sheet;
 
 // 4,096 bytes hold every sheet.
 pub(crate) fn answer(head: &[u8], body: &[u8], sums: bool) -> bool {

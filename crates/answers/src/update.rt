@@ -4,6 +4,7 @@ use crate::print;
 use image_fault;
 use link_rules::link_idx::NarrowTrainIdx;
 use link_rules::link_idx::TrainIdx;
+use link_rules::octets;
 use update_free_path;
 use update_free_path::answer::Status;
 use update_free_path::answer::Updated;
@@ -85,7 +86,7 @@ fn answer_by(
     sums: bool,
 ) -> bool {
     case::u32s(blocking, case::third_input(head, body));
-    case::copy(image, case::first_input(head, body));
+    octets::put_bytes(image, 0, case::first_input(head, body));
     let x = updated(head, image, narrow, wide, blocking);
     print_updated(head, body, x, image, sums)
 }

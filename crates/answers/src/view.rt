@@ -25,7 +25,7 @@ fn answer_over(head: &[u8], body: &[u8], occ: &mut [u32], sums: bool) -> bool {
 }
 
 fn answer_in(head: &[u8], body: &[u8], occ: &[u32], record: &mut [u8], sums: bool) -> bool {
-    case::copy(record, case::fourth_input(head, body));
+    octets::put_bytes(record, 0, case::fourth_input(head, body));
     let slot = (case::argument(head, 0) % 65536) as u16;
     let v = candidate::view(
         case::first_input(head, body),

@@ -13,8 +13,8 @@ use Rattle.yard_check.specs.Check.{rowSize, Answer, Checked, Refused}
 use Rattle.yard_check.specs.Checks.{checkedOf}
 use Rattle.yard_check.specs.declared.check.Answer as Code
 use Rattle.yard_check.specs.Yard.{yardFits}
-use Rattle.yard_check.specs.Sheet.{bundleFits, occupancyCount, blockingCount, yardOffset, bundleOccupancy, bundleBlocking, bundleYard, reportSlots, checkedBundle}
-use Rattle.yard_check.proofs.BundleLaws.{Parts}
+use Rattle.sheet_text.specs.Sheet.{bundleFits, occupancyCount, blockingCount, yardOffset, bundleOccupancy, bundleBlocking, bundleYard, reportSlots, checkedBundle}
+use Rattle.sheet_text.proofs.BundleLaws.{Parts}
 use Rattle.bundle_check.specs.declared.Numbers.{Numbers}
 use Rattle.bundle_check.specs.BundleCheck.{reportLength, numbersOf, checkedFrom, leaves, checkedInBundle, bundleChecked, bundleOf}
 

@@ -1,7 +1,7 @@
 -- The check of a bundle's yard in the bundle: what it answers, and the bundle and the report that it leaves. Assumes nothing.
 use Prim.Native.Nat.{ℕ, _*_, _≤_}
 use mathlib.Core.Path.{_≡_}
-use mathlib.Core.Bool.{Bool, true, false}
+use mathlib.Core.Bool.{true, false}
 use mathlib.Core.List.{List, _++_}
 use lib.Dec.{eqb}
 use lib.ListN.{length, take, drop}
@@ -10,7 +10,7 @@ use Rattle.link_rules.specs.Refusals.{refused}
 use Rattle.yard_check.specs.Check.{rowSize, Answer, Refused, Checked, checked}
 use Rattle.yard_check.specs.Checks.{answeredOf}
 use Rattle.yard_check.specs.declared.check.Answer as Code
-use Rattle.yard_check.specs.Sheet.{bundleFits, occupancyCount, blockingCount, bundleOccupancy, bundleBlocking, bundleYard, yardOffset, reportSlots}
+use Rattle.sheet_text.specs.Sheet.{bundleFits, occupancyCount, blockingCount, bundleOccupancy, bundleBlocking, bundleYard, yardOffset, reportSlots}
 use Rattle.bundle_check.specs.declared.Numbers.{Numbers}
 
 pub record BundleChecked : Type 0 where
@@ -26,7 +26,7 @@ abbrev pub numbersOf : List ℕ → Numbers
 numbersOf b = record { moved = record { 0 = leAt 2 b 24 }; begin = leAt 2 b 26; local = eqb (leAt 2 b 30) 1; limit = leAt 2 b 28 }
 
 -- the check of the yard that stands in the bytes from a place on
-abbrev pub checkedFrom : ℕ → List ℕ → List ℕ → List ℕ → Numbers → List ℕ → Checked
+abbrev pub checkedFrom : (at : ℕ) (bytes occ blocking : List ℕ) (n : Numbers) (report : List ℕ) → Checked
 checkedFrom at bytes occ blocking n report = checked (drop at bytes) occ blocking (n .moved .0) (n .begin) (n .local) (n .limit) report
 
 -- what it leaves behind the bytes before that place

@@ -4,12 +4,12 @@ ghost use mathlib.Core.Path.{_≡_};
 ghost use mathlib.Core.Bool.{true};
 ghost use Prim.Native.Nat.{_≤_};
 ghost use lib.ListN.{length, take};
-ghost use Rattle.yard_check.specs.Sheet.{bundleFits};
+ghost use Rattle.sheet_text.specs.Sheet.{bundleFits};
 ghost use Rattle.bundle_check.specs.BundleCheck.{Lends, reportLength, numbersOf, checkedFrom, leaves, checkedInBundle, bundleChecked, bundleOf};
 use link_rules::link_idx::NarrowTrainIdx;
 use link_rules::octets;
 use link_rules::refusal::Refusal;
-use yard_check::bundle;
+use sheet_text::bundle;
 use yard_check::check;
 use yard_check::check::Answer;
 

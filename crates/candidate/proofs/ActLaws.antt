@@ -15,15 +15,15 @@ use Rattle.link_rules.specs.declared.link_idx.LinkIdx.{LinkIdx}
 use Rattle.disp_structs.specs.Values.{isArrive}
 use Rattle.disp_structs.specs.declared.LinkEvent.{LinkEvent}
 use Rattle.image.specs.Image.{pathCount, nodeAt}
-use Rattle.image_fault.specs.ImageFault.{eventFits, arrivesOn, arrived, faultWith}
+use Rattle.image_fault.specs.ImageFault.{eventFits, arrivesOn, arrived, faultWith, isAccepted}
 use Rattle.image_fault.specs.declared.Widths.the-variants.{Either}
 use Rattle.image_fault.proofs.AcceptLaws.{or-else-clean, refused-clean, node-fits, clean-node, accepted-in}
-use Rattle.image_fault.proofs.ScanLaws.{both}
+use Rattle.link_rules.proofs.TableLaws.{both}
 use Rattle.wide_occupancy.specs.WideOccupancy.{largest, sixDigits, largeTrainFault, markWideOf}
 use Rattle.wide_occupancy.proofs.WideMarkLaws.{wide-by-tests}
-use Rattle.yard_check.specs.Yard.{yardFits, yardFault}
+use Rattle.yard_check.specs.Yard.{yardFits, yardFault, imageIn}
 use Rattle.yard_check.proofs.YardLaws.{fits}
-use Rattle.candidate.specs.Candidate.{candidateImage, isAccepted, isArriveLink, sittingFault, actRefusal, trainOf, actOf}
+use Rattle.candidate.specs.Candidate.{isArriveLink, sittingFault, actRefusal, trainGiven, actOf}
 use Rattle.candidate.proofs.CandidateLaws.{accepted-slot}
 
 -- ---- an Arrive link of an accepted path: below L, and not 0
@@ -59,7 +59,7 @@ path-is-link tbl img l ok h =
 
 -- ---- the act
 
-pub act-is-mark : (tbl occ yard : List ℕ) (slot : ℕ) (l : LinkIdx) (marks : Bool) → actRefusal tbl occ yard slot l ≡ 0 → actOf tbl occ yard slot l marks ≡ markWideOf tbl occ l (trainOf slot marks)
+pub act-is-mark : (tbl occ yard : List ℕ) (slot : ℕ) (l : LinkIdx) (marks : Bool) → actRefusal tbl occ yard slot l ≡ 0 → actOf tbl occ yard slot l marks ≡ markWideOf tbl occ l (trainGiven slot marks)
 unfolding actRefusal sittingFault actOf markWideOf
 act-is-mark tbl occ yard slot l marks h =
     let p = or-else-clean (sittingFault tbl occ yard slot) _ h in
@@ -67,18 +67,18 @@ act-is-mark tbl occ yard slot l marks h =
     let b = or-else-clean (entriesFault tbl (length occ)) _ (a .1) in
     let c = or-else-clean (largeTrainFault sixDigits occ noTrain) _ (b .1) in
     let d = or-else-clean (yardFault yard) _ (c .1) in
-    let ok = refused-clean (isAccepted (candidateImage yard slot) (linkCount tbl)) 26 (lit< tt) (d .1) in
-    let on = refused-clean (isArriveLink (candidateImage yard slot) l) 27 (lit< tt) (p .1) in
+    let ok = refused-clean (isAccepted (imageIn yard slot) (linkCount tbl)) 26 (lit< tt) (d .1) in
+    let on = refused-clean (isArriveLink (imageIn yard slot) l) 27 (lit< tt) (p .1) in
     let low : max 0 (largest occ) ≤ sixDigits = leb-true (max 0 (largest occ)) sixDigits (refused-clean (leb (max 0 (largest occ)) sixDigits) 22 (lit< tt) (c .0)) in
     let few : slot ≤ 63 = omega (arith, accepted-slot yard slot (linkCount tbl) ok .1, fits yard (refused-clean (yardFits yard) 14 (lit< tt) (d .0)) .few) in
-    ap (λ (n : ℕ). markedBy n occ (updateLinksBlocked tbl occ l (trainOf slot marks)))
+    ap (λ (n : ℕ). markedBy n occ (updateLinksBlocked tbl occ l (trainGiven slot marks)))
     (h
-    ∙ sym (wide-by-tests tbl occ l (trainOf slot marks) true true true true
+    ∙ sym (wide-by-tests tbl occ l (trainGiven slot marks) true true true true
     (refused-clean (tableFits tbl) 1 (lit< tt) (a .0))
     (refused-clean (eqb (length occ) (linkCount tbl)) 2 (lit< tt) (b .0))
-    (path-is-link tbl (candidateImage yard slot) l ok on)
-    (le-leb (max (trainOf slot marks .0) (largest occ)) sixDigits (train-low marks few low))))
+    (path-is-link tbl (imageIn yard slot) l ok on)
+    (le-leb (max (trainGiven slot marks .0) (largest occ)) sixDigits (train-low marks few low))))
   where
-    train-low : (m : Bool) → slot ≤ 63 → max 0 (largest occ) ≤ sixDigits → max (trainOf slot m .0) (largest occ) ≤ sixDigits
+    train-low : (m : Bool) → slot ≤ 63 → max 0 (largest occ) ≤ sixDigits → max (trainGiven slot m .0) (largest occ) ≤ sixDigits
     train-low true f k = omega arith
     train-low false f k = omega arith

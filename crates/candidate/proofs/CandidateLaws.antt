@@ -8,7 +8,7 @@ use native.Mathlib.Numerals.{add-one}
 use lib.Dec.{ltb, eqb, lit<}
 use lib.ListN.{length, getD, take, drop, length-drop, drop-of-length-le}
 use lib.Seq.{take-all, take-nil}
-use borrow.Author.Tests.{ltb-true, ltb-false, eqb-true, eqb-false, eq-eqb, ne-eqb, le-leb, lt-leb}
+use borrow.Author.Tests.{ltb-true, ltb-false, eqb-true, eqb-false, eq-eqb, ne-eqb}
 use Rattle.link_rules.specs.LinkIdx.{noTrain, occupied}
 use Rattle.link_rules.specs.Network.{linkCount}
 use Rattle.link_rules.specs.declared.link_idx.LinkIdx.{LinkIdx}
@@ -19,26 +19,15 @@ use Rattle.link_rules.specs.Octets.{leAt}
 use Rattle.disp_structs.specs.Values.{isArrive}
 use Rattle.disp_structs.specs.declared.LinkEvent.{LinkEvent}
 use Rattle.image.specs.Image.{pathCount, nodeAt}
-use Rattle.image_fault.specs.ImageFault.{countsFit, imageFits, arrivesOn, arrived, faultWith}
+use Rattle.image_fault.specs.ImageFault.{countsFit, imageFits, arrivesOn, arrived, faultWith, isAccepted}
 use Rattle.image_fault.specs.declared.Widths.the-variants.{Either}
 use Rattle.image_fault.proofs.AcceptLaws.{or-else-clean, refused-clean, accepted-in}
 use Rattle.wide_occupancy.specs.WideOccupancy.{sixDigits, largeTrainFault}
-use Rattle.yard_check.specs.Yard.{slotCount, partOf, yardFault}
-use Rattle.candidate.specs.Candidate.{candidateImage, isAccepted, isArriveLink, sittingFault, viewFault, actRefusal, shown, linkTaken, View, seen, seenBy, viewOf}
+use Rattle.yard_check.specs.Yard.{slotCount, imageIn, yardFault}
+use Rattle.yard_check.proofs.YardLaws.{image-low, image-high}
+use Rattle.candidate.specs.Candidate.{isArriveLink, sittingFault, viewFault, actRefusal, shown, linkTaken, View, seen, seenBy, viewOf}
 
 -- ---- the candidate's image
-
-pub image-low : (yard : List ℕ) (slot : ℕ) → slot < 1 → candidateImage yard slot ≡ []
-unfolding candidateImage
-image-low yard slot h = rw (lt-leb 1 slot h)
-
-pub image-high : (yard : List ℕ) (slot : ℕ) → slotCount yard < slot → candidateImage yard slot ≡ []
-unfolding candidateImage
-image-high yard slot h = rw (lt-leb slot (slotCount yard) h, le-leb 1 slot (omega arith))
-
-pub image-is : (yard : List ℕ) (slot : ℕ) → 1 ≤ slot → slot ≤ slotCount yard → candidateImage yard slot ≡ partOf yard slot
-unfolding candidateImage
-image-is yard slot h k = rw (le-leb 1 slot h, le-leb slot (slotCount yard) k)
 
 -- no image is none that passes
 pub none-accepted : (links : ℕ) → isAccepted [] links ≡ true → ⊥
@@ -48,7 +37,7 @@ none-accepted links h =
     let k : _≡_ {A = ℕ} 0 1 = cc in absurd (omega arith)
 
 -- an accepted image stands in one of the yard's slots
-pub accepted-slot : (yard : List ℕ) (slot links : ℕ) → isAccepted (candidateImage yard slot) links ≡ true → (1 ≤ slot) × (slot ≤ slotCount yard)
+pub accepted-slot : (yard : List ℕ) (slot links : ℕ) → isAccepted (imageIn yard slot) links ≡ true → (1 ≤ slot) × (slot ≤ slotCount yard)
 accepted-slot yard slot links h = go (ltb slot 1) refl (ltb (slotCount yard) slot) refl
   where
     go : (u : Bool) → ltb slot 1 ≡ u → (v : Bool) → ltb (slotCount yard) slot ≡ v → (1 ≤ slot) × (slot ≤ slotCount yard)
@@ -125,38 +114,38 @@ taken-none occ e h = rw h
 
 module _ (tbl occ yard : List ℕ) (slot node : ℕ) (buffer : List ℕ) (f : Refusal) (e : f ≡ viewFault tbl occ yard slot node) where
   abbrev whole : Refusal → View
-  whole g = seenBy (g .number) g (linkTaken occ (nodeAt (candidateImage yard slot) node .«link_event»)) buffer (shown (candidateImage yard slot) node buffer)
+  whole g = seenBy (g .number) g (linkTaken occ (nodeAt (imageIn yard slot) node .«link_event»)) buffer (shown (imageIn yard slot) node buffer)
 
   pub view-refused : (f .number ≡ 0 → ⊥) → seen (record { fault = f; taken = false }) buffer ≡ viewOf tbl occ yard slot node buffer
   unfolding viewOf
   view-refused h = go (f .number) h ∙ ap whole e
     where
-      go : (n : ℕ) → (n ≡ 0 → ⊥) → seen (record { fault = f; taken = false }) buffer ≡ seenBy n f (linkTaken occ (nodeAt (candidateImage yard slot) node .«link_event»)) buffer (shown (candidateImage yard slot) node buffer)
+      go : (n : ℕ) → (n ≡ 0 → ⊥) → seen (record { fault = f; taken = false }) buffer ≡ seenBy n f (linkTaken occ (nodeAt (imageIn yard slot) node .«link_event»)) buffer (shown (imageIn yard slot) node buffer)
       go zero k = absurd (k refl)
       go (suc n) k = refl
 
-  pub view-shown : (taken : Bool) (left img : List ℕ) → f .number ≡ 0 → img ≡ candidateImage yard slot → taken ≡ linkTaken occ (nodeAt img node .«link_event») → left ≡ shown img node buffer
+  pub view-shown : (taken : Bool) (left img : List ℕ) → f .number ≡ 0 → img ≡ imageIn yard slot → taken ≡ linkTaken occ (nodeAt img node .«link_event») → left ≡ shown img node buffer
       → seen (record { fault = f; taken = taken }) left ≡ viewOf tbl occ yard slot node buffer
   unfolding viewOf
   view-shown taken left img h i t s = go (f .number) h ∙ ap whole e
     where
-      go : (n : ℕ) → n ≡ 0 → seen (record { fault = f; taken = taken }) left ≡ seenBy n f (linkTaken occ (nodeAt (candidateImage yard slot) node .«link_event»)) buffer (shown (candidateImage yard slot) node buffer)
+      go : (n : ℕ) → n ≡ 0 → seen (record { fault = f; taken = taken }) left ≡ seenBy n f (linkTaken occ (nodeAt (imageIn yard slot) node .«link_event»)) buffer (shown (imageIn yard slot) node buffer)
       go zero k = rw (t, s, i)
       go (suc n) k = absurd (omega arith)
 
 -- ---- what a call that is not refused says
 
 module _ (tbl occ yard : List ℕ) (slot : ℕ) where
-  pub sitting-slot : sittingFault tbl occ yard slot .number ≡ 0 → isAccepted (candidateImage yard slot) (linkCount tbl) ≡ true
+  pub sitting-slot : sittingFault tbl occ yard slot .number ≡ 0 → isAccepted (imageIn yard slot) (linkCount tbl) ≡ true
   unfolding sittingFault
   sitting-slot h =
       let a = or-else-clean (tableFault tbl) _ h .1 in
       let b = or-else-clean (entriesFault tbl (length occ)) _ a .1 in
       let c = or-else-clean (largeTrainFault sixDigits occ noTrain) _ b .1 in
       let d = or-else-clean (yardFault yard) _ c .1 in
-      refused-clean (isAccepted (candidateImage yard slot) (linkCount tbl)) 26 (lit< tt) d
+      refused-clean (isAccepted (imageIn yard slot) (linkCount tbl)) 26 (lit< tt) d
 
-  pub act-slot : (l : LinkIdx) → actRefusal tbl occ yard slot l ≡ 0 → isAccepted (candidateImage yard slot) (linkCount tbl) ≡ true
+  pub act-slot : (l : LinkIdx) → actRefusal tbl occ yard slot l ≡ 0 → isAccepted (imageIn yard slot) (linkCount tbl) ≡ true
   unfolding actRefusal
   act-slot l h = sitting-slot (or-else-clean (sittingFault tbl occ yard slot) _ h .0)
 
@@ -167,12 +156,12 @@ module _ (tbl occ yard : List ℕ) (slot : ℕ) (l : LinkIdx) (f : Refusal) (e :
   pub act-refused : (f .number ≡ 0 → ⊥) → f .number ≡ actRefusal tbl occ yard slot l
   unfolding actRefusal
   act-refused h =
-      ap (λ (b : Bool). cond b (refusedUnless (isArriveLink (candidateImage yard slot) l) 27) f .number) (sym (ne-eqb (f .number) 0 h))
-      ∙ ap (λ (g : Refusal). number g (isArriveLink (candidateImage yard slot) l)) e
+      ap (λ (b : Bool). cond b (refusedUnless (isArriveLink (imageIn yard slot) l) 27) f .number) (sym (ne-eqb (f .number) 0 h))
+      ∙ ap (λ (g : Refusal). number g (isArriveLink (imageIn yard slot) l)) e
 
-  pub act-by : (b : Bool) (img : List ℕ) → f .number ≡ 0 → img ≡ candidateImage yard slot → arrived img l (pathCount img) ≡ b → refusedUnless b 27 .number ≡ actRefusal tbl occ yard slot l
+  pub act-by : (b : Bool) (img : List ℕ) → f .number ≡ 0 → img ≡ imageIn yard slot → arrived img l (pathCount img) ≡ b → refusedUnless b 27 .number ≡ actRefusal tbl occ yard slot l
   unfolding actRefusal isArriveLink
   act-by b img h i a =
       ap (λ (u : Bool). cond u (refusedUnless b 27) f .number) (sym (eq-eqb (f .number) 0 h))
       ∙ ap (number f) (sym a ∙ ap (λ (x : List ℕ). arrived x l (pathCount x)) i)
-      ∙ ap (λ (g : Refusal). number g (isArriveLink (candidateImage yard slot) l)) e
+      ∙ ap (λ (g : Refusal). number g (isArriveLink (imageIn yard slot) l)) e

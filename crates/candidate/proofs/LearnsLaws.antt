@@ -23,8 +23,10 @@ use Rattle.wide_occupancy.specs.WideOccupancy.{largest, sixDigits}
 use Rattle.wide_occupancy.proofs.TrainLaws.{largest-bounds, bounded-largest}
 use Rattle.wide_occupancy.proofs.WideMarkLaws.{upto-updated}
 use Rattle.yard_check.proofs.YardLaws.{fits}
-use Rattle.candidate.specs.Candidate.{candidateImage, isAccepted, isArriveLink, candidateFault, sittingFault, viewFault, actRefusal, shown, linkTaken, seenBy, viewOf, actOf}
-use Rattle.candidate.specs.Learns.{Sitting, Alike, SameView, SameAnswer, MarkKeeps, Ask, look, mark, Told, saw, heard, told, SameTold}
+use Rattle.image_fault.specs.ImageFault.{isAccepted}
+use Rattle.yard_check.specs.Yard.{imageIn}
+use Rattle.candidate.specs.Candidate.{isArriveLink, candidateFault, sittingFault, viewFault, actRefusal, shown, linkTaken, seenBy, viewOf, actOf}
+use Rattle.candidate.specs.Learns.{Sitting, Alike, SameView, SameAnswer, MarkKeeps, look, mark, Told, saw, heard, told, SameTold}
 use Rattle.candidate.proofs.CandidateLaws.{accepted-slot, node-arrives, act-slot}
 
 -- ---- refusals
@@ -36,7 +38,7 @@ slot-alone tbl occ yard slot s = rw (s .accepted, eq-eqb (length occ) (linkCount
 
 module _ (tbl : List ℕ) (slot : ℕ) (occ yard occ′ yard′ : List ℕ) (a : Alike tbl slot occ yard occ′ yard′) where
   abbrev img : List ℕ
-  img = candidateImage yard slot
+  img = imageIn yard slot
 
   sitting-same : sittingFault tbl occ′ yard′ slot ≡ sittingFault tbl occ yard slot
   sitting-same =
@@ -172,7 +174,7 @@ mark-keeps tbl slot occ yard occ′ yard′ a l =
     t : TrainIdx
     t = record { 0 = slot }
 
-    go : (k : LinkIdx) → isArriveLink (candidateImage yard slot) k ≡ true → (n : ℕ) → actRefusal tbl occ yard slot l ≡ n → (n′ : ℕ) → n′ ≡ n
+    go : (k : LinkIdx) → isArriveLink (imageIn yard slot) k ≡ true → (n : ℕ) → actRefusal tbl occ yard slot l ≡ n → (n′ : ℕ) → n′ ≡ n
         → occupied (markedBy n′ occ′ (updateLinksBlocked tbl occ′ l (record { 0 = slot })) .occupancy) k ≡ occupied (markedBy n occ (updateLinksBlocked tbl occ l (record { 0 = slot })) .occupancy) k
     go k h zero e n′ q =
         let inside = accepted-slot yard slot (linkCount tbl) (act-slot tbl occ yard slot l e) in

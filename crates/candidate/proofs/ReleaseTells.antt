@@ -12,7 +12,9 @@ use Rattle.link_rules.specs.declared.refusal.Answer.the-variants.{Done}
 use Rattle.text.specs.Text.{written}
 use Rattle.wide_occupancy.specs.WideOccupancy.{largest}
 use Rattle.yard_check.proofs.Siding.{words, everything}
-use Rattle.candidate.specs.Candidate.{candidateImage, isAccepted, isArriveLink, sittingFault, viewFault, actRefusal, nodeBytes, linkTaken, viewOf, actOf}
+use Rattle.image_fault.specs.ImageFault.{isAccepted}
+use Rattle.yard_check.specs.Yard.{imageIn}
+use Rattle.candidate.specs.Candidate.{isArriveLink, sittingFault, viewFault, actRefusal, nodeBytes, linkTaken, viewOf, actOf}
 use Rattle.candidate.specs.Learns.{Alike}
 
 -- L = 5; flip(1) = 2, flip(2) = 1, lockouts(2) = 3, 4
@@ -45,7 +47,7 @@ abbrev pub bare : List ℕ
 bare = 0 ∷ 1 ∷ 7 ∷ 0 ∷ 0 ∷ []
 
 unfoldable computed : ℕ
-unfolding everything lockouts headerFits recordFits lockoutFits tableFits holdAll refilled resetLinkTrainIdx resetAll updateLinksBlocked written largest candidateImage isAccepted isArriveLink sittingFault viewFault actRefusal nodeBytes linkTaken viewOf actOf table yard
+unfolding everything lockouts headerFits recordFits lockoutFits tableFits holdAll refilled resetLinkTrainIdx resetAll updateLinksBlocked written largest imageIn isAccepted isArriveLink sittingFault viewFault actRefusal nodeBytes linkTaken viewOf actOf table yard
 computed = 0
 
 pub before : Alike table 1 held yard bare yard
@@ -57,7 +59,7 @@ before =
       agree = record { image = refl; taken = λ l h. same (l .0) h };
     }
   where
-    same : (n : ℕ) → isArriveLink (candidateImage yard 1) (record { 0 = n }) ≡ true → occupied bare (record { 0 = n }) ≡ occupied held (record { 0 = n })
+    same : (n : ℕ) → isArriveLink (imageIn yard 1) (record { 0 = n }) ≡ true → occupied bare (record { 0 = n }) ≡ occupied held (record { 0 = n })
     same zero h = refl
     same (suc zero) h = refl
     same (suc (suc zero)) h = refl

@@ -1,12 +1,12 @@
 -- Examiner and candidate (change request Q-11): what a candidate sees of the path of their train and of the occupancy, what they may mark or release, and refusals 26 and 27. Assumes nothing.
 use Prim.Native.Nat.{ℕ, zero, suc}
 use mathlib.Core.Bool.{Bool, false, cond, _&&_}
-use mathlib.Core.List.{List, []}
-use lib.Dec.{ltb, leb, eqb}
+use mathlib.Core.List.{List}
+use lib.Dec.{ltb}
 use lib.ListN.{length, take, drop}
 use Rattle.link_rules.specs.LinkIdx.{noTrain, occupied}
 use Rattle.link_rules.specs.Network.{linkCount}
-use Rattle.link_rules.specs.Refusals.{noRefusal, orElse, refusedUnless}
+use Rattle.link_rules.specs.Refusals.{orElse, refusedUnless}
 use Rattle.link_rules.specs.AdvanceRewind.{updateLinksBlocked, tableFault, entriesFault, Marked, markedBy}
 use Rattle.link_rules.specs.declared.link_idx.LinkIdx.{LinkIdx}
 use Rattle.link_rules.specs.declared.link_idx.TrainIdx.{TrainIdx}
@@ -14,22 +14,13 @@ use Rattle.link_rules.specs.declared.refusal.Refusal.{Refusal}
 use Rattle.disp_structs.specs.Values.{isArrive}
 use Rattle.disp_structs.specs.declared.LinkEvent.{LinkEvent}
 use Rattle.image.specs.Image.{estCount, pathCount, nodePlace, nodeAt}
-use Rattle.image_fault.specs.ImageFault.{arrived, faultWith}
-use Rattle.image_fault.specs.declared.Widths.the-variants.{Either}
+use Rattle.image_fault.specs.ImageFault.{arrived, isAccepted}
 use Rattle.text.specs.Text.{written}
 use Rattle.wide_occupancy.specs.WideOccupancy.{sixDigits, largeTrainFault}
-use Rattle.yard_check.specs.Yard.{slotCount, partOf, yardFault}
+use Rattle.yard_check.specs.Yard.{imageIn, yardFault}
 use Rattle.candidate.specs.declared.Viewed.{Viewed}
 
--- ---- the candidate's image
-
--- the image in the slot; empty where the yard has no such slot
-unfoldable pub candidateImage : (yard : List ℕ) (slot : ℕ) → List ℕ
-candidateImage yard slot = cond (leb 1 slot && leb slot (slotCount yard)) (partOf yard slot) []
-
--- an image of either width that passes 6 to 9 over so many links, 22 of a diverge record among them
-unfoldable pub isAccepted : (img : List ℕ) (links : ℕ) → Bool
-isAccepted img links = eqb (faultWith Either noRefusal img links .number) 0
+-- ---- the candidate's image: the one in their slot
 
 -- an Arrive link of the path
 unfoldable pub isArriveLink : (img : List ℕ) (l : LinkIdx) → Bool
@@ -39,7 +30,7 @@ isArriveLink img l = arrived img l (pathCount img)
 
 -- 26: no accepted image in the candidate's slot
 abbrev pub candidateFault : (tbl yard : List ℕ) (slot : ℕ) → Refusal
-candidateFault tbl yard slot = refusedUnless (isAccepted (candidateImage yard slot) (linkCount tbl)) 26
+candidateFault tbl yard slot = refusedUnless (isAccepted (imageIn yard slot) (linkCount tbl)) 26
 
 -- of both calls: 1, 2, 22, 14, 26
 unfoldable pub sittingFault : (tbl occ yard : List ℕ) (slot : ℕ) → Refusal
@@ -52,11 +43,11 @@ sittingFault tbl occ yard slot =
 
 -- 27: a node beyond the path
 unfoldable pub viewFault : (tbl occ yard : List ℕ) (slot node : ℕ) → Refusal
-viewFault tbl occ yard slot node = orElse (sittingFault tbl occ yard slot) (refusedUnless (ltb node (pathCount (candidateImage yard slot))) 27)
+viewFault tbl occ yard slot node = orElse (sittingFault tbl occ yard slot) (refusedUnless (ltb node (pathCount (imageIn yard slot))) 27)
 
 -- 27: a link that is no Arrive link of the path
 unfoldable pub actRefusal : (tbl occ yard : List ℕ) (slot : ℕ) (l : LinkIdx) → ℕ
-actRefusal tbl occ yard slot l = orElse (sittingFault tbl occ yard slot) (refusedUnless (isArriveLink (candidateImage yard slot) l) 27) .number
+actRefusal tbl occ yard slot l = orElse (sittingFault tbl occ yard slot) (refusedUnless (isArriveLink (imageIn yard slot) l) 27) .number
 
 -- ---- view: a path record, and whether its link is taken
 
@@ -87,14 +78,14 @@ seenBy (suc n) f taken was left = seen (record { fault = f; taken = false }) was
 
 unfoldable pub viewOf : (tbl occ yard : List ℕ) (slot node : ℕ) (buffer : List ℕ) → View
 viewOf tbl occ yard slot node buffer =
-    let img = candidateImage yard slot in
+    let img = imageIn yard slot in
     let f = viewFault tbl occ yard slot node in
     seenBy (f .number) f (linkTaken occ (nodeAt img node .«link_event»)) buffer (shown img node buffer)
 
 -- ---- act: a mark for the slot's own train, or a release of whoever holds the link
 
-abbrev pub trainOf : (slot : ℕ) (marks : Bool) → TrainIdx
-trainOf slot marks = cond marks (record { 0 = slot }) noTrain
+abbrev pub trainGiven : (slot : ℕ) (marks : Bool) → TrainIdx
+trainGiven slot marks = cond marks (record { 0 = slot }) noTrain
 
 unfoldable pub actOf : (tbl occ yard : List ℕ) (slot : ℕ) (l : LinkIdx) (marks : Bool) → Marked
-actOf tbl occ yard slot l marks = markedBy (actRefusal tbl occ yard slot l) occ (updateLinksBlocked tbl occ l (trainOf slot marks))
+actOf tbl occ yard slot l marks = markedBy (actRefusal tbl occ yard slot l) occ (updateLinksBlocked tbl occ l (trainGiven slot marks))

@@ -9,8 +9,8 @@ use Rattle.link_rules.specs.Network.{linkCount, tableFits}
 use Rattle.link_rules.specs.declared.link_idx.LinkIdx.{LinkIdx}
 use Rattle.link_rules.specs.declared.refusal.Answer.{Answer}
 use Rattle.wide_occupancy.specs.WideOccupancy.{largest, sixDigits}
-use Rattle.yard_check.specs.Yard.{yardFits}
-use Rattle.candidate.specs.Candidate.{candidateImage, isArriveLink, View, viewOf, actOf}
+use Rattle.yard_check.specs.Yard.{yardFits, imageIn}
+use Rattle.candidate.specs.Candidate.{isArriveLink, View, viewOf, actOf}
 
 -- an accepted table, an occupancy of its length past 22, and a yard past the header checks
 pub record Sitting (tbl occ yard : List ℕ) : Type 0 where
@@ -21,8 +21,8 @@ pub record Sitting (tbl occ yard : List ℕ) : Type 0 where
 
 -- they agree on the candidate's image, and on which Arrive links of its path are taken; S, the other slots, offsets and who holds a link may differ
 pub record Agree (slot : ℕ) (occ yard occ′ yard′ : List ℕ) : Type 0 where
-  pub image : candidateImage yard′ slot ≡ candidateImage yard slot
-  pub taken : (l : LinkIdx) → isArriveLink (candidateImage yard slot) l ≡ true → occupied occ′ l ≡ occupied occ l
+  pub image : imageIn yard′ slot ≡ imageIn yard slot
+  pub taken : (l : LinkIdx) → isArriveLink (imageIn yard slot) l ≡ true → occupied occ′ l ≡ occupied occ l
 
 -- two sittings over one table that agree so
 pub record Alike (tbl : List ℕ) (slot : ℕ) (occ yard occ′ yard′ : List ℕ) : Type 0 where

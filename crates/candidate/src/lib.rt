@@ -7,12 +7,12 @@ ghost use Prim.Native.Nat.{min};
 ghost use Rattle.link_rules.specs.AdvanceRewind.{marked};
 ghost use Rattle.image.specs.Image.{pathCount, nodeAt};
 ghost use Rattle.image_fault.specs.ImageFault.{arrivesOn, arrived};
-ghost use Rattle.candidate.specs.Candidate.{nodeBytes, candidateImage, isAccepted, sittingFault, viewFault, actRefusal, linkTaken, shown, seen, viewOf, trainOf, actOf};
+ghost use Rattle.yard_check.specs.Yard.{imageIn};
+ghost use Rattle.candidate.specs.Candidate.{nodeBytes, sittingFault, viewFault, actRefusal, linkTaken, shown, seen, viewOf, trainGiven, actOf};
 use disp_structs::LinkEvent;
 use disp_structs::events;
 use image::codec;
 use image_fault;
-use image_fault::Widths;
 use link_rules::link_idx::LinkIdx;
 use link_rules::link_idx::TrainIdx;
 use link_rules::network;
@@ -88,21 +88,12 @@ fn sitting_fault(table: &[u8], occupancy: &[u32], yard: &[u8], slot: u16) -> Ref
     let bad_length = refusal::refused_unless(occupancy.len() == links as usize, 2);
     let bad_train = trains::large_train_fault(occupancy, TrainIdx(0), 999999);
     let bad_yard = refusal::refused_unless(yard::yard_fits(yard), 14);
-    let bad_slot = refusal::refused_unless(is_accepted(candidate_image(yard, slot), links), 26);
+    let bad_slot = refusal::refused_unless(
+        image_fault::is_accepted(candidate_image(yard, slot), links),
+        26,
+    );
     let late = refusal::or_else(bad_train, refusal::or_else(bad_yard, bad_slot));
     refusal::or_else(bad_table, refusal::or_else(bad_length, late))
-}
-
-// The image, of either width, passes 6 to 9, with 22 of a diverge record at the end of 7.
-fn is_accepted(image: &[u8], links: u32) -> bool
-    ensures { λ r. ⌜ r ≡ isAccepted (now (image .entry)) links ⌝ }
-{
-    let none = Refusal {
-        number: 0,
-        place: 0,
-    };
-    let fault = image_fault::fault_with(image, links, Widths::Either, none);
-    fault.number == 0
 }
 
 // Then 27: a node beyond the path.
@@ -130,18 +121,10 @@ fn act_refusal(table: &[u8], occupancy: &[u32], yard: &[u8], slot: u16, link: Li
 
 // ---- the candidate's image
 
-// The part of a slot; none where the yard has no such slot.
 fn candidate_image(yard: &[u8], slot: u16) -> &[u8]
-    ensures { λ r. ⌜ now r ≡ candidateImage (now (yard .entry)) slot ⌝ }
+    ensures { λ r. ⌜ now r ≡ imageIn (now (yard .entry)) slot ⌝ }
 {
-    let t = slot as u32;
-    if t < 1 {
-        return &yard[0..0];
-    }
-    if yard::slot_count(yard) < t {
-        return &yard[0..0];
-    }
-    yard::part(yard, TrainIdx(t))
+    yard::image_in(yard, TrainIdx(slot as u32))
 }
 
 // One of the path's nodes is an Arrive on the link.
@@ -217,7 +200,7 @@ fn node_taken(occupancy: &[u32], image: &[u8], node: u32) -> bool
 
 // The slot's own train, or 0 for a release.
 fn train_of(slot: u16, marks: bool) -> TrainIdx
-    ensures { λ r. ⌜ r ≡ trainOf slot marks ⌝ }
+    ensures { λ r. ⌜ r ≡ trainGiven slot marks ⌝ }
 {
     if marks {
         return TrainIdx(slot as u32);

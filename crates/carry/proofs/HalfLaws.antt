@@ -11,8 +11,7 @@ use borrow.Author.Tests.{eqb-true, leb-true, ltb-true, eq-eqb, ne-eqb, le-leb, l
 use Rattle.link_rules.specs.Network.{allBelow}
 use Rattle.link_rules.specs.Refusals.{refusedUnless}
 use Rattle.link_rules.specs.declared.refusal.Refusal.{Refusal}
-use Rattle.link_rules.proofs.TableLaws.{all-at}
-use Rattle.image_fault.proofs.ScanLaws.{both}
+use Rattle.link_rules.proofs.TableLaws.{all-at, both}
 use Rattle.image_fault.proofs.AcceptLaws.{or-else-clean, refused-clean}
 use Rattle.update_definition.specs.UpdateImage.{callFault}
 use Rattle.yard_check.specs.Yard.{yardSize, slotCount, partBegin, partOf, yardFits, yardFault}

@@ -20,7 +20,7 @@ use Rattle.image.specs.Fields.{estOffsetField, pathOffsetField, divergeOffsetFi
 use Rattle.image.specs.Image.{sizeOf, estCount, divergeRoom, isWide, estPlace, nodePlace, divergeOffset, imageSize}
 use Rattle.image.specs.Codec.{decoded, encoded}
 use Rattle.image_fault.specs.ImageFault.{imageFault, lengthFault, imageFits, countsFit, partsFit}
-use Rattle.image_fault.proofs.ScanLaws.{both}
+use Rattle.link_rules.proofs.TableLaws.{both}
 use Rattle.image_fault.proofs.AcceptLaws.{or-else-clean, refused-clean, accepted, accepted-narrow, fits-counts}
 use Rattle.yard_check.specs.Yard.{slotCount, partBegin, partEnd, partOf, yardFits, yardFault}
 use Rattle.yard_check.proofs.YardLaws.{fits}

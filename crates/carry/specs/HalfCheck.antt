@@ -15,7 +15,7 @@ use Rattle.yard_check.specs.Pair.{lateFault, PairChecked, pairDone, pairBy}
 use Rattle.carry.specs.Carry.{secondFits}
 
 -- else 24: as in a step, and the count is not 0
-unfoldable pub halfFits : List ℕ → ℕ → List ℕ → Bool
+unfoldable pub halfFits : (yard : List ℕ) (count : ℕ) (wide : List ℕ) → Bool
 halfFits yard count wide = leb 1 count && secondFits yard count wide
 
 -- 2, 4, 5, 14 and 24, in this order
@@ -37,5 +37,5 @@ halfChecked yard wide count occ a report =
     pairBy (f .number) f done yard wide report
 
 -- over u32 entries
-abbrev pub halfArgs : List ℕ → ℕ → ℕ → Bool → ℕ → CheckArgs
+abbrev pub halfArgs : (blocking : List ℕ) (moved begin : ℕ) (local : Bool) (limit : ℕ) → CheckArgs
 halfArgs blocking moved begin local limit = record { widths = Either; blocking = blocking; moved = moved; begin = begin; local = local; limit = limit }

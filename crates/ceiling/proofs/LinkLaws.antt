@@ -13,7 +13,8 @@ use Rattle.image.specs.Fields.{estDistField, nodeOffsetField, nodeTimeField, re
 use Rattle.image.specs.Image.{estCount, pathCount, estPlace, nodePlace, estAt, nodeAt}
 use Rattle.image_fault.specs.ImageFault.{lengthFault, layoutFault, firstUnfit, floatFits, timeFits, eventFits, estLinksFit, estFits, nodeFits, headerFits, valueFault, cycleFault, routeFault, faultWith}
 use Rattle.image_fault.specs.declared.Widths.{Widths}
-use Rattle.image_fault.proofs.ScanLaws.{both, step-fit}
+use Rattle.image_fault.proofs.ScanLaws.{step-fit}
+use Rattle.link_rules.proofs.TableLaws.{both}
 use Rattle.image_fault.proofs.AcceptLaws as Clean
 
 -- ---- chains

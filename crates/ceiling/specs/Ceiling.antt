@@ -36,7 +36,7 @@ ceilingOf img = toldBy (faultWith Either noRefusal img 4000) (roundCeiling img)
 -- ---- a yard
 
 -- slots 1 to n, each with the round limit; a refused image adds 0
-unfoldable pub slotsCeiling : List ℕ → ℕ → ℕ → ℕ
+unfoldable pub slotsCeiling : (yard : List ℕ) (limit n : ℕ) → ℕ
 slotsCeiling yard limit zero = 0
 slotsCeiling yard limit (suc n) = slotsCeiling yard limit n + ceilingOf (partOf yard (suc n)) .steps * limit
 
@@ -50,14 +50,14 @@ yardCeilingOf yard limit = toldBy (yardFault yard limit) (slotsCeiling yard limi
 -- ---- the steps of a check: their sum over the slots that are updated
 
 -- as visitBy has it: a slot that is refused by 6 to 9 or 22, finished or moved is not updated
-abbrev pub visitSteps : ℕ → Bool → Bool → ℕ → ℕ
+abbrev pub visitSteps : (number : ℕ) (isDone isMoved : Bool) (steps : ℕ) → ℕ
 visitSteps (suc n) isDone isMoved steps = 0
 visitSteps zero true isMoved steps = 0
 visitSteps zero false true steps = 0
 visitSteps zero false false steps = steps
 
 -- slots below begin are not visited
-unfoldable pub slotSteps : List ℕ → List ℕ → CheckArgs → ℕ → ℕ
+unfoldable pub slotSteps : (yard occ : List ℕ) (a : CheckArgs) (t : ℕ) → ℕ
 slotSteps yard occ a t =
     let img = partOf yard t in
     let steps = updatedImageIn (a .widths) img occ (a .blocking) (a .moved) (a .local) (a .limit) .answer .tally .steps in

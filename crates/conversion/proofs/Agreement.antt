@@ -21,10 +21,10 @@ use Rattle.image_fault.specs.ImageFault.{lengthFault, layoutFault, trainFits, i
 use Rattle.image_fault.specs.declared.Widths.{Widths}
 use Rattle.image_fault.specs.declared.Widths.the-variants.{Narrow, Either}
 use Rattle.image_fault.proofs.AcceptLaws.{or-else-clean, or-else-none, refused-clean, own-clean, accepted-in, accepted-narrow, clean-trains, good-image, stored-accepted}
-use Rattle.image_fault.proofs.ScanLaws.{both}
+use Rattle.link_rules.proofs.TableLaws.{both}
 use Rattle.update_definition.specs.Fits.{TrainsUpTo, TrainsWithin}
 use Rattle.update_definition.specs.Update.{Status, Success, Blocked, Faulty, Refused, Updated, updateFreePath}
-use Rattle.update_definition.specs.UpdateImage.{UpdatedImage, callFault, entriesUpTo, givenFault, leftImage, answerBy, storedAnswer, refusedAnswer, linkIdxs, updateFaultIn, updatedImageIn, updateFault, updatedImage, updatedImageWide}
+use Rattle.update_definition.specs.UpdateImage.{callFault, entriesUpTo, givenFault, leftImage, answerBy, storedAnswer, refusedAnswer, linkIdxs, updateFaultIn, updatedImageIn, updateFault, updatedImage, updatedImageWide}
 use Rattle.update_laws.specs.AfterRound.{Leaves}
 use Rattle.update_laws.specs.FitsGood.{TrainFits}
 use Rattle.update_laws.proofs.BytesAccepted.{narrow-held}

@@ -1,6 +1,6 @@
 -- A set of links as flags is the set of a list: of the links on a path, and of the known links. Assumes nothing.
 use mathlib.Core.Path.{_≡_, refl, sym, ap, _∙_}
-use mathlib.Core.Bool.{Bool, true, false, cond, _&&_, _||_, false≢true}
+use mathlib.Core.Bool.{Bool, true, false, cond, _&&_, _||_}
 use mathlib.Core.List.{List, [], _∷_}
 use Prim.Native.Nat.{ℕ, _≤_, _<_}
 use native.Mathlib.Omega.{arith}
@@ -10,6 +10,7 @@ use lib.Seq.{getD-set-same, getD-set-other}
 use borrow.Author.Tests.{eqb-true, eqb-false, ltb-true, ltb-false}
 use Rattle.link_rules.specs.LinkIdx.{sameLink, noLink}
 use Rattle.link_rules.specs.declared.link_idx.LinkIdx.{LinkIdx}
+use Rattle.link_rules.proofs.TableLaws.{and-right}
 use Rattle.disp_structs.specs.Values.{isArrive, arriving}
 use Rattle.disp_structs.specs.declared.DispNode.{DispNode}
 use Rattle.free_path.specs.Base.{any}
@@ -151,8 +152,4 @@ kept-has on (b ∷ bs) l = go (on b) refl (sameLink l b) refl (kept-has on bs l)
 -- the flags of the kept links are the known links
 pub known-flags : (n : ℕ) (bs : List LinkIdx) (on : LinkIdx → Bool) → ((l : LinkIdx) → on l ≡ true → (0 < l .0) × (l .0 < n))
     → (l : LinkIdx) → flagged (flagLinks (kept on bs) (replicate n 0)) l ≡ known bs on l
-known-flags n bs on b l = flags-are n (kept on bs) (known bs on) (λ m h. b m (right (contains bs m) (on m) h)) (λ m z. kept-has on bs m) l
-  where
-    right : (t u : Bool) → (t && u) ≡ true → u ≡ true
-    right true u h = h
-    right false u h = absurd (false≢true h)
+known-flags n bs on b l = flags-are n (kept on bs) (known bs on) (λ m h. b m (and-right (contains bs m) (on m) h)) (λ m z. kept-has on bs m) l

@@ -58,7 +58,7 @@ abbrev pub linkAt : List ℕ → ℕ → LinkIdx
 linkAt col i = link (getD col i 0)
 
 -- diverge nodes in two columns, read past their ends as 0
-abbrev pub divAt : List ℕ → List ℕ → ℕ → DivergeNode
+abbrev pub divAt : (ts ns : List ℕ) (i : ℕ) → DivergeNode
 divAt ts ns i = record { «train_idx» = tr (getD ts i 0); «disp_node_idx» = getD ns i 0 }
 
 -- a set of links as flags: a link past their end is none of it

@@ -106,7 +106,7 @@ isNone (Range a b) = false
 isNone Check = false
 
 -- the first entry from split up to the sentinel where the walk stops, else the sentinel
-abbrev pub intersect : ℕ → ℕ → LinkOptType → List LinkIdx → List ℕ → ℕ
+abbrev pub intersect : (split sentinel : ℕ) (class : LinkOptType) (links : List LinkIdx) (occ : List ℕ) → ℕ
 intersect split sentinel class links occ = split + passes (stops class occ) (part split sentinel links)
 
 -- a Range as a Check
@@ -117,11 +117,11 @@ plainly (Range a b) = Check
 plainly Check = Check
 
 -- the plain walk: the first occupied entry, else the sentinel; PlainLaws.same-index
-abbrev pub firstOccupied : ℕ → ℕ → List LinkIdx → List ℕ → ℕ
+abbrev pub firstOccupied : (split sentinel : ℕ) (links : List LinkIdx) (occ : List ℕ) → ℕ
 firstOccupied split sentinel links occ = split + passes (occupied occ) (part split sentinel links)
 
 -- a class None is unreachable!() (146)
-unfoldable pub findTrainIntersect : ℕ → ℕ → LinkOptType → List LinkIdx → List ℕ → Res ℕ
+unfoldable pub findTrainIntersect : (split sentinel : ℕ) (class : LinkOptType) (links : List LinkIdx) (occ : List ℕ) → Res ℕ
 findTrainIntersect split sentinel class links occ =
     let r = (need (leb sentinel (length links)) >> (need (not (isNone class)) >> ok (intersect split sentinel class links occ))) in
     cond (leb sentinel split) (ok split) r

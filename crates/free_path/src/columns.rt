@@ -48,7 +48,7 @@ pub fn is_occupied(occ: &[u32], l: LinkIdx) -> bool
 }
 
 // Is the link in the set?
-pub fn is_flagged(flags: &[u8], l: LinkIdx) -> bool
+pub(crate) fn is_flagged(flags: &[u8], l: LinkIdx) -> bool
     ensures { λ r. ⌜ r ≡ flagged (now (flags .entry)) l ⌝ }
 {
     let i = l.0 as usize;

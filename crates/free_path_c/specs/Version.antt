@@ -2,7 +2,7 @@
 use Prim.Native.Nat.{ℕ, _+_, _*_}
 
 -- major, minor and patch in an octet each
-abbrev pub versionOf : ℕ → ℕ → ℕ → ℕ
+abbrev pub versionOf : (major minor patch : ℕ) → ℕ
 versionOf major minor patch = 65536 * major + (256 * minor + patch)
 
 abbrev pub version : ℕ

@@ -32,7 +32,7 @@ answerWord Done = 0
 answerWord (Refused r) = faultWord r
 
 -- what a layout is told, from plain numbers
-abbrev pub settingsOf : ℕ → Float → Float → ℕ → ℕ → Settings
+abbrev pub settingsOf : (train : ℕ) (search fixed : Float) (room links : ℕ) → Settings
 settingsOf train search fixed room links =
     record {
       «train_idx» = record { 0 = train };
@@ -82,7 +82,7 @@ pub record Told (u : UpdatedImage) (r : ℕ) (image ws₀ ws : List ℕ) : Type 
 -- ---- a ceiling
 
 -- the first word; a refused call leaves the words as they were
-abbrev pub ceilingWords : ℕ → ℕ → List ℕ → List ℕ
+abbrev pub ceilingWords : (number steps : ℕ) (ws : List ℕ) → List ℕ
 ceilingWords zero steps ws = set ws 0 steps
 ceilingWords (suc n) steps ws = ws
 
@@ -104,7 +104,7 @@ abbrev pub bitOf : Bool → ℕ
 bitOf b = cond b 1 0
 
 -- the first three words; a word past the end stays out
-abbrev pub threeWords : ℕ → ℕ → ℕ → List ℕ → List ℕ
+abbrev pub threeWords : (a b c : ℕ) (ws : List ℕ) → List ℕ
 threeWords a b c ws = set (set (set ws 0 a) 1 b) 2 c
 
 -- slots that erred, deadlock and next begin; a refused check leaves the words as they were
@@ -170,7 +170,7 @@ pub record ToldUndone (k : Indexed.Undone) (r : ℕ) (yard index : List ℕ) : T
 -- ---- a game
 
 -- a game from plain numbers
-abbrev pub gameWith : List ℕ → List ℕ → ℕ → Bool → ℕ → List ℕ → Game
+abbrev pub gameWith : (image occ : List ℕ) (moved : ℕ) (local : Bool) (limit : ℕ) (links : List ℕ) → Game
 gameWith image occ moved local limit links = record { image = image; occupancy = occ; moved = moved; local = local; limit = limit; links = links }
 
 -- 1 or 0 in the first word; a refused call leaves the words as they were
@@ -194,7 +194,7 @@ pub record ToldReplay (k : Replayed) (r : ℕ) (yard occupancy list : List ℕ) 
 -- ---- a candidate's view
 
 -- whether the link is taken in the first word; a refused call leaves the words as they were
-abbrev pub viewWords : ℕ → Bool → List ℕ → List ℕ
+abbrev pub viewWords : (number : ℕ) (taken : Bool) (ws : List ℕ) → List ℕ
 viewWords zero taken ws = set ws 0 (bitOf taken)
 viewWords (suc n) taken ws = ws
 

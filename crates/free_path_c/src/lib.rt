@@ -22,7 +22,7 @@ ghost use Rattle.update_definition.specs.UpdateImage.{updatedImage};
 ghost use Rattle.update_free_path.specs.Updates.{statusOf, updatedOf};
 ghost use Rattle.yard_check.specs.Check.{checked};
 ghost use Rattle.yard_check.specs.Checks.{answeredOf};
-ghost use Rattle.yard_check.specs.Sheet.{sheetText};
+ghost use Rattle.sheet_text.specs.Sheet.{sheetText};
 ghost use Rattle.text.specs.Text.{textOf, written};
 ghost use Rattle.path_page.specs.Page.{drawingRule, pageFault, pageAfter};
 ghost use Rattle.sitting.specs.Replay.{replayOf};
@@ -46,13 +46,13 @@ use link_rules::link_idx::TrainIdx;
 use link_rules::refusal::Answer;
 use link_rules::refusal::Refusal;
 use path_page;
+use sheet_text::sheet;
 use sitting;
 use train_disp::Settings;
 use update_free_path;
 use update_free_path::answer::Status;
 use update_free_path::answer::Updated;
 use yard_check::check;
-use yard_check::sheet;
 
 // Marks a link for a train, or releases it with train 0. Answers 0, or the refusal's number with its place in the upper 16 bits.
 #[no_mangle]

@@ -14,7 +14,7 @@ use Rattle.link_rules.specs.declared.refusal.Refusal.{Refusal}
 use Rattle.image.specs.Image.{pathHeader}
 use Rattle.image_fault.specs.declared.Widths.the-variants.{Either}
 use Rattle.image_fault.proofs.AcceptLaws.{or-else-clean}
-use Rattle.image_fault.proofs.ScanLaws.{both}
+use Rattle.link_rules.proofs.TableLaws.{both}
 use Rattle.link_rules.proofs.OctetLaws.{Bytes}
 use Rattle.free_path.specs.Base.{any}
 use Rattle.update_definition.specs.UpdateImage.{UpdatedImage, refusedAnswer, updateFaultIn, updatedImageWide}

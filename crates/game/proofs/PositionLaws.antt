@@ -9,7 +9,7 @@ use lib.Dec.{ltb, eqb}
 use lib.ListN.{getD, length, List·getD-eq-default}
 use lib.Pow.{shr-shr}
 use borrow.Author.Tests.{eq-eqb, ne-eqb, ltb-true, ltb-false, eqb-true, eqb-false}
-use Rattle.image_fault.proofs.ScanLaws.{both}
+use Rattle.link_rules.proofs.TableLaws.{both}
 use Rattle.free_path.specs.Base.{any}
 use Rattle.game.specs.Game.{Position, allOpen, isListed, shut, opened, closedLinks, linksFit, every, choices, judged}
 use Rattle.game.specs.Sets.{isOpen, shutIn, openedIn, positionOf, linksIn, allOpenings, someClosing, judgedIn}

@@ -74,7 +74,7 @@ closedLinks [] p = []
 closedLinks (x ∷ xs) p = cond (p x) (x ∷ closedLinks xs p) (closedLinks xs p)
 
 -- the occupancy in which the moved train holds these links; every other link keeps its own entry
-unfoldable pub heldBy : ℕ → List ℕ → List ℕ → List ℕ
+unfoldable pub heldBy : (moved : ℕ) (links occ : List ℕ) → List ℕ
 heldBy moved [] occ = occ
 heldBy moved (x ∷ xs) occ = heldBy moved xs (set occ x moved)
 
@@ -121,7 +121,7 @@ abbrev pub finishedFault : List ℕ → Refusal
 finishedFault img = refusedUnless (ltb (pathHeader img .free) (pathHeader img .«path_count»)) 10
 
 -- the update's own up to 10, with no blocking list: 2, 5, 6, 22, 7, 22, 8, 9, 10
-unfoldable pub startFault : List ℕ → List ℕ → ℕ → ℕ → Refusal
+unfoldable pub startFault : (img occ : List ℕ) (moved limit : ℕ) → Refusal
 startFault img occ moved limit = orElse (updateFaultIn Either img occ [] moved limit) (finishedFault img)
 
 -- no repeat, no link 0, none at least l
@@ -130,7 +130,7 @@ linksFit l [] = true
 linksFit l (x ∷ xs) = ltb 0 x && (ltb x l && (not (isListed xs x) && linksFit l xs))
 
 -- 28: a bad list, more than 8 links or 6 turns
-abbrev pub listFault : ℕ → List ℕ → ℕ → Refusal
+abbrev pub listFault : (l : ℕ) (links : List ℕ) (turns : ℕ) → Refusal
 listFault l links turns = refusedUnless (leb (length links) 8 && (leb turns 6 && linksFit l links)) 28
 
 unfoldable pub gameFault : Game → ℕ → Refusal

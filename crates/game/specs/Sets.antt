@@ -13,11 +13,11 @@ abbrev pub isOpen : ℕ → ℕ → Bool
 isOpen c i = eqb (c / 2 ^ i % 2) 0
 
 -- c with link i closed; c where there is no link i
-unfoldable pub shutIn : ℕ → ℕ → ℕ → ℕ
+unfoldable pub shutIn : (k c i : ℕ) → ℕ
 shutIn k c i = cond (ltb i k && isOpen c i) (c + 2 ^ i) c
 
 -- c with link i opened; c where there is no link i
-unfoldable pub openedIn : ℕ → ℕ → ℕ → ℕ
+unfoldable pub openedIn : (k c i : ℕ) → ℕ
 openedIn k c i = cond (ltb i k && not (isOpen c i)) (c - 2 ^ i) c
 
 -- the position of the set c
@@ -77,7 +77,7 @@ pub record Accepted (g : Game) : Type 0 where
   pub fitting : linksFit (length (g .occupancy)) (g .links) ≡ true
 
 -- the game of a call's arguments
-abbrev pub gameOf : List ℕ → List ℕ → Args → List ℕ → Game
+abbrev pub gameOf : (image occ : List ℕ) (o : Args) (links : List ℕ) → Game
 gameOf image occ o links = record { image = image; occupancy = occ; moved = o .moved .0; local = o .local; limit = o .limit; links = links }
 
 -- the closer wins with the set c

@@ -6,20 +6,10 @@ ghost use Rattle.update_free_path.specs.Updates.{statusOf};
 ghost use Rattle.game.specs.Game.{isBlocked};
 ghost use Rattle.game.specs.Sets.{Entries, Placed, Accepted, winsWith, gameOf};
 use crate::faults;
+use link_rules::octets;
 use update_free_path;
 use update_free_path::answer::Status;
 use update_free_path::start::Args;
-
-fn copy_bytes(from: &[u8], to: &mut [u8])
-    requires { ⌜ length (now to) ≡ length (now from) ⌝ }
-    ensures { λ _. ⌜ now (to .exit) ≡ now (from .entry) ⌝ }
-{
-    let mut i = 0;
-    while i < from.len() {
-        to[i] = from[i];
-        i += 1;
-    }
-}
 
 fn copy_entries(from: &[u32], to: &mut [u32])
     requires { ⌜ length (now to) ≡ length (now from) ⌝ }
@@ -83,7 +73,7 @@ pub(crate) fn wins_with(
     ensures { λ r. ⌜ r ≡ winsWith (gameOf (now (image .entry)) (now (occ .entry)) o (now (links .entry))) c ⌝ }
 {
     let mut blocking = [0u32; 8];
-    copy_bytes(image, img);
+    octets::put_bytes(img, 0, image);
     copy_entries(occ, held);
     let moved = o.moved;
     let count = place(links, c, moved.0, held, &mut blocking);

@@ -7,6 +7,7 @@ use lib.ListN.{length}
 use Rattle.link_rules.specs.Octets.{putLe}
 use Rattle.link_rules.specs.declared.link_idx.TrainIdx.{TrainIdx}
 use Rattle.disp_structs.specs.Floats.{realOf, bitsOf}
+use Rattle.disp_structs.specs.Listed.{listed}
 use Rattle.disp_structs.specs.declared.Metres.{Metres}
 use Rattle.disp_structs.specs.declared.EstType.{EstType}
 use Rattle.disp_structs.specs.declared.EstType.the-variants.{Arrive, Clear, Fake}
@@ -132,6 +133,14 @@ estAt bs i = estFrom bs (estPlace i)
 
 abbrev pub nodeAt : (bs : List ℕ) (i : ℕ) → DispNode
 nodeAt bs i = nodeFrom bs (nodePlace (estCount bs) i)
+
+-- est_times, of which the image has n
+abbrev pub estsOf : (bs : List ℕ) (n : ℕ) → List EstTime
+estsOf bs n = listed n (estAt bs)
+
+-- the first n nodes of disp_path
+abbrev pub pathOf : (bs : List ℕ) (n : ℕ) → List DispNode
+pathOf bs n = listed n (nodeAt bs)
 
 abbrev pub divergeAt : (bs : List ℕ) (i : ℕ) → DivergeNode
 divergeAt bs i = divergeFrom (isWide bs) bs (divergePlace (isWide bs) (estCount bs) i)

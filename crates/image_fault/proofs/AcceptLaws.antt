@@ -4,7 +4,7 @@ use mathlib.Core.Bool.{not, _&&_, _||_, Bool, true, false, cond}
 use mathlib.Core.List.{List}
 use lib.ListN.{length}
 use Rattle.link_rules.specs.Network.{allBelow}
-use Rattle.link_rules.proofs.TableLaws.{all-at}
+use Rattle.link_rules.proofs.TableLaws.{all-at, both}
 use Rattle.link_rules.proofs.OctetLaws.{Bytes}
 use Rattle.disp_structs.specs.Train.{Train}
 use Prim.Native.Nat.{ℕ, zero, suc, _+_, _*_, _-_, _%_, _≤_, _<_}
@@ -25,7 +25,7 @@ use Rattle.image_fault.specs.declared.Widths.the-variants.{Narrow, Eithe
 use Rattle.image_fault.specs.CodeFacts.{CountsFit}
 use Rattle.link_rules.specs.Refusals.{noRefusal, refusedUnless, orElse}
 use Rattle.link_rules.specs.declared.refusal.Refusal.{Refusal}
-use Rattle.image_fault.proofs.ScanLaws.{both, first-clean}
+use Rattle.image_fault.proofs.ScanLaws.{first-clean}
 
 -- where neither is a fault
 pub or-else-clean : (a b : Refusal) → orElse a b .number ≡ 0 → (a .number ≡ 0) × (b .number ≡ 0)

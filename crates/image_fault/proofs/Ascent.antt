@@ -8,7 +8,7 @@ use native.Mathlib.Omega.{arith}
 use lib.Dec.{eqb, ltb}
 use borrow.Author.Tests.{eqb-true, ltb-true}
 use Rattle.link_rules.specs.Network.{allBelow}
-use Rattle.link_rules.proofs.TableLaws.{all-at}
+use Rattle.link_rules.proofs.TableLaws.{all-at, both}
 use Rattle.disp_structs.specs.declared.EstIdx.{EstIdx}
 use Rattle.disp_structs.proofs.ListedLaws.{listed-at}
 use Rattle.est_times.proofs.WalkLaws.{or-cases}
@@ -17,7 +17,6 @@ use Rattle.image.specs.Image.{estCount, estAt}
 use Rattle.image_fault.specs.ImageFault.{nexts, alts, cycleRefused, cycleFault}
 use Rattle.image_fault.specs.CodeFacts.{isLater, leadsOn}
 use Rattle.link_rules.specs.Refusals.{noRefusal}
-use Rattle.image_fault.proofs.ScanLaws.{both}
 
 later-less : (a : ℕ) (t : EstIdx) (b : ℕ) → isLater a t ≡ true → t .0 ≡ b → (b ≡ 0 → ⊥) → a < b
 later-less a t b h q n = ⊎-elim

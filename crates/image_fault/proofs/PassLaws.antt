@@ -9,7 +9,7 @@ use lib.ListN.{length}
 use borrow.Author.Tests.{eqb-true, leb-true, le-leb}
 use Rattle.link_rules.specs.Octets.{leAt}
 use Rattle.link_rules.specs.Network.{allBelow}
-use Rattle.link_rules.proofs.TableLaws.{all-at}
+use Rattle.link_rules.proofs.TableLaws.{all-at, both}
 use Rattle.disp_structs.specs.Values.{isArrive}
 use Rattle.disp_structs.specs.declared.EstType.the-variants.{Arrive, Clear, Fake}
 use Rattle.est_times.specs.Cycles.{firstOnCycle}
@@ -22,7 +22,7 @@ use Rattle.image_fault.specs.declared.Widths.{Widths}
 use Rattle.link_rules.specs.Refusals.{noRefusal, orElse}
 use Rattle.link_rules.specs.declared.refusal.Refusal.{Refusal}
 use Rattle.image_fault.specs.AllFit.{eventPasses, acyclic, estPasses, nodePasses, pathPasses, headPasses, widePasses, divergesPass, recordsPass, allFit}
-use Rattle.image_fault.proofs.ScanLaws.{both, step-fit}
+use Rattle.image_fault.proofs.ScanLaws.{step-fit}
 use Rattle.image_fault.proofs.AcceptLaws.{node-fits, event-link}
 
 -- ---- what a record that passes has

@@ -14,7 +14,7 @@ use lib.Ieee.Exact.{HasValue, odd-sign}
 use borrow.Author.Tests.{ltb-true, ltb-false, leb-true, leb-false, eqb-true, lt-ltb, eq-eqb}
 use Rattle.disp_structs.specs.Floats.{realOf, inReach, far}
 use Rattle.image_fault.specs.ImageFault.{floatFits}
-use Rattle.image_fault.proofs.ScanLaws.{both}
+use Rattle.link_rules.proofs.TableLaws.{both}
 
 -- ---- at most 1e12 in magnitude
 

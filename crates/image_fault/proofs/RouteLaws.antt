@@ -20,7 +20,8 @@ use Rattle.est_times.proofs.WalkLaws.{or-right, or-cases}
 use Rattle.image.specs.Image.{estCount, pathCount, divergeCount, estAt, nodeAt, divergeAt}
 use Rattle.image_fault.specs.ImageFault.{firstUnfit, nexts, alts, cycleRefused, cycleFault, stepsTo, comesFrom, endsAt, arrivesOn, arrived, firstArrival, onRoute, innerFits, divergeFits, routeFault}
 use Rattle.image_fault.specs.declared.Widths.{Widths}
-use Rattle.image_fault.proofs.ScanLaws.{both, first-clean}
+use Rattle.image_fault.proofs.ScanLaws.{first-clean}
+use Rattle.link_rules.proofs.TableLaws.{both}
 use Rattle.image_fault.proofs.AcceptLaws.{Accepted, or-else-clean, clean-node, node-fits}
 
 -- an Arrive on the link stands before i

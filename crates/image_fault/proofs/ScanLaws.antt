@@ -1,19 +1,12 @@
 -- One turn of each scan, as a loop has it, and what a scan that finds nothing says of each index. Assumes nothing.
 use mathlib.Core.Path.{_≡_, refl}
 use mathlib.Core.Logic.{_⊎_, inl, inr}
-use mathlib.Core.Bool.{Bool, true, false, _&&_}
+use mathlib.Core.Bool.{Bool, true, false}
 use Prim.Native.Nat.{ℕ, zero, suc, _+_, _-_, _≤_, _<_}
 use native.Mathlib.Nat.{eq-or-lt-of-le}
 use native.Mathlib.Omega.{arith}
 use Rattle.image_fault.specs.ImageFault.{firstUnfit}
 use Rattle.link_rules.specs.Refusals.{noRefusal, refused}
-
--- ---- both tests hold
-
-pub both : (a b : Bool) → a && b ≡ true → (a ≡ true) × (b ≡ true)
-both true true h = (refl, refl)
-both true false h = let z : _≡_ {A = ℕ} 0 1 = cc in absurd (omega arith)
-both false b h = let z : _≡_ {A = ℕ} 0 1 = cc in absurd (omega arith)
 
 -- ---- the first index that does not fit
 

@@ -223,3 +223,7 @@ faultWith w f bs l =
 -- in a call that takes narrow images alone, and has no refusal of its own there
 abbrev pub imageFault : (bs : List ℕ) (l : ℕ) → Refusal
 imageFault bs l = faultWith Narrow noRefusal bs l
+
+-- an image of either width passes 6 to 9 over so many links, 22 of a diverge record among them
+unfoldable pub isAccepted : (img : List ℕ) (links : ℕ) → Bool
+isAccepted img links = eqb (faultWith Either noRefusal img links .number) 0

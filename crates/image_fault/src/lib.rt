@@ -22,7 +22,7 @@ ghost use Prim.Native.Nat.{ℕ, _+_, _-_, _*_, _^_, _≤_, _<_};
 ghost use Rattle.link_rules.specs.Network.{allBelow};
 ghost use Rattle.disp_structs.specs.Values.{isArrive};
 ghost use Rattle.image.specs.Image.{estCount, pathCount, isWide, estAt, nodeAt, divergeAt};
-ghost use Rattle.image_fault.specs.ImageFault.{faultWith, imageFault, imageFits, trainsFault, divergeTrainFits, valueFault, cycleFault, routeFault, firstUnfit, countsFit, partsFit, widthNumber, trainFits, estTypeFits, nodeTypeFits, divergeSpareFits, zeroWord, unusedZero, recordsFit, floatFits, timeFits, distFits, eventFits, estLinksFit, estFits, nodeFits, indicesFit, headerFits, stepsTo, comesFrom, endsAt, onRoute, innerFits, divergeFits};
+ghost use Rattle.image_fault.specs.ImageFault.{faultWith, imageFault, imageFits, trainsFault, divergeTrainFits, valueFault, cycleFault, routeFault, firstUnfit, countsFit, partsFit, widthNumber, trainFits, estTypeFits, nodeTypeFits, divergeSpareFits, zeroWord, unusedZero, recordsFit, floatFits, timeFits, distFits, eventFits, estLinksFit, estFits, nodeFits, indicesFit, headerFits, stepsTo, comesFrom, endsAt, onRoute, innerFits, divergeFits, isAccepted};
 ghost use Rattle.image_fault.specs.CodeFacts.{CountsFit, zeroByte, isLater, leadsOn};
 
 // The widths of the images that a call takes (document 02, Q-6).
@@ -816,4 +816,16 @@ pub fn image_fault(img: &[u8], links: u32) -> Refusal
         return none;
     }
     first_fault(img, links, Widths::Narrow, none)
+}
+
+// Whether an image of either width passes 6 to 9, with 22 of a diverge record at the end of 7.
+pub fn is_accepted(img: &[u8], links: u32) -> bool
+    ensures { λ r. ⌜ r ≡ isAccepted (now (img .entry)) links ⌝ }
+{
+    let none = Refusal {
+        number: 0,
+        place: 0,
+    };
+    let fault = fault_with(img, links, Widths::Either, none);
+    fault.number == 0
 }

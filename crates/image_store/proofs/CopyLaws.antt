@@ -1,6 +1,6 @@
 -- The four words of a plain record, written, are its node written field by field. Assumes nothing.
 use mathlib.Core.Path.{_≡_, refl, sym, ap, ap₂, _∙_}
-use mathlib.Core.Bool.{Bool, true, false, _&&_}
+use mathlib.Core.Bool.{true}
 use mathlib.Core.List.{List}
 use Prim.Native.Nat.{ℕ, zero, suc, _+_, _*_, _/_, _%_, _^_, _≤_}
 use native.Mathlib.Omega.{arith}
@@ -8,16 +8,12 @@ use lib.Dec.{leb}
 use lib.ListN.{length}
 use borrow.Author.Tests.{leb-true}
 use Rattle.link_rules.specs.Octets.{leAt, putLe}
+use Rattle.link_rules.proofs.TableLaws.{both}
 use Rattle.link_rules.proofs.OctetLaws.{Bytes, le-add, le-lt, put-add, put-mod}
 use Rattle.disp_structs.proofs.FloatLaws.{bits-real}
 use Rattle.image.specs.Image.{typeOf, typeNumber, nodeFrom, putNode}
 use Rattle.image_store.specs.Plain.{plainNode}
 use Rattle.image_store.specs.Stored.{wordsInto}
-
-both : (a b : Bool) → a && b ≡ true → (a ≡ true) × (b ≡ true)
-both true true h = (refl, refl)
-both true false h = let z : _≡_ {A = ℕ} 0 1 = cc in absurd (omega arith)
-both false b h = let z : _≡_ {A = ℕ} 0 1 = cc in absurd (omega arith)
 
 -- ---- a number written in two parts
 

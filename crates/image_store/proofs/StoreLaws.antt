@@ -21,7 +21,7 @@ use Rattle.image.specs.declared.codec.PathHeader.{PathHeader}
 use Rattle.image.proofs.Writers.{Writes, le-outside, each-writes, zero-writes}
 use Rattle.image.proofs.RecordLaws.{node-writes, diverge-writes}
 use Rattle.image.proofs.EachLaws.{each-more}
-use Rattle.splice.specs.Read.{trainOf}
+use Rattle.update_definition.specs.ImageTrain.{trainOf}
 use Rattle.image_store.specs.Stored.{changedTrain}
 
 -- a write from 64 on leaves a number of the header

@@ -14,12 +14,13 @@ use Rattle.link_rules.specs.declared.refusal.Answer.the-variants as Stepped
 use Rattle.link_rules.proofs.OctetLaws.{Bytes}
 use Rattle.image_fault.specs.ImageFault.{lengthFault}
 use Rattle.image_fault.specs.declared.Widths.{Widths}
-use Rattle.image_fault.proofs.ScanLaws.{both}
+use Rattle.link_rules.proofs.TableLaws.{both}
 use Rattle.image_fault.proofs.AcceptLaws.{or-else-clean, refused-clean}
 use Rattle.train_disp.specs.TrainDisp as TrainDisp
 use Rattle.train_disp.specs.TrainDisp.{sizesFit, Laid as PlainLaid, laidOut}
 use Rattle.train_disp.specs.declared.Settings.{Settings}
-use Rattle.yard_check.specs.Bytes.{putWhole, sameBytes}
+use Rattle.link_rules.specs.Octets.{putWhole}
+use Rattle.yard_check.specs.Bytes.{sameBytes}
 use Rattle.yard_check.specs.Check as Check
 use Rattle.yard_check.specs.Check.{CheckArgs, Refused, checkedWith, isSeen, changedSlots}
 use Rattle.yard_check.specs.Checks.{argsOf, answeredOf, WatchedAs}
@@ -34,7 +35,8 @@ use Rattle.undo.specs.Undo.{roomFault, recordedWith, undone}
 use Rattle.undo.proofs.RecordLaws.{filled-old}
 use Rattle.undo.proofs.UndoLaws as UndoLaws
 use Rattle.link_index.specs.Bits.{bitOf, numberOf}
-use Rattle.link_index.specs.LinkIndex.{slotImage, runsOver, hasBit, built, changed, refreshed, lengthFits}
+use Rattle.yard_check.specs.Yard.{imageIn}
+use Rattle.link_index.specs.LinkIndex.{runsOver, hasBit, built, changed, refreshed, lengthFits}
 use Rattle.link_index.specs.Slots.{slotsDone}
 use Rattle.link_index.specs.Indexed.{lengthsFault, Checked, checking, checkedBy, checkedBeside, checkedOf, recordedFault, Recorded, recording, recordedBy, recordedBeside, recordedOf, isRefused, undoing, undoneBy, undoneBeside, ownSix, layOutFault, Laid, laying, laidBy, laidBeside, slotKept, LaidAs}
 use Rattle.link_index.specs.IndexCalls.{check, Entries}
@@ -46,8 +48,8 @@ use Rattle.link_index.proofs.ChangedLaws.{changed-self, check-bits}
 pub refreshed-self : (yard index : List ℕ) → Entries index → refreshed yard yard index ≡ index
 unfolding refreshed
 refreshed-self yard index e =
-    index-same (length index) (λ l t. cond (changed yard yard t) (runsOver (slotImage yard t) (length index) l) (hasBit index l t)) (hasBit index)
-    (λ l t h k. ap (λ (b : Bool). cond b (runsOver (slotImage yard t) (length index) l) (hasBit index l t)) (changed-self yard t))
+    index-same (length index) (λ l t. cond (changed yard yard t) (runsOver (imageIn yard t) (length index) l) (hasBit index l t)) (hasBit index)
+    (λ l t h k. ap (λ (b : Bool). cond b (runsOver (imageIn yard t) (length index) l) (hasBit index l t)) (changed-self yard t))
     ∙ index-own index e
 
 -- ---- checks

@@ -16,7 +16,7 @@ use Rattle.image_fault.specs.ImageFault.{faultWith}
 use Rattle.image_fault.proofs.AcceptLaws.{either-accepted}
 use Rattle.update_free_path.proofs.DivergeLaws.{accepted-size}
 use Rattle.yard_check.specs.Bytes.{sameBytes}
-use Rattle.yard_check.specs.Yard.{slotCount, partOf}
+use Rattle.yard_check.specs.Yard.{slotCount, partOf, imageIn}
 use Rattle.yard_check.specs.Check as Check
 use Rattle.yard_check.specs.Check.{CheckArgs, Checked, checkFault, checkedWith, yardAfter, slotSet, isSeen, changedSlots}
 use Rattle.yard_check.proofs.SeenLaws.{same-self}
@@ -24,9 +24,9 @@ use Rattle.yard_check.proofs.YardLaws.{fits, slots-after, part-bytes, part-done
 use Rattle.yard_check.proofs.VisitLaws.{images-fit}
 use Rattle.yard_check.proofs.CheckLaws.{by, taken, visit-refused}
 use Rattle.link_index.specs.Bits.{bitOf, numberOf}
-use Rattle.link_index.specs.LinkIndex.{slotImage, changed}
+use Rattle.link_index.specs.LinkIndex.{changed}
 use Rattle.link_index.proofs.BitLaws.{number-bit, number-lt, bit-off}
-use Rattle.link_index.proofs.IndexLaws.{image-low, image-high, image-is}
+use Rattle.yard_check.proofs.YardLaws.{image-low, image-high, image-is}
 
 -- ---- the bits of a set of slots
 
@@ -55,11 +55,11 @@ module _ (f : ℕ → Bool) (n t : ℕ) where
 
 pub changed-self : (yard : List ℕ) (t : ℕ) → changed yard yard t ≡ false
 unfolding changed
-changed-self yard t = ap not (same-self (slotImage yard t))
+changed-self yard t = ap not (same-self (imageIn yard t))
 
-pub none-changed : (yard yard′ : List ℕ) (t : ℕ) → slotImage yard t ≡ slotImage yard′ t → changed yard yard′ t ≡ false
+pub none-changed : (yard yard′ : List ℕ) (t : ℕ) → imageIn yard t ≡ imageIn yard′ t → changed yard yard′ t ≡ false
 unfolding changed
-none-changed yard yard′ t e = ap (λ (x : List ℕ). not (sameBytes (slotImage yard t) x)) (sym e) ∙ ap not (same-self (slotImage yard t))
+none-changed yard yard′ t e = ap (λ (x : List ℕ). not (sameBytes (imageIn yard t) x)) (sym e) ∙ ap not (same-self (imageIn yard t))
 
 -- an image that changed finds room
 module _ (yard yard′ : List ℕ) (slots : slotCount yard′ ≡ slotCount yard)

@@ -6,59 +6,45 @@ use Prim.Native.Nat.{ℕ, zero, suc, _≤_, _<_}
 use native.Mathlib.Omega.{arith}
 use lib.Dec.{leb}
 use lib.ListN.{length}
-use borrow.Author.Tests.{not-false, leb-true, le-leb, lt-leb}
+use borrow.Author.Tests.{not-false, leb-true}
 use Rattle.link_rules.specs.Octets.{leAt}
 use Rattle.link_rules.specs.Refusals.{orElse, refusedUnless}
 use Rattle.link_rules.specs.declared.refusal.Refusal.{Refusal}
 use Rattle.disp_structs.proofs.ListedLaws.{listed-length, listed-at}
-use Rattle.image_fault.specs.ImageFault.{arrived}
-use Rattle.image_fault.proofs.ScanLaws.{both}
+use Rattle.image_fault.specs.ImageFault.{arrived, isAccepted}
+use Rattle.link_rules.proofs.TableLaws.{both}
 use Rattle.yard_check.specs.Bytes.{sameBytes}
-use Rattle.yard_check.specs.Yard.{slotCount, partOf, yardFault}
+use Rattle.yard_check.specs.Yard.{slotCount, partOf, yardFault, imageIn}
 use Rattle.yard_check.proofs.SeenLaws.{same-bytes, lengths-differ}
-use Rattle.yard_check.proofs.YardLaws.{Fits, part-long, part-length}
+use Rattle.yard_check.proofs.YardLaws.{image-low, image-high, image-is, Fits, part-long, part-length}
 use Rattle.link_index.specs.Bits.{numberOf, bitOf}
-use Rattle.link_index.specs.LinkIndex.{slotImage, isAccepted, runsOver, indexOf, hasBit, built, changed, refreshed, lengthFits, buildFault, leaves, builtBy, buildOf}
+use Rattle.link_index.specs.LinkIndex.{runsOver, indexOf, hasBit, built, changed, refreshed, lengthFits, buildFault, leaves, builtBy, buildOf}
 use Rattle.link_index.specs.StaysRight.{BuiltBits, NoBitZero, ChangedAsBuilt, OthersStay, StaysRight}
 use Rattle.link_index.proofs.BitLaws.{number-bit}
 use Rattle.link_index.proofs.SlotLaws.{index-same}
 
--- ---- a slot's image
-
-pub image-low : (yard : List ℕ) (t : ℕ) → t < 1 → slotImage yard t ≡ []
-unfolding slotImage
-image-low yard t h = rw (lt-leb 1 t h)
-
-pub image-high : (yard : List ℕ) (t : ℕ) → slotCount yard < t → slotImage yard t ≡ []
-unfolding slotImage
-image-high yard t h = rw (lt-leb t (slotCount yard) h, le-leb 1 t (omega arith))
-
-pub image-is : (yard : List ℕ) (t : ℕ) → 1 ≤ t → t ≤ slotCount yard → slotImage yard t ≡ partOf yard t
-unfolding slotImage
-image-is yard t h k = rw (le-leb 1 t h, le-leb t (slotCount yard) k)
-
 -- ---- changed is of bytes
 
-pub unchanged-image : (old new : List ℕ) (t : ℕ) → changed old new t ≡ false → slotImage old t ≡ slotImage new t
+pub unchanged-image : (old new : List ℕ) (t : ℕ) → changed old new t ≡ false → imageIn old t ≡ imageIn new t
 unfolding changed
-unchanged-image old new t e = same-bytes (slotImage old t) (slotImage new t) (not-false (sameBytes (slotImage old t) (slotImage new t)) e)
+unchanged-image old new t e = same-bytes (imageIn old t) (imageIn new t) (not-false (sameBytes (imageIn old t) (imageIn new t)) e)
 
 -- a slot that one of two yards past 14 has, and the other has not, has changed
 module _ (old new : List ℕ) (t : ℕ) (l : 1 ≤ t) where
   pub gone-changed : Fits old → t ≤ slotCount old → slotCount new < t → changed old new t ≡ true
   unfolding changed
   gone-changed f h k =
-      let long : length (slotImage old t) ≡ length (partOf old t) = ap (λ (x : List ℕ). length x) (image-is old t l h) in
-      let none : length (slotImage new t) ≡ 0 = ap (λ (x : List ℕ). length x) (image-high new t k) in
-      ap not (lengths-differ (slotImage old t) (slotImage new t) (λ (e : length (slotImage old t) ≡ length (slotImage new t)).
+      let long : length (imageIn old t) ≡ length (partOf old t) = ap (λ (x : List ℕ). length x) (image-is old t l h) in
+      let none : length (imageIn new t) ≡ 0 = ap (λ (x : List ℕ). length x) (image-high new t k) in
+      ap not (lengths-differ (imageIn old t) (imageIn new t) (λ (e : length (imageIn old t) ≡ length (imageIn new t)).
       omega (arith, e, long, none, part-length old f t l h, part-long old f t l h)))
 
   pub come-changed : Fits new → slotCount old < t → t ≤ slotCount new → changed old new t ≡ true
   unfolding changed
   come-changed f k h =
-      let long : length (slotImage new t) ≡ length (partOf new t) = ap (λ (x : List ℕ). length x) (image-is new t l h) in
-      let none : length (slotImage old t) ≡ 0 = ap (λ (x : List ℕ). length x) (image-high old t k) in
-      ap not (lengths-differ (slotImage old t) (slotImage new t) (λ (e : length (slotImage old t) ≡ length (slotImage new t)).
+      let long : length (imageIn new t) ≡ length (partOf new t) = ap (λ (x : List ℕ). length x) (image-is new t l h) in
+      let none : length (imageIn old t) ≡ 0 = ap (λ (x : List ℕ). length x) (image-high old t k) in
+      ap not (lengths-differ (imageIn old t) (imageIn new t) (λ (e : length (imageIn old t) ≡ length (imageIn new t)).
       omega (arith, e, long, none, part-length new f t l h, part-long new f t l h)))
 
 -- ---- bits of an index
@@ -68,11 +54,11 @@ index-bit n bits l t h k = ap (λ (x : ℕ). bitOf x t) (listed-at n (λ i. numb
 
 pub built-length : (yard : List ℕ) (links : ℕ) → length (built yard links) ≡ links
 unfolding built
-built-length yard links = listed-length links (λ l. numberOf (λ t. runsOver (slotImage yard t) links l) 64)
+built-length yard links = listed-length links (λ l. numberOf (λ t. runsOver (imageIn yard t) links l) 64)
 
 pub built-bits : BuiltBits
 unfolding built
-built-bits yard links l t h k = index-bit links (λ i s. runsOver (slotImage yard s) links i) l t h k
+built-bits yard links l t h k = index-bit links (λ i s. runsOver (imageIn yard s) links i) l t h k
 
 -- no path, no Arrive
 none-runs : (links l : ℕ) → runsOver [] links l ≡ false
@@ -117,7 +103,7 @@ fault-low yard links h = go (lengthFits links) refl
 
 module _ (old new index : List ℕ) where
   abbrev refreshedBit : (l t : ℕ) (b : Bool) → Bool
-  refreshedBit l t b = cond b (runsOver (slotImage new t) (length index) l) (hasBit index l t)
+  refreshedBit l t b = cond b (runsOver (imageIn new t) (length index) l) (hasBit index l t)
 
   refreshed-bit : (l t : ℕ) → l < length index → t < 64 → hasBit (refreshed old new index) l t ≡ refreshedBit l t (changed old new t)
   unfolding refreshed
@@ -137,16 +123,16 @@ stays-right old new links = lengths ∙ bits
     right = built old links
 
     bitIn : (n l t : ℕ) (b : Bool) → Bool
-    bitIn n l t b = cond b (runsOver (slotImage new t) n l) (hasBit right l t)
+    bitIn n l t b = cond b (runsOver (imageIn new t) n l) (hasBit right l t)
 
     lengths : refreshed old new right ≡ indexOf links (λ l t. bitIn links l t (changed old new t))
     lengths = ap (λ (n : ℕ). indexOf n (λ l t. bitIn n l t (changed old new t))) (built-length old links)
 
-    bit : (l t : ℕ) → l < links → t < 64 → (b : Bool) → changed old new t ≡ b → bitIn links l t b ≡ runsOver (slotImage new t) links l
+    bit : (l t : ℕ) → l < links → t < 64 → (b : Bool) → changed old new t ≡ b → bitIn links l t b ≡ runsOver (imageIn new t) links l
     bit l t h k true e = refl
     bit l t h k false e = built-bits old links l t h k ∙ ap (λ (img : List ℕ). runsOver img links l) (unchanged-image old new t e)
 
     bits : indexOf links (λ l t. bitIn links l t (changed old new t)) ≡ built new links
     bits =
-        index-same links (λ l t. bitIn links l t (changed old new t)) (λ l t. runsOver (slotImage new t) links l)
+        index-same links (λ l t. bitIn links l t (changed old new t)) (λ l t. runsOver (imageIn new t) links l)
         (λ l t h k. bit l t h k (changed old new t) refl)

@@ -14,16 +14,17 @@ use Rattle.link_rules.proofs.RenumberingLaws.{sameLink-r, below}
 use Rattle.image.specs.Image.{pathCount, estCount, nodeAt, largestOf}
 use Rattle.image.specs.ImageMatch.{ImagesMatch}
 use Rattle.image.proofs.MatchLaws.{path-count, node-match}
-use Rattle.image_fault.specs.ImageFault.{arrived, arrivesOn, faultWith}
+use Rattle.image_fault.specs.ImageFault.{arrived, arrivesOn, faultWith, isAccepted}
 use Rattle.image_fault.specs.declared.Widths.the-variants.{Either}
 use Rattle.image_fault.proofs.AcceptLaws.{accepted-in, fits-counts}
 use Rattle.image_fault.proofs.MatchLaws.{fault-match}
 use Rattle.yard_check.specs.Yard.{slotCount, partOf}
 use Rattle.yard_check.proofs.SlotLaws.{some}
 use Rattle.yard_check.proofs.YardLaws.{fits}
-use Rattle.link_index.specs.LinkIndex.{isAccepted, runsOver}
+use Rattle.link_index.specs.LinkIndex.{runsOver}
 use Rattle.link_index.specs.StaysRight.{RenumberedBits}
-use Rattle.link_index.proofs.IndexLaws.{image-is, built-bits}
+use Rattle.yard_check.proofs.YardLaws.{image-is}
+use Rattle.link_index.proofs.IndexLaws.{built-bits}
 
 module _ (p q : ℕ → ℕ) (links top : ℕ) (rp : Renumbering (links - 1) p) (rq : Renumbering top q) (few : top ≤ largestOf true) where
   -- ---- images

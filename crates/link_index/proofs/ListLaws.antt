@@ -16,19 +16,20 @@ use Rattle.image_fault.specs.declared.Widths.the-variants.{Narrow}
 use Rattle.train_disp.specs.TrainDisp.{laidOut}
 use Rattle.layout_laws.proofs.LaidOut.{laid-length}
 use Rattle.yard_check.specs.Bytes.{sameBytes}
-use Rattle.yard_check.specs.Yard.{slotCount, partOf, withPart}
+use Rattle.yard_check.specs.Yard.{slotCount, partOf, withPart, imageIn}
 use Rattle.yard_check.specs.Check.{checkedWith, yardAfter}
 use Rattle.yard_check.proofs.YardLaws.{Fits, fits, ImagesFit, slots-after, part-done, part-later}
 use Rattle.yard_check.proofs.CheckLaws.{part-back}
 use Rattle.undo.specs.Undo.{recordedWith, undone}
 use Rattle.link_index.specs.Bits.{numberOf}
-use Rattle.link_index.specs.LinkIndex.{slotImage, runsOver, hasBit, indexOf, built, changed, refreshed, lengthFits}
+use Rattle.link_index.specs.LinkIndex.{runsOver, hasBit, indexOf, built, changed, refreshed, lengthFits}
 use Rattle.link_index.specs.Slots.{withSlot, slotBuilt}
 use Rattle.link_index.specs.Indexed.{lengthsFault, recordedFault, layOutFault, checking, recording, undoing, laying, Checked, checkedBy, checkedBeside, Recorded, recordedBy, recordedBeside, Undone, undoneBy, undoneBeside, Laid, laidBy, laidBeside, slotKept}
 use Rattle.link_index.specs.IndexCalls.{IndexCall, check, recorded, undo, layOut, Beside, beside, after, afterAll, HaveSlots, Entries, CallsRefresh, RightThrough}
 use Rattle.link_index.proofs.BitLaws.{number-lt, bitsWith}
 use Rattle.link_index.proofs.SlotLaws.{index-same, index-own, set-index}
-use Rattle.link_index.proofs.IndexLaws.{image-low, image-high, image-is, stays-right}
+use Rattle.yard_check.proofs.YardLaws.{image-low, image-high, image-is}
+use Rattle.link_index.proofs.IndexLaws.{stays-right}
 use Rattle.link_index.proofs.ChangedLaws.{none-changed}
 use Rattle.link_index.proofs.CallLaws.{refreshed-self}
 
@@ -85,10 +86,10 @@ module _ (yard : List ℕ) (f : Fits yard) (t : ℕ) (l : 1 ≤ t) (m : t ≤ sl
       (λ (q : u ≤ t). part-done yard f images images-fit t m u h k q ∙ ap (λ (b : Bool). cond b img (partOf yard u)) (ne-eqb u t n))
       (side t u)
 
-  pub image-here : slotImage put t ≡ img
+  pub image-here : imageIn put t ≡ img
   image-here = image-is put t l (omega (arith, put-slots)) ∙ put-here
 
-  image-other : (u : ℕ) → (u ≡ t → ⊥) → slotImage yard u ≡ slotImage put u
+  image-other : (u : ℕ) → (u ≡ t → ⊥) → imageIn yard u ≡ imageIn put u
   image-other u n =
       ⊎-elim
       (λ (h : u < 1). image-low yard u h ∙ sym (image-low put u h))
@@ -108,7 +109,7 @@ module _ (yard : List ℕ) (f : Fits yard) (t : ℕ) (l : 1 ≤ t) (m : t ≤ sl
     n = length index
 
     abbrev bit : (k u : ℕ) (b : Bool) → Bool
-    bit k u b = cond b (runsOver (slotImage put u) n k) (hasBit index k u)
+    bit k u b = cond b (runsOver (imageIn put u) n k) (hasBit index k u)
 
     pub put-refreshed : slotKept (partOf yard t) img t index ≡ refreshed yard put index
     unfolding refreshed withSlot
@@ -185,10 +186,10 @@ calls-refresh s (layOut est o) e u =
 pub built-entries : (yard : List ℕ) (links : ℕ) → Entries (built yard links)
 unfolding built
 built-entries yard links l =
-    let bits : ℕ → Bool = λ t. runsOver (slotImage yard t) links l in
+    let bits : ℕ → Bool = λ t. runsOver (imageIn yard t) links l in
     ⊎-elim
-    (λ (h : l < links). let e : getD (indexOf links (λ k t. runsOver (slotImage yard t) links k)) l 0 ≡ numberOf bits 64 = listed-at links (λ k. numberOf (λ t. runsOver (slotImage yard t) links k) 64) l 0 h in omega (arith, e, number-lt bits 64))
-    (λ (h : links ≤ l). let e = List·getD-eq-default (indexOf links (λ k t. runsOver (slotImage yard t) links k)) 0 {n = l} (omega (arith, listed-length links (λ k. numberOf (λ t. runsOver (slotImage yard t) links k) 64))) in omega (arith, e))
+    (λ (h : l < links). let e : getD (indexOf links (λ k t. runsOver (imageIn yard t) links k)) l 0 ≡ numberOf bits 64 = listed-at links (λ k. numberOf (λ t. runsOver (imageIn yard t) links k) 64) l 0 h in omega (arith, e, number-lt bits 64))
+    (λ (h : links ≤ l). let e = List·getD-eq-default (indexOf links (λ k t. runsOver (imageIn yard t) links k)) 0 {n = l} (omega (arith, listed-length links (λ k. numberOf (λ t. runsOver (imageIn yard t) links k) 64))) in omega (arith, e))
     (side l links)
 
 through : (s : Beside) (links : ℕ) (cs : List IndexCall) → s .index ≡ built (s .yard) links → HaveSlots s cs → afterAll s cs .index ≡ built (afterAll s cs .yard) links

@@ -6,7 +6,9 @@ use Rattle.link_rules.specs.Refusals.{noRefusal, refused}
 use Rattle.yard_check.specs.Bytes.{sameBytes}
 use Rattle.yard_check.proofs.Siding.{words, siding, diverted, plain, twoSlots, everything}
 use Rattle.link_index.specs.Bits.{bitOf, numberOf}
-use Rattle.link_index.specs.LinkIndex.{slotImage, isAccepted, runsOver, built, buildFault, buildOf, leaves, changed, refreshed}
+use Rattle.image_fault.specs.ImageFault.{isAccepted}
+use Rattle.yard_check.specs.Yard.{imageIn}
+use Rattle.link_index.specs.LinkIndex.{runsOver, built, buildFault, buildOf, leaves, changed, refreshed}
 
 -- train 1 goes over link 1, or by the siding over link 2; train 2 over link 3
 abbrev before : List ℕ
@@ -17,7 +19,7 @@ after = twoSlots 400 (diverted 1 2 1 2) (plain 2 1 3)
 
 -- what the examples compute with
 unfoldable indexing : ℕ
-unfolding everything bitOf numberOf slotImage isAccepted runsOver built buildFault buildOf sameBytes changed refreshed
+unfolding everything bitOf numberOf imageIn isAccepted runsOver built buildFault buildOf sameBytes changed refreshed
 indexing = 0
 
 -- bit 1 at link 1, bit 2 at link 3

@@ -15,9 +15,10 @@ use Rattle.disp_structs.specs.Values.{isArrive}
 use Rattle.disp_structs.specs.declared.LinkEvent.{LinkEvent}
 use Rattle.disp_structs.proofs.ListedLaws.{listed-length, listed-same, listed-at, listed-set, listed-entries}
 use Rattle.image.specs.Image.{pathCount, nodeAt}
-use Rattle.image_fault.specs.ImageFault.{arrivesOn, arrived}
+use Rattle.image_fault.specs.ImageFault.{arrivesOn, arrived, isAccepted}
 use Rattle.link_index.specs.Bits.{numberOf, withBit}
-use Rattle.link_index.specs.LinkIndex.{slotImage, isAccepted, runsOver, indexOf, hasBit, built, changed, refreshed}
+use Rattle.yard_check.specs.Yard.{imageIn}
+use Rattle.link_index.specs.LinkIndex.{runsOver, indexOf, hasBit, built, changed, refreshed}
 use Rattle.link_index.specs.IndexCalls.{Entries}
 use Rattle.link_index.specs.Slots.{withSlot, slotCleared, bitsAdded, bitAdded, arrivalAdded, arrivalsAdded, slotBuilt, slotsDone, slotRebuilt}
 use Rattle.link_index.proofs.BitLaws.{with-twice, number-same, bits-number, bitsWith, number-with}
@@ -222,7 +223,7 @@ module _ (redone : ℕ → Bool) (yard index : List ℕ) where
   n = length index
 
   abbrev runs : (l s : ℕ) → Bool
-  runs l s = runsOver (slotImage yard s) n l
+  runs l s = runsOver (imageIn yard s) n l
 
   abbrev bitsTo : (t l s : ℕ) → Bool
   bitsTo t l s = cond (ltb s t && redone s) (runs l s) (hasBit index l s)
@@ -239,12 +240,12 @@ module _ (redone : ℕ → Bool) (yard index : List ℕ) where
   by-test l s b c e = ap (λ (x : Bool). cond (x && redone s) (runs l s) (hasBit index l s)) e
 
   -- a slot that is redone
-  pub slots-redone : (t : ℕ) → t < 64 → redone t ≡ true → slotBuilt (slotImage yard t) t (slotsDone redone yard t index) ≡ slotsDone redone yard (t + 1) index
+  pub slots-redone : (t : ℕ) → t < 64 → redone t ≡ true → slotBuilt (imageIn yard t) t (slotsDone redone yard t index) ≡ slotsDone redone yard (t + 1) index
   unfolding slotsDone
   slots-redone t h e =
-      ap (λ (k : ℕ). withSlot (runsOver (slotImage yard t) k) t (indexOf n (bitsTo t))) (listed-length n (λ l. numberOf (bitsTo t l) 64))
-      ∙ (set-index (runsOver (slotImage yard t) n) t n (bitsTo t) h
-      ∙ index-same n (λ l. bitsWith (bitsTo t l) t (runsOver (slotImage yard t) n l)) (bitsTo (t + 1)) (λ l s m k. turn l s (eqb s t) refl))
+      ap (λ (k : ℕ). withSlot (runsOver (imageIn yard t) k) t (indexOf n (bitsTo t))) (listed-length n (λ l. numberOf (bitsTo t l) 64))
+      ∙ (set-index (runsOver (imageIn yard t) n) t n (bitsTo t) h
+      ∙ index-same n (λ l. bitsWith (bitsTo t l) t (runsOver (imageIn yard t) n l)) (bitsTo (t + 1)) (λ l s m k. turn l s (eqb s t) refl))
     where
       turn : (l s : ℕ) (b : Bool) → eqb s t ≡ b → bitsWith (bitsTo t l) t (runs l t) s ≡ bitsTo (t + 1) l s
       turn l s true q =
@@ -271,23 +272,23 @@ module _ (redone : ℕ → Bool) (yard index : List ℕ) where
 pub slots-built : (yard index : List ℕ) → slotsDone (λ s. true) yard 64 index ≡ built yard (length index)
 unfolding slotsDone built
 slots-built yard index =
-    index-same (length index) (λ l s. cond (ltb s 64 && true) (runsOver (slotImage yard s) (length index) l) (hasBit index l s)) (λ l s. runsOver (slotImage yard s) (length index) l)
-    (λ l s m k. ap (λ (b : Bool). cond (b && true) (runsOver (slotImage yard s) (length index) l) (hasBit index l s)) (lt-ltb s 64 k))
+    index-same (length index) (λ l s. cond (ltb s 64 && true) (runsOver (imageIn yard s) (length index) l) (hasBit index l s)) (λ l s. runsOver (imageIn yard s) (length index) l)
+    (λ l s m k. ap (λ (b : Bool). cond (b && true) (runsOver (imageIn yard s) (length index) l) (hasBit index l s)) (lt-ltb s 64 k))
 
 pub slots-refreshed : (old new index : List ℕ) → slotsDone (changed old new) new 64 index ≡ refreshed old new index
 unfolding slotsDone refreshed
 slots-refreshed old new index =
-    index-same (length index) (λ l s. cond (ltb s 64 && changed old new s) (runsOver (slotImage new s) (length index) l) (hasBit index l s))
-    (λ l s. cond (changed old new s) (runsOver (slotImage new s) (length index) l) (hasBit index l s))
-    (λ l s m k. ap (λ (b : Bool). cond (b && changed old new s) (runsOver (slotImage new s) (length index) l) (hasBit index l s)) (lt-ltb s 64 k))
+    index-same (length index) (λ l s. cond (ltb s 64 && changed old new s) (runsOver (imageIn new s) (length index) l) (hasBit index l s))
+    (λ l s. cond (changed old new s) (runsOver (imageIn new s) (length index) l) (hasBit index l s))
+    (λ l s m k. ap (λ (b : Bool). cond (b && changed old new s) (runsOver (imageIn new s) (length index) l) (hasBit index l s)) (lt-ltb s 64 k))
 
 -- the same slots redone
 pub slots-same : (f g : ℕ → Bool) (yard index : List ℕ) → ((s : ℕ) → s < 64 → f s ≡ g s) → slotsDone f yard 64 index ≡ slotsDone g yard 64 index
 unfolding slotsDone
 slots-same f g yard index h =
-    index-same (length index) (λ l s. cond (ltb s 64 && f s) (runsOver (slotImage yard s) (length index) l) (hasBit index l s))
-    (λ l s. cond (ltb s 64 && g s) (runsOver (slotImage yard s) (length index) l) (hasBit index l s))
-    (λ l s m k. ap (λ (b : Bool). cond (ltb s 64 && b) (runsOver (slotImage yard s) (length index) l) (hasBit index l s)) (h s k))
+    index-same (length index) (λ l s. cond (ltb s 64 && f s) (runsOver (imageIn yard s) (length index) l) (hasBit index l s))
+    (λ l s. cond (ltb s 64 && g s) (runsOver (imageIn yard s) (length index) l) (hasBit index l s))
+    (λ l s m k. ap (λ (b : Bool). cond (ltb s 64 && b) (runsOver (imageIn yard s) (length index) l) (hasBit index l s)) (h s k))
 
 -- the next one
 pub slots-turn : (redone : ℕ → Bool) (yard index : List ℕ) (t : ℕ) → t < 64

@@ -2,28 +2,19 @@
 -- Arrive on it; a slot with a refused image sets none. How it is built, and how it is refreshed from one yard to the next. Assumes nothing.
 use Prim.Native.Nat.{ℕ, zero, suc}
 use mathlib.Core.Bool.{Bool, cond, not, _&&_}
-use mathlib.Core.List.{List, []}
-use lib.Dec.{leb, eqb}
+use mathlib.Core.List.{List}
+use lib.Dec.{leb}
 use lib.ListN.{length, getD}
-use Rattle.link_rules.specs.Refusals.{noRefusal, refusedUnless, orElse}
+use Rattle.link_rules.specs.Refusals.{refusedUnless, orElse}
 use Rattle.link_rules.specs.declared.refusal.Refusal.{Refusal}
 use Rattle.disp_structs.specs.Listed.{listed}
 use Rattle.image.specs.Image.{pathCount}
-use Rattle.image_fault.specs.ImageFault.{arrived, faultWith}
-use Rattle.image_fault.specs.declared.Widths.the-variants.{Either}
+use Rattle.image_fault.specs.ImageFault.{arrived, isAccepted}
 use Rattle.yard_check.specs.Bytes.{sameBytes}
-use Rattle.yard_check.specs.Yard.{slotCount, partOf, yardFault}
+use Rattle.yard_check.specs.Yard.{imageIn, yardFault}
 use Rattle.link_index.specs.Bits.{bitOf, numberOf}
 
 -- ---- the train of a slot
-
--- the image in slot t; empty where the yard has no such slot, and none has slot 0
-unfoldable pub slotImage : (yard : List ℕ) (t : ℕ) → List ℕ
-slotImage yard t = cond (leb 1 t && leb t (slotCount yard)) (partOf yard t) []
-
--- an image of either width passes 6 to 9 and 22 over so many links
-unfoldable pub isAccepted : (img : List ℕ) (links : ℕ) → Bool
-isAccepted img links = eqb (faultWith Either noRefusal img links .number) 0
 
 -- the image is accepted, and its path has an Arrive on link l
 unfoldable pub runsOver : (img : List ℕ) (links l : ℕ) → Bool
@@ -41,7 +32,7 @@ hasBit index l t = bitOf (getD index l 0) t
 
 -- the index built afresh
 unfoldable pub built : (yard : List ℕ) (links : ℕ) → List ℕ
-built yard links = indexOf links (λ l t. runsOver (slotImage yard t) links l)
+built yard links = indexOf links (λ l t. runsOver (imageIn yard t) links l)
 
 -- ---- build
 
@@ -73,9 +64,9 @@ buildOf yard index = let f = buildFault yard (length index) in builtBy (f .numbe
 
 -- the bytes of the slot's image differ; so they do where one of the yards alone has the slot
 unfoldable pub changed : (old new : List ℕ) (t : ℕ) → Bool
-changed old new t = not (sameBytes (slotImage old t) (slotImage new t))
+changed old new t = not (sameBytes (imageIn old t) (imageIn new t))
 
 -- the bits of changed slots are as in an index built afresh, and all others stay
 unfoldable pub refreshed : (old new index : List ℕ) → List ℕ
 refreshed old new index =
-    indexOf (length index) (λ l t. cond (changed old new t) (runsOver (slotImage new t) (length index) l) (hasBit index l t))
+    indexOf (length index) (λ l t. cond (changed old new t) (runsOver (imageIn new t) (length index) l) (hasBit index l t))

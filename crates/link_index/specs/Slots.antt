@@ -8,7 +8,8 @@ use Rattle.disp_structs.specs.Listed.{listed}
 use Rattle.disp_structs.specs.declared.LinkEvent.{LinkEvent}
 use Rattle.image_fault.specs.ImageFault.{arrivesOn, arrived}
 use Rattle.link_index.specs.Bits.{withBit}
-use Rattle.link_index.specs.LinkIndex.{slotImage, runsOver, indexOf, hasBit}
+use Rattle.yard_check.specs.Yard.{imageIn}
+use Rattle.link_index.specs.LinkIndex.{runsOver, indexOf, hasBit}
 
 -- bit t of every entry as f says of its link
 unfoldable pub withSlot : (f : ℕ → Bool) (t : ℕ) (index : List ℕ) → List ℕ
@@ -41,8 +42,8 @@ slotBuilt img t index = withSlot (runsOver img (length index)) t index
 -- the slots below t that pass are as in an index built afresh, and all other bits stay
 unfoldable pub slotsDone : (redone : ℕ → Bool) (yard : List ℕ) (t : ℕ) (index : List ℕ) → List ℕ
 slotsDone redone yard t index =
-    indexOf (length index) (λ l s. cond (ltb s t && redone s) (runsOver (slotImage yard s) (length index) l) (hasBit index l s))
+    indexOf (length index) (λ l s. cond (ltb s t && redone s) (runsOver (imageIn yard s) (length index) l) (hasBit index l s))
 
 -- the bits of slot t, where it is redone
 abbrev pub slotRebuilt : (redone : Bool) (yard : List ℕ) (t : ℕ) (index : List ℕ) → List ℕ
-slotRebuilt redone yard t index = cond redone (slotBuilt (slotImage yard t) t index) index
+slotRebuilt redone yard t index = cond redone (slotBuilt (imageIn yard t) t index) index

@@ -6,13 +6,13 @@ use mathlib.Core.List.{List}
 use lib.ListN.{length}
 use Rattle.link_rules.specs.Renumbering.{Renumbering}
 use Rattle.image.specs.Image.{largestOf}
-use Rattle.yard_check.specs.Yard.{slotCount, yardFits}
+use Rattle.yard_check.specs.Yard.{slotCount, yardFits, imageIn}
 use Rattle.yard_check.specs.YardMatch.{YardsMatch}
-use Rattle.link_index.specs.LinkIndex.{slotImage, runsOver, hasBit, built, changed, refreshed}
+use Rattle.link_index.specs.LinkIndex.{runsOver, hasBit, built, changed, refreshed}
 
 -- bit t of entry l of an index built afresh: slot t's image is accepted over L links, and its path has an Arrive on l
 abbrev pub BuiltBits : Type 0
-BuiltBits = (yard : List ℕ) (links l t : ℕ) → l < links → t < 64 → hasBit (built yard links) l t ≡ runsOver (slotImage yard t) links l
+BuiltBits = (yard : List ℕ) (links l t : ℕ) → l < links → t < 64 → hasBit (built yard links) l t ≡ runsOver (imageIn yard t) links l
 
 -- bit 0 is never set
 abbrev pub NoBitZero : Type 0

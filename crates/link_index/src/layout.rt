@@ -4,6 +4,7 @@ ghost use Prim.Native.Nat.{_≤_, _<_};
 ghost use lib.ListN.{length};
 ghost use Rattle.link_index.specs.Indexed.{LaidAs, layOutFault, laying, laidBeside};
 use crate::slots;
+use link_rules::octets;
 use link_rules::refusal;
 use link_rules::refusal::Answer;
 use link_rules::refusal::Refusal;
@@ -40,7 +41,7 @@ fn lay_out_watched(
     requires { ⌜ (settings .«train_idx» .0 < 64) × (length (now index) ≤ 4000) × (length (now image) ≤ length (now room)) ⌝ }
     ensures { λ r. ⌜ LaidAs (now (est .entry)) settings (now (image .entry)) (now (index .entry)) r (now (image .exit)) (now (index .exit)) ⌝ }
 {
-    bytes::put_bytes(room, 0, image);
+    octets::put_bytes(room, 0, image);
     let r = train_disp::lay_out(est, settings, image);
     if bytes::differs(image, room) {
         slots::build_slot(image, settings.train_idx.0 as u32, index);

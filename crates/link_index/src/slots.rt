@@ -5,16 +5,14 @@ ghost use Prim.Native.Nat.{_<_, _≤_};
 ghost use lib.ListN.{length};
 ghost use Rattle.image.specs.Image.{pathCount};
 ghost use Rattle.link_index.specs.Bits.{bitOf, numberOf, withBit};
-ghost use Rattle.link_index.specs.LinkIndex.{slotImage, isAccepted, built, changed, refreshed};
+ghost use Rattle.link_index.specs.LinkIndex.{built, changed, refreshed};
 ghost use Rattle.link_index.specs.Slots.{slotCleared, bitAdded, arrivalAdded, arrivalsAdded, slotBuilt, slotRebuilt, slotsDone};
 use crate::bits;
 use disp_structs::LinkEvent;
 use disp_structs::events;
 use image::codec;
 use image_fault;
-use image_fault::Widths;
 use link_rules::link_idx::TrainIdx;
-use link_rules::refusal::Refusal;
 use yard_check::bytes;
 use yard_check::yard;
 
@@ -68,7 +66,10 @@ fn with_changed(old: &[u8], new: &[u8], t: u32, set: u64) -> u64
     requires { ⌜ t < 64 ⌝ }
     ensures { λ r. ⌜ r ≡ cond (changed (now (old .entry)) (now (new .entry)) t) (withBit set t true) set ⌝ }
 {
-    if bytes::same_bytes(slot_image(old, t), slot_image(new, t)) {
+    if bytes::same_bytes(
+        yard::image_in(old, TrainIdx(t)),
+        yard::image_in(new, TrainIdx(t)),
+    ) {
         return set;
     }
     bits::with_bit(set, t)
@@ -79,7 +80,7 @@ fn rebuild_slot(yard: &[u8], set: u64, t: u32, index: &mut [u64])
     ensures { λ _. ⌜ now (index .exit) ≡ slotRebuilt (bitOf set t) (now (yard .entry)) t (now (index .entry)) ⌝ }
 {
     if bits::has_bit(set, t) {
-        build_slot(slot_image(yard, t), t, index);
+        build_slot(yard::image_in(yard, TrainIdx(t)), t, index);
         return;
     }
 }
@@ -91,7 +92,7 @@ pub(crate) fn build_slot(image: &[u8], t: u32, index: &mut [u64])
 {
     let links = index.len() as u32;
     clear_slot(t, index);
-    if is_accepted(image, links) {
+    if image_fault::is_accepted(image, links) {
         add_arrivals(image, t, index);
         return;
     }
@@ -140,31 +141,4 @@ fn add_bit(l: usize, t: u32, index: &mut [u64])
         return;
     }
     index[l] = bits::with_bit(index[l], t);
-}
-
-// ---- a slot's image
-
-// The part of a slot; none where the yard has no such slot.
-fn slot_image(yard: &[u8], t: u32) -> &[u8]
-    ensures { λ r. ⌜ now r ≡ slotImage (now (yard .entry)) t ⌝ }
-{
-    if t < 1 {
-        return &yard[0..0];
-    }
-    if yard::slot_count(yard) < t {
-        return &yard[0..0];
-    }
-    yard::part(yard, TrainIdx(t))
-}
-
-// Of either width.
-fn is_accepted(image: &[u8], links: u32) -> bool
-    ensures { λ r. ⌜ r ≡ isAccepted (now (image .entry)) links ⌝ }
-{
-    let none = Refusal {
-        number: 0,
-        place: 0,
-    };
-    let fault = image_fault::fault_with(image, links, Widths::Either, none);
-    fault.number == 0
 }

@@ -1,15 +1,17 @@
--- The laws of the little-endian numbers, once over the width. Assumes nothing.
+-- The laws of the little-endian numbers, once over the width, and of octets put into a buffer. Assumes nothing.
 use mathlib.Core.Path.{_≡_, refl, sym, ap, ap₂, _∙_}
 use mathlib.Core.Logic.{_⊎_, inl, inr}
-use mathlib.Core.List.{List}
+use mathlib.Core.Bool.{Bool, cond}
+use mathlib.Core.List.{List, _++_, append-nil}
 use Prim.Native.Nat.{ℕ, zero, suc, _+_, _*_, _/_, _%_, _^_, _≤_, _<_}
 use native.Mathlib.Nat.{suc-add, zero-add, add-zero, mul-assoc, mul-comm, one-mul, pow-suc, pow-zero, div-div-eq-div-mul, div-one}
 use native.Mathlib.Omega.{arith}
 use lib.Arith.{mod-mul}
 use lib.Dec.{lit<}
-use lib.ListN.{length, getD, set, length-set, List·getD-eq-default}
-use lib.Seq.{getD-set-same, getD-set-other, set-getD, set-out}
-use Rattle.link_rules.specs.Octets.{leAt, putLe}
+use lib.ListN.{length, getD, set, drop, length-set, List·getD-eq-default}
+use lib.Seq.{getD-set-same, getD-set-other, set-getD, set-out, drop-length}
+use borrow.Author.Tests.{le-leb, lt-leb}
+use Rattle.link_rules.specs.Octets.{leAt, putLe, putBytes, putWhole}
 
 -- the list holds bytes
 abbrev pub Bytes : List ℕ → Type 0
@@ -113,3 +115,21 @@ unfolding leAt
 le-cong zero bs cs j h = refl
 le-cong (suc v) bs cs j h =
     ap₂ (λ (a b : ℕ). a + 256 * b) (h j (omega arith) (omega arith)) (le-cong v bs cs (j + 1) (λ i l m. h i (omega arith) (omega arith)))
+
+-- ---- octets put into a buffer
+
+module _ (k : ℕ) (xs r : List ℕ) where
+  pub put-none : length r < k + length xs → putWhole k xs r ≡ r
+  unfolding putWhole
+  put-none h = ap (λ (b : Bool). cond b (putBytes k xs r) r) (lt-leb (k + length xs) (length r) h)
+
+  pub put-some : k + length xs ≤ length r → putWhole k xs r ≡ putBytes k xs r
+  unfolding putWhole
+  put-some h = ap (λ (b : Bool). cond b (putBytes k xs r) r) (le-leb (k + length xs) (length r) h)
+
+-- all of a buffer
+pub put-all : (xs r : List ℕ) → length xs ≡ length r → putWhole 0 xs r ≡ xs
+unfolding putBytes
+put-all xs r e =
+    let k : 0 + length xs ≡ length r = omega (arith, e) in
+    put-some 0 xs r (omega (arith, e)) ∙ (ap (λ (n : ℕ). xs ++ drop n r) k ∙ (ap (λ (ys : List ℕ). xs ++ ys) (drop-length r) ∙ append-nil xs))

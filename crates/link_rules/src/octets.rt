@@ -3,7 +3,7 @@
 ghost use mathlib.Core.Path.{_≡_};
 ghost use Prim.Native.Nat.{_+_, _≤_};
 ghost use lib.ListN.{length};
-ghost use Rattle.link_rules.specs.Octets.{leAt, putLe};
+ghost use Rattle.link_rules.specs.Octets.{leAt, putLe, putWhole};
 
 pub fn u16_at(s: &[u8], at: usize) -> u16
     ensures { λ r. ⌜ r ≡ leAt 2 (now (s .entry)) at ⌝ }
@@ -88,6 +88,34 @@ pub fn put_u64(s: &mut [u8], at: usize, x: u64)
     }
     put_u32(s, at, (x % 4294967296) as u32);
     put_u32(s, at + 4, (x / 4294967296) as u32)
+}
+
+// ---- octets put into a buffer
+
+// Bytes into a buffer of their length.
+fn copy(to: &mut [u8], from: &[u8])
+    requires { ⌜ length (now to) ≡ length (now from) ⌝ }
+    ensures { λ _. ⌜ now (to .exit) ≡ now (from .entry) ⌝ }
+{
+    let mut i = 0;
+    while i < to.len() {
+        to[i] = from[i];
+        i += 1;
+    }
+}
+
+// From k on; nothing where they don't all find room.
+pub fn put_bytes(to: &mut [u8], k: usize, from: &[u8])
+    ensures { λ _. ⌜ now (to .exit) ≡ putWhole k (now (from .entry)) (now (to .entry)) ⌝ }
+{
+    if to.len() < k {
+        return;
+    }
+    if to.len() - k < from.len() {
+        return;
+    }
+    let e = k + from.len();
+    copy(&mut to[k..e], from)
 }
 
 // ---- where all octets lie within the slice

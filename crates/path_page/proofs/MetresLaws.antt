@@ -14,7 +14,7 @@ use borrow.Author.Tests.{leb-true, eqb-true, eqb-false, eq-eqb, ne-eqb, le-leb}
 use Rattle.disp_structs.specs.Floats.{realOf, bitsOf, inReach}
 use Rattle.disp_structs.proofs.FloatLaws.{bits-number, real-bits}
 use Rattle.image_fault.specs.ImageFault.{floatFits}
-use Rattle.image_fault.proofs.ScanLaws.{both}
+use Rattle.link_rules.proofs.TableLaws.{both}
 use Rattle.image_fault.proofs.ReachLaws.{Bounded, reach-bounded, unitsOf, fields-value, ofBits-is, with-lead, few-exponent, float-fits-is}
 use Rattle.path_page.specs.Metres.{nearestTo, metresOf, isHalf, isNegative, wholeMetres}
 use Rattle.path_page.specs.declared.metres.Ties.{Ties}

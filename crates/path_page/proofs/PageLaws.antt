@@ -22,7 +22,7 @@ use Rattle.image_fault.specs.CodeFacts.{CountsFit}
 use Rattle.link_rules.specs.Refusals.{refused, noRefusal}
 use Rattle.link_rules.specs.declared.refusal.Refusal.{Refusal}
 use Rattle.image_fault.proofs.AcceptLaws.{accepted-in, fits-counts, node-fits, clean-node, clean-link}
-use Rattle.image_fault.proofs.ScanLaws.{both}
+use Rattle.link_rules.proofs.TableLaws.{both}
 use Rattle.text.specs.Ascii.{ascii, decimal, signed, lineEnd}
 use Rattle.text.specs.Columns.{signedIn, rightIn}
 use Rattle.text.specs.Text.{Text, textOf, Put}

@@ -12,8 +12,8 @@ use libc::STDOUT_FILENO;
 use link_rules::link_idx::TrainIdx;
 use link_rules::octets;
 use link_rules::refusal::Answer;
+use sheet_text::bundle;
 use sitting;
-use yard_check::bundle;
 use yard_check::yard;
 
 // ---- room
@@ -152,17 +152,6 @@ fn print_played(yard: &[u8], occupancy: &[u16], list: &[u16], links: u32) -> boo
 
 // ---- the sitting
 
-fn copy(to: &mut [u8], from: &[u8]) {
-    let mut i: usize = 0;
-    while i < to.len() {
-        if from.len() <= i {
-            return;
-        }
-        to[i] = from[i];
-        i += 1;
-    }
-}
-
 // Room is lent for the yard, the occupancy and the list.
 fn play_parts(
     file: &[u8],
@@ -174,7 +163,7 @@ fn play_parts(
     list: &mut [u16],
 ) -> bool {
     bundle::read_occupancy(occupancy, file);
-    copy(yard, start);
+    octets::put_bytes(yard, 0, start);
     let links = octets::u32_at(file, 8);
     match sitting::replay(recording, table, yard, occupancy, list) {
         Answer::Done => print_played(yard, occupancy, list, links),

@@ -12,7 +12,7 @@ use Rattle.update_definition.specs.State as State
 use Rattle.search.specs.Effects.{effectOf}
 use Rattle.search.specs.declared.Effect.the-variants.{GiveUp}
 use Rattle.search.specs.Runs.{endOf}
-use Rattle.splice.specs.Read.{trainOf}
+use Rattle.update_definition.specs.ImageTrain.{trainOf}
 use Rattle.round.specs.Rounds.{withFree}
 
 -- the train with disp_node_idx_free = disp_node_idx_fixed

@@ -11,7 +11,7 @@ use Rattle.disp_structs.specs.Values.{sameEst}
 use Rattle.disp_structs.specs.Train.{Train}
 use Rattle.disp_structs.specs.declared.DispNode.{DispNode}
 use Rattle.disp_structs.specs.declared.DivergeNode.{DivergeNode}
-use Rattle.image.specs.Image.{estCount, divergeRoom, nodeAt}
+use Rattle.image.specs.Image.{estCount, divergeRoom, nodeAt, pathOf}
 use Rattle.image.specs.declared.codec.PathHeader.{PathHeader}
 use Rattle.free_path.specs.Base.{ok, at, walkFrom}
 use Rattle.free_path.specs.Columns.{divAt}
@@ -26,13 +26,12 @@ use Rattle.update_laws.proofs.Lists.{at-below, last-at}
 use Rattle.update_laws.proofs.NewDivs.{below}
 use Rattle.update_laws.proofs.GoodTurns.{good-bounds}
 use Rattle.update_laws.proofs.Joining.{join-few}
-use Rattle.search.specs.Read.{divsOf, pathOf, roundOf, hereOf, searchIn, Arrays}
-use Rattle.search.specs.Read as Read
+use Rattle.search.specs.Read.{divsOf, roundTrain, roundOf, hereOf, searchIn, Arrays}
 use Rattle.search.specs.declared.Round.{Round}
 use Rattle.search.specs.declared.Place.{Place}
 use Rattle.search.specs.declared.look.Here.{Here}
-use Rattle.splice.specs.Read.{trainOf, JoinFits, ChangeFits}
-use Rattle.splice.specs.Read as Splice
+use Rattle.splice.specs.Read.{JoinFits, ChangeFits}
+use Rattle.update_definition.specs.ImageTrain.{trainOf}
 use Rattle.splice.specs.Parts.{DivsFit}
 use Rattle.round.specs.Rounds.{Held, Room, Numbers, reachedAt}
 
@@ -47,8 +46,8 @@ node-low n room divs g (suc i) d h =
     (below (suc (suc i)) (length divs))
 
 -- the train as the search reads it
-pub train-is : (img dt dn : List ℕ) (h : PathHeader) (r : Round) → Numbers img h r → Read.trainOf (trainOf img dt dn h) img dt dn r ≡ trainOf img dt dn h
-unfolding Splice.trainOf
+pub train-is : (img dt dn : List ℕ) (h : PathHeader) (r : Round) → Numbers img h r → roundTrain (trainOf img dt dn h) img dt dn r ≡ trainOf img dt dn h
+unfolding trainOf
 train-is img dt dn h r n = rw (n .est, n .path, n .divs, n .room, n .fixed)
 
 module _ (occ img on dt dn : List ℕ) (h : PathHeader) (g : Held occ img on dt dn h) (r : Round) (m : Numbers img h r) where

@@ -12,7 +12,7 @@ use Rattle.link_rules.specs.declared.link_idx.TrainIdx.{TrainIdx}
 use Rattle.disp_structs.specs.Listed.{listed}
 use Rattle.disp_structs.proofs.ListedLaws.{listed-length}
 use Rattle.disp_structs.specs.Train.{Train}
-use Rattle.image.specs.Image.{nodeAt}
+use Rattle.image.specs.Image.{nodeAt, pathOf}
 use Rattle.image.specs.declared.codec.PathHeader.{PathHeader}
 use Rattle.free_path.specs.Base.{ok, no}
 use Rattle.free_path.specs.Columns.{answer, linkAt}
@@ -22,8 +22,8 @@ use Rattle.update_definition.specs.State.{atEnd}
 use Rattle.update_definition.specs.Update as Update
 use Rattle.update_definition.specs.Update.{apart, meeting, splitPoint, metBefore, roundMet, beginOf, roundOf, roundSteps}
 use Rattle.update_laws.proofs.Rounds.{sentinel-low, split-low}
-use Rattle.search.specs.Read.{divsOf, pathOf}
-use Rattle.splice.specs.Read.{trainOf}
+use Rattle.search.specs.Read.{divsOf}
+use Rattle.update_definition.specs.ImageTrain.{trainOf}
 use Rattle.round_start.proofs.SplitLaws.{split-is}
 use Rattle.round.specs.Rounds.{Held, givenOf, roundFrom, stepsBy}
 use Rattle.round.specs.declared.Given.{Given}

@@ -9,7 +9,7 @@ use Rattle.link_rules.specs.Octets.{putLe}
 use Rattle.link_rules.proofs.OctetLaws.{le-put-same}
 use Rattle.disp_structs.specs.Listed.{listed}
 use Rattle.disp_structs.proofs.ListedLaws.{listed-length}
-use Rattle.image.specs.Image.{estCount, divergeRoom, nodeAt}
+use Rattle.image.specs.Image.{estCount, divergeRoom, nodeAt, pathOf}
 use Rattle.image.specs.declared.codec.PathHeader.{PathHeader}
 use Rattle.free_path.specs.Columns.{divAt}
 use Rattle.est_times.proofs.Counting.{clash}
@@ -22,14 +22,15 @@ use Rattle.update_definition.specs.declared.Move.the-variants.{Rewind, Alternat
 use Rattle.update_laws.specs.Good.{Good}
 use Rattle.update_laws.specs.Turns as Turns
 use Rattle.update_laws.proofs.GoodTurns.{steps-good, steps-stand}
-use Rattle.search.specs.Read.{divsOf, pathOf, roundOf, hereOf, searchIn, viewsOf, Arrays, arrays, Marked}
+use Rattle.search.specs.Read.{divsOf, roundOf, hereOf, searchIn, viewsOf, Arrays, arrays, Marked}
 use Rattle.search.specs.declared.Round.{Round}
 use Rattle.search.specs.declared.Place.{Place}
 use Rattle.search.specs.declared.look.Here.{Here}
 use Rattle.search.specs.Effects.{Sized, leaves, turnOf}
 use Rattle.search.specs.declared.Effect.{Effect}
 use Rattle.search.specs.Runs.{Ready, Leaves}
-use Rattle.splice.specs.Read.{trainOf, Stands, Joins, Changes}
+use Rattle.splice.specs.Read.{Stands, Joins, Changes}
+use Rattle.update_definition.specs.ImageTrain.{trainOf}
 use Rattle.round.specs.Rounds.{Held, Room, Numbers, Searching, isJoin, reachedAt}
 use Rattle.round.proofs.FitLaws.{train-is, round-accepted, est-long, path-long}
 

@@ -18,7 +18,7 @@ use Rattle.disp_structs.specs.Values.{view}
 use Rattle.disp_structs.specs.declared.Metres.{Metres}
 use Rattle.disp_structs.specs.declared.DivergeNode.{DivergeNode}
 use Rattle.disp_structs.specs.declared.TrainIdxsView.{TrainIdxsView}
-use Rattle.image.specs.Image.{estAt, nodeAt, distDispPathSearch}
+use Rattle.image.specs.Image.{estAt, nodeAt, distDispPathSearch, pathOf}
 use Rattle.image.specs.declared.codec.PathHeader.{PathHeader}
 use Rattle.free_path.specs.Base.{Res, ok, no, _>>=_, need, at, before}
 use Rattle.free_path.specs.Columns.{answer, tr, trains, divAt}
@@ -34,11 +34,11 @@ use Rattle.update_laws.specs.FitsGood.{DivWith, TrainFits}
 use Rattle.update_laws.proofs.Answers.{ok-same, no-ok, bind-ok}
 use Rattle.update_laws.proofs.Lists.{each-one}
 use Rattle.update_laws.proofs.Rounds.{start-good, save-low}
-use Rattle.search.specs.Read.{viewAt, viewsOf, divsOf, pathOf, roundOf, searchOf}
+use Rattle.search.specs.Read.{viewAt, viewsOf, divsOf, roundOf, searchOf}
 use Rattle.search.specs.declared.Round.{Round}
 use Rattle.search.specs.declared.Place.{Place}
 use Rattle.search.specs.Runs.{SearchBegins}
-use Rattle.splice.specs.Read.{trainOf}
+use Rattle.update_definition.specs.ImageTrain.{trainOf}
 use Rattle.round_start.specs.Start.{partedAt, dividedAt}
 use Rattle.round_start.proofs.DivideLaws.{begin-is, round-is}
 use Rattle.round.specs.Rounds.{Held, Numbers, Searching, givenOf, startAt, zeros, zeroed, zeroedIn, roundFrom, stepsBy}

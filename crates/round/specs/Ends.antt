@@ -23,7 +23,8 @@ use Rattle.search.specs.declared.Effect.{Effect}
 use Rattle.search.specs.declared.Place.{Place}
 use Rattle.search.specs.declared.Round.{Round}
 use Rattle.search.specs.declared.look.Here.{Here}
-use Rattle.splice.specs.Read.{trainOf, Kept, Stands, Joins, Changes}
+use Rattle.splice.specs.Read.{Kept, Stands, Joins, Changes}
+use Rattle.update_definition.specs.ImageTrain.{trainOf}
 use Rattle.splice.specs.declared.Again.{Again}
 use Rattle.splice.specs.declared.Reached.{Reached}
 use Rattle.round.specs.Rounds.{Held, Numbers, Searching, givenOf, endedOf, endRefused, isAtEnd, zeros}

@@ -6,7 +6,7 @@ use mathlib.Core.List.{List, []}
 use lib.ListN.{length, replicate}
 use Rattle.link_rules.specs.declared.link_idx.LinkIdx.{LinkIdx}
 use Rattle.disp_structs.specs.Train.{Train}
-use Rattle.image.specs.Image.{estCount, divergeRoom, nodePlace}
+use Rattle.image.specs.Image.{estCount, divergeRoom, nodePlace, pathOf}
 use Rattle.image.specs.declared.codec.PathHeader.{PathHeader}
 use Rattle.free_path.specs.Base.{Res, ok, no, _>>=_}
 use Rattle.free_path.specs.LinkOptType.{Sentinels}
@@ -17,12 +17,13 @@ use Rattle.update_definition.specs.Accepted.{Accepted}
 use Rattle.update_definition.specs.Fits.{TrainsUpTo, Fits}
 use Rattle.update_definition.specs.declared.Move.{Move}
 use Rattle.update_definition.specs.declared.Move.the-variants.{Rewind, Alternate, ChangeDiverge, PushSaved, BlockEmpty, Advance, Join}
-use Rattle.search.specs.Read.{divsOf, pathOf, roundOf, searchIn, Arrays, arrays, Marked}
+use Rattle.search.specs.Read.{divsOf, roundOf, searchIn, Arrays, arrays, Marked}
 use Rattle.search.specs.declared.Round.{Round}
 use Rattle.search.specs.declared.Place.{Place}
 use Rattle.search.specs.declared.look.Here.{Here}
 use Rattle.search.specs.Runs.{SearchBegins}
-use Rattle.splice.specs.Read.{trainOf, Kept}
+use Rattle.splice.specs.Read.{Kept}
+use Rattle.update_definition.specs.ImageTrain.{trainOf}
 use Rattle.splice.specs.declared.Reached.{Reached}
 use Rattle.round.specs.declared.Given.{Given}
 use Rattle.round.specs.declared.End.{End}
@@ -91,7 +92,7 @@ abbrev pub stepsBy : Update.Given → Train → ℕ → ℕ → Sentinels → �
 stepsBy g t split divSplit z = Update.stepsIn g t (Update.beginAt t split divSplit z)
 
 -- where a search begins
-abbrev pub startAt : PathHeader → ℕ → ℕ → ℕ → Place
+abbrev pub startAt : (h : PathHeader) (split divSplit save : ℕ) → Place
 startAt h split divSplit save =
     record {
       «idx_split» = split;
@@ -154,7 +155,7 @@ reachedAt r p h k =
     }
 
 -- the search from s ends the round with x
-abbrev pub SearchEnded : List ℕ → List ℕ → List ℕ → List ℕ → PathHeader → Round → State.Search → RoundEnd → List ℕ → List ℕ → List ℕ → Type 0
+abbrev pub SearchEnded : (occ img dt dn : List ℕ) (h : PathHeader) (r : Round) (s : State.Search) (x : RoundEnd) (img₁ dt₁ dn₁ : List ℕ) → Type 0
 SearchEnded occ img dt dn h r s x img₁ dt₁ dn₁ =
     (endedOf x (trainOf img₁ dt₁ dn₁ (x .header)) ≡ Update.searchFrom (Update.turnLimit (roundOf (trainOf img dt dn h) occ img dt dn r .train)) (roundOf (trainOf img dt dn h) occ img dt dn r) s)
     × (endRefused (x .end) ≡ false → Kept img₁ img)
@@ -165,7 +166,7 @@ SearchEnded occ img dt dn h r s x img₁ dt₁ dn₁ =
 abbrev pub zerosIn : ℕ → Arrays
 zerosIn e = arrays (replicate 2048 0) (replicate e 0) (replicate e 0)
 
-abbrev pub zeroedIn : ℕ → ℕ → ℕ → Place → State.Search
+abbrev pub zeroedIn : (e q n : ℕ) (p : Place) → State.Search
 zeroedIn e q n p = searchIn n p [] (divsOf (p .«div_count») (replicate q 0) (replicate q 0)) (zerosIn e)
 
 -- the same in the largest arrays

@@ -10,11 +10,10 @@ ghost use mathlib.Core.Bool.{_&&_};
 ghost use Prim.Native.Nat.{_≤_};
 ghost use Rattle.link_rules.specs.LinkIdx.{sameLink};
 ghost use Rattle.disp_structs.specs.Values.{isArrive};
-ghost use Rattle.image.specs.Image.{nodeAt};
+ghost use Rattle.image.specs.Image.{nodeAt, pathOf};
 ghost use Rattle.free_path.specs.Columns.{answer};
 ghost use Rattle.free_path.specs.LinkOptType.{linksOnPath, contains};
 ghost use Rattle.update_definition.specs.Update.{apart, savePoint};
-ghost use Rattle.search.specs.Read.{pathOf};
 
 // ---- links_on_path
 
@@ -45,7 +44,7 @@ fn on_path(img: &[u8], n: u32, l: LinkIdx) -> bool
 }
 
 // The train cannot intersect with the moved train.
-pub fn is_apart(class: LinkOptType, img: &[u8], n: u32) -> bool
+pub(crate) fn is_apart(class: LinkOptType, img: &[u8], n: u32) -> bool
     ensures { λ r. ⌜ r ≡ apart class (contains (linksOnPath (pathOf (now (img .entry)) n))) ⌝ }
 {
     match class {

@@ -9,7 +9,7 @@ ghost use Rattle.free_path.specs.Columns.{linkAt};
 ghost use Rattle.link_rules.specs.LinkIdx.{noTrain};
 ghost use Rattle.update_definition.specs.Update as Update;
 ghost use Rattle.update_definition.specs.Update.{searchBegin};
-ghost use Rattle.search.specs.Read.{pathOf};
+ghost use Rattle.image.specs.Image.{pathOf};
 ghost use Rattle.round_start.specs.Start.{splitAt, Splits};
 
 // A refusal's number, or 0; idx_split, and the train met there.

@@ -14,12 +14,12 @@ use Rattle.disp_structs.specs.declared.EstTime.{EstTime}
 use Rattle.free_path.specs.Base.{Res, ok, no, _>>=_, _>>_, need, at, before}
 use Rattle.free_path.specs.Columns.{answer, divAt}
 use Rattle.free_path.proofs.ColumnLaws.{listed-read, listed-out}
-use Rattle.image.specs.Image.{estPlace, estAt, wholeEst}
+use Rattle.image.specs.Image.{estPlace, estAt, wholeEst, estsOf}
 use Rattle.image.proofs.RecordLaws.{whole-est}
 use Rattle.update_definition.specs.State.{blocked}
 use Rattle.update_definition.specs.Look as Def
 use Rattle.update_definition.specs.Look.{lookFrom}
-use Rattle.search.specs.Read.{estsOf, viewsOf, divsOf, hereOf, rising}
+use Rattle.search.specs.Read.{viewsOf, divsOf, hereOf, rising}
 use Rattle.search.specs.declared.Round.{Round}
 use Rattle.search.specs.declared.Place.{Place}
 use Rattle.search.specs.declared.look.Here.{Here}

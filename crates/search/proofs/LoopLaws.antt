@@ -1,5 +1,5 @@
 -- The turns of the loop: how it begins, goes on and stops, and the bounds by which it indexes. Assumes nothing.
-use Prim.Native.Nat.{ℕ, zero, suc, _+_, _-_, _^_, _≤_, _<_}
+use Prim.Native.Nat.{ℕ, zero, suc, _+_, _-_, _≤_, _<_}
 use mathlib.Core.Path.{_≡_, refl, sym, ap, ap₂, subst, _∙_}
 use mathlib.Core.Bool.{Bool, true, false, cond}
 use mathlib.Core.List.{List, [], _∷_, _++_}
@@ -18,7 +18,7 @@ use Rattle.disp_structs.specs.Train.{Train}
 use Rattle.disp_structs.specs.Floats.{inReach}
 use Rattle.disp_structs.specs.declared.DispNode.{DispNode}
 use Rattle.disp_structs.specs.declared.EstType.the-variants.{Arrive}
-use Rattle.image.specs.Image.{estCount, nodePlace, estAt, nodeAt, wholeNode, putNode}
+use Rattle.image.specs.Image.{estCount, nodePlace, estAt, nodeAt, wholeNode, putNode, pathOf}
 use Rattle.free_path.specs.Base.{Res, ok, no, at}
 use Rattle.free_path.proofs.CountLaws.{top}
 use Rattle.free_path.proofs.WalkLaws.{at-in}
@@ -36,7 +36,7 @@ use Rattle.update_laws.specs.Good.{Good}
 use Rattle.update_laws.proofs.GoodTurns.{step-good, good-bounds}
 use Rattle.update_laws.specs.FitsGood.{TrainFits}
 use Rattle.update_laws.proofs.Fitting.{step-fits}
-use Rattle.search.specs.Read.{divsOf, pathOf, roundOf, searchIn, Arrays, Small}
+use Rattle.search.specs.Read.{divsOf, roundOf, searchIn, Arrays, Small}
 use Rattle.search.specs.declared.Round.{Round}
 use Rattle.search.specs.declared.Place.{Place}
 use Rattle.search.specs.Effects.{leaves, turnOf}

@@ -20,7 +20,8 @@ use Rattle.update_definition.specs.Join as Joined
 use Rattle.update_definition.specs.Update.{doMove, searchStep}
 use Rattle.update_definition.specs.declared.Move.{Move}
 use Rattle.update_definition.specs.declared.Move.the-variants.{Rewind, Alternate, ChangeDiverge, PushSaved, BlockEmpty, Advance, Join}
-use Rattle.search.specs.Read.{divsOf, viewsOf, pathOf, roundOf, searchOf, searchIn, hereOf, Small, Arrays, Lent, Marked}
+use Rattle.search.specs.Read.{divsOf, viewsOf, roundOf, searchOf, searchIn, hereOf, Small, Arrays, Lent, Marked}
+use Rattle.image.specs.Image.{pathOf}
 use Rattle.search.specs.declared.Round.{Round}
 use Rattle.search.specs.declared.Place.{Place}
 use Rattle.search.specs.declared.Index.{Index}

@@ -9,14 +9,13 @@ use Rattle.link_rules.specs.declared.link_idx.TrainIdx.{TrainIdx}
 use Rattle.disp_structs.specs.Values.{view}
 use Rattle.disp_structs.specs.Train.{Train}
 use Rattle.disp_structs.specs.declared.EstIdx.{EstIdx}
-use Rattle.disp_structs.specs.declared.EstTime.{EstTime}
 use Rattle.disp_structs.specs.declared.DispNode.{DispNode}
 use Rattle.disp_structs.specs.declared.DivergeNode.{DivergeNode}
 use Rattle.disp_structs.specs.declared.TrainIdxsView.{TrainIdxsView}
 use Rattle.free_path.specs.Base.{Res, ok, _>>=_, _>>_, need, at, before}
 use Rattle.free_path.specs.Columns.{answer, divAt, tr, trains}
 use Rattle.disp_structs.specs.Listed.{listed}
-use Rattle.image.specs.Image.{estAt, nodeAt}
+use Rattle.image.specs.Image.{estsOf, pathOf}
 use Rattle.update_definition.specs.State as State
 use Rattle.free_path.specs.Validate.{onPath}
 use Rattle.update_definition.specs.Look as Look
@@ -29,27 +28,19 @@ use Rattle.search.specs.declared.look.Chosen.{Chosen}
 
 -- ---- lists
 
--- est_times, of which the image has n
-abbrev pub estsOf : List ℕ → ℕ → List EstTime
-estsOf img n = listed n (estAt img)
-
--- disp_path
-abbrev pub pathOf : List ℕ → ℕ → List DispNode
-pathOf img n = listed n (nodeAt img)
-
 -- diverge nodes in two columns
-abbrev pub divsOf : ℕ → List ℕ → List ℕ → List DivergeNode
+abbrev pub divsOf : (n : ℕ) (ts ns : List ℕ) → List DivergeNode
 divsOf n ts ns = listed n (divAt ts ns)
 
 -- views in two columns
-abbrev pub viewAt : List ℕ → List ℕ → ℕ → TrainIdxsView
+abbrev pub viewAt : (begins ends : List ℕ) (i : ℕ) → TrainIdxsView
 viewAt begins ends i = view (getD begins i 0) (getD ends i 0)
 
-abbrev pub viewsOf : ℕ → List ℕ → List ℕ → List TrainIdxsView
+abbrev pub viewsOf : (n : ℕ) (begins ends : List ℕ) → List TrainIdxsView
 viewsOf n begins ends = listed n (viewAt begins ends)
 
 -- k trains of a column, from a on
-abbrev pub trainsFrom : List ℕ → ℕ → ℕ → List TrainIdx
+abbrev pub trainsFrom : (col : List ℕ) (a k : ℕ) → List TrainIdx
 trainsFrom col a k = listed k (λ j. tr (getD col (a + j) 0))
 
 -- ---- is_on_path as flags
@@ -64,8 +55,8 @@ Marked on path = (e : EstIdx) → onFlag on e ≡ onPath path e
 -- ---- the round, the place of the search, and where it stands
 
 -- what of the train no search reads is t's
-abbrev pub trainOf : Train → List ℕ → List ℕ → List ℕ → Round → Train
-trainOf t img dt dn r =
+abbrev pub roundTrain : (t : Train) (img dt dn : List ℕ) (r : Round) → Train
+roundTrain t img dt dn r =
     record {
       «est_times» = estsOf img (r .«est_count»);
       «disp_path» = pathOf img (r .«path_count»);
@@ -80,10 +71,10 @@ trainOf t img dt dn r =
       divergeRoom = r .«diverge_room»;
     }
 
-abbrev pub roundOf : Train → List ℕ → List ℕ → List ℕ → List ℕ → Round → State.Round
+abbrev pub roundOf : (t : Train) (occ img dt dn : List ℕ) (r : Round) → State.Round
 roundOf t occ img dt dn r =
     record {
-      train = trainOf t img dt dn r;
+      train = roundTrain t img dt dn r;
       «links_blocked» = occ;
       «train_idx_moved» = r .«train_idx_moved»;
       «offset_cancel» = r .«offset_cancel»;
@@ -127,7 +118,7 @@ pub record Arrays : Type 0 where
   pub begins : List ℕ
   pub ends : List ℕ
 
-abbrev pub arrays : List ℕ → List ℕ → List ℕ → Arrays
+abbrev pub arrays : (pool begins ends : List ℕ) → Arrays
 arrays pool begins ends = record { pool = pool; begins = begins; ends = ends }
 
 -- they have room for 2,048 trains and the views of n est records
@@ -167,7 +158,7 @@ abbrev pub rising : List DivergeNode → ℕ → Res (Unit {0})
 rising divs i = before divs i >>= λ a. at divs i >>= λ b. need (ltb (a .«disp_node_idx») (b .«disp_node_idx»))
 
 -- h is where the search stands, whatever the columns have that it does not read
-abbrev pub Looks : Here → List ℕ → Round → Place → DispNode → List ℕ → List ℕ → Type 0
+abbrev pub Looks : (h : Here) (img : List ℕ) (r : Round) (p : Place) (curr : DispNode) (ends dn : List ℕ) → Type 0
 Looks h img r p curr ends dn =
     ((b t : List ℕ) → answer (h .code) (hereOf h) ≡ Look.lookFrom (ok curr) (p .«idx_split» + p .«new_count») (estsOf img (r .«est_count»)) (viewsOf (r .«est_count») b ends) (divsOf (r .«diverge_count») t dn) (p .«div_idx_split»))
     × (h .«idx_join_new» ≤ p .«idx_split» + p .«new_count»)

@@ -7,7 +7,7 @@ use mathlib.Core.List.{List, [], _∷_, _++_}
 use lib.ListN.{length, take}
 use Rattle.disp_structs.specs.Train.{Train}
 use Rattle.disp_structs.specs.Listed.{listed}
-use Rattle.image.specs.Image.{estCount, estPlace, nodeAt, nodePlace}
+use Rattle.image.specs.Image.{estCount, estPlace, nodeAt, nodePlace, pathOf}
 use Rattle.free_path.specs.Base.{Res, ok, _>>=_}
 use Rattle.update_definition.specs.State as State
 use Rattle.update_definition.specs.Look as Look
@@ -16,7 +16,7 @@ use Rattle.update_definition.specs.Accepted.{Accepted}
 use Rattle.update_definition.specs.declared.Move.{Move}
 use Rattle.update_laws.specs.Good.{Good}
 use Rattle.update_laws.specs.FitsGood.{RoundFits, SearchFits}
-use Rattle.search.specs.Read.{pathOf, roundOf, hereOf, Arrays, Lent, Marked}
+use Rattle.search.specs.Read.{roundOf, hereOf, Arrays, Lent, Marked}
 use Rattle.search.specs.declared.Round.{Round}
 use Rattle.search.specs.declared.Place.{Place}
 use Rattle.search.specs.Effects.{Sized, effectOf, leaves, onward, turnOf, Looked, searchAt}

@@ -7,7 +7,7 @@ ghost use Prim.Native.Nat.{_≤_};
 ghost use Rattle.free_path.specs.Base.{walkFrom};
 ghost use Rattle.free_path.specs.Columns.{answer};
 ghost use Rattle.update_definition.specs.Moves.{notFake};
-ghost use Rattle.search.specs.Read.{pathOf};
+ghost use Rattle.image.specs.Image.{pathOf};
 
 // The first node at or after `from` that is no Fake.
 pub fn walk_fakes(img: &[u8], n: u32, from: usize) -> Index

@@ -25,7 +25,8 @@ ghost use Rattle.disp_structs.specs.Train.{Train};
 ghost use Rattle.free_path.specs.Base.{walkBack};
 ghost use Rattle.free_path.specs.Columns.{answer, trains};
 ghost use Rattle.update_definition.specs.Moves.{notFake, shiftSave, holderOf, rewindDivs, oneBack};
-ghost use Rattle.search.specs.Read.{divsOf, viewsOf, pathOf, roundOf, arrays, Small, Lent};
+ghost use Rattle.search.specs.Read.{divsOf, viewsOf, roundOf, arrays, Small, Lent};
+ghost use Rattle.image.specs.Image.{pathOf};
 ghost use Rattle.search.specs.Effects.{Sized, SavesAt, RewindsView, GivesUp, Keeping, CountedMoveIs, Rewinds};
 
 // ---- the save node

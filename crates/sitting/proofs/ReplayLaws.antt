@@ -14,16 +14,16 @@ use Rattle.link_rules.specs.declared.link_idx.LinkIdx.{LinkIdx}
 use Rattle.link_rules.specs.declared.link_idx.TrainIdx.{TrainIdx}
 use Rattle.link_rules.specs.declared.refusal.Answer.the-variants as Marks
 use Rattle.link_rules.specs.declared.refusal.Refusal.{Refusal}
-use Rattle.link_rules.proofs.MarkLaws.{length-marked, numberBy, by-tests}
+use Rattle.link_rules.proofs.MarkLaws.{numberBy, by-tests}
 use Rattle.disp_structs.specs.Listed.{listed}
 use Rattle.disp_structs.proofs.ListedLaws.{listed-length}
-use Rattle.image_fault.proofs.ScanLaws.{both}
+use Rattle.link_rules.proofs.TableLaws.{both}
 use Rattle.update_definition.specs.UpdateImage.{linksBelow, callFault}
 use Rattle.image_fault.specs.declared.Widths.{Widths}
 use Rattle.image_fault.specs.declared.Widths.the-variants.{Narrow}
 use Rattle.yard_check.specs.Yard.{slotCount, yardFits}
 use Rattle.yard_check.specs.Check.{CheckArgs, rowSize, slotsFault, reportFault, checkFault, howMany, answerBy, answerOf, slotRow, isErredRow, checkDone, checkedBy, checkedWith}
-use Rattle.yard_check.specs.Sheet.{reportSlots}
+use Rattle.sheet_text.specs.Sheet.{reportSlots}
 use Rattle.yard_check.specs.Calls.{World, Call, mark, check, markIn, run, runAll}
 use Rattle.yard_check.proofs.MarkedTrains.{mark-long}
 use Rattle.yard_check.proofs.CheckLaws.{taken, yard-length, fits-kept, slots-kept}

@@ -12,7 +12,7 @@ use Rattle.link_rules.specs.declared.refusal.Answer.the-variants as Marks
 use Rattle.disp_structs.specs.Listed.{listed}
 use Rattle.image_fault.specs.declared.Widths.the-variants.{Narrow}
 use Rattle.yard_check.specs.Check.{CheckArgs, rowSize, Answer, Refused, Erred, Done}
-use Rattle.yard_check.specs.Sheet.{reportSlots}
+use Rattle.sheet_text.specs.Sheet.{reportSlots}
 use Rattle.yard_check.specs.Calls.{World, Call, mark, check, Answered, marked, checked, Outcome, runAll}
 use Rattle.sitting.specs.declared.Step.{Step}
 
@@ -41,7 +41,7 @@ stepAt r i =
     }
 
 -- n links from index j on
-abbrev pub linksFrom : List ℕ → ℕ → ℕ → List ℕ
+abbrev pub linksFrom : (r : List ℕ) (j n : ℕ) → List ℕ
 linksFrom r j n = listed n (λ i. leAt 4 r (12 + 20 * stepCount r + 4 * j + 4 * i))
 
 -- ---- 19: a malformed recording, or a list not n long
@@ -78,7 +78,7 @@ abbrev pub callOf : List ℕ → ℕ → Step → Call
 callOf r rows s = cond (eqb (s .kind) 0) (mark Narrow (record { 0 = s .first }) (record { 0 = s .train })) (check (checkArgs r s (s .count)) (replicate rows 0))
 
 -- of the steps 0 to n - 1
-abbrev pub firstCalls : List ℕ → ℕ → ℕ → List Call
+abbrev pub firstCalls : (r : List ℕ) (rows n : ℕ) → List Call
 firstCalls r rows n = listed n (λ i. callOf r rows (stepAt r i))
 
 abbrev pub callsOf : List ℕ → ℕ → List Call
@@ -122,7 +122,7 @@ pub record Replayed : Type 0 where
 abbrev pub played : World → List Outcome → Replayed
 played w os = record { answer = Marks.Done; yard = lastWorld w os .yard; occupancy = lastWorld w os .occupancy; list = map stepNumber os }
 
-abbrev pub worldOf : List ℕ → List ℕ → List ℕ → World
+abbrev pub worldOf : (table occ yard : List ℕ) → World
 worldOf table occ yard = record { table = table; occupancy = occ; yard = yard }
 
 -- what each recorded call answers and leaves
@@ -130,7 +130,7 @@ abbrev pub outcomesOf : List ℕ → World → List Outcome
 outcomesOf r w = runAll w (callsOf r (reportLength (w .yard)))
 
 -- the recording, the table, the yard, the occupancy, the list; 19 leaves all as it was
-unfoldable pub replayOf : List ℕ → List ℕ → List ℕ → List ℕ → List ℕ → Replayed
+unfoldable pub replayOf : (r table yard occ list : List ℕ) → Replayed
 replayOf r table yard occ list =
     let done = played (worldOf table occ yard) (outcomesOf r (worldOf table occ yard)) in
     elim (replayFits r (length list)) [ true ↦ done | false ↦ record { answer = Marks.Refused (refused 19 0); yard = yard; occupancy = occ; list = list } ]

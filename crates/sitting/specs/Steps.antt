@@ -31,7 +31,7 @@ pub record StepMade (r : List ℕ) (rows : ℕ) (s : Step) (table occ yard : Lis
   pub world : worldOf table occ′ yard′ ≡ run (worldOf table occ yard) (callOf r rows s) .world
 
 -- the outcomes of the first n steps
-abbrev pub firstOutcomes : List ℕ → ℕ → World → ℕ → List Outcome
+abbrev pub firstOutcomes : (r : List ℕ) (rows : ℕ) (w : World) (n : ℕ) → List Outcome
 firstOutcomes r rows w n = runAll w (firstCalls r rows n)
 
 -- as many steps as the list has entries
@@ -40,5 +40,5 @@ pub record AllMade (r : List ℕ) (rows : ℕ) (table occ yard list occ′ yard�
   pub numbers : list′ ≡ map stepNumber (firstOutcomes r rows (worldOf table occ yard) (length list))
 
 -- what the code gives
-abbrev pub replayedOf : Mark.Answer → List ℕ → List ℕ → List ℕ → Replayed
+abbrev pub replayedOf : (x : Mark.Answer) (yard occ list : List ℕ) → Replayed
 replayedOf x yard occ list = record { answer = x; yard = yard; occupancy = occ; list = list }

@@ -7,7 +7,7 @@ use link_rules::network;
 use link_rules::octets;
 use link_rules::refusal::Answer;
 use link_rules::refusal::Refusal;
-use yard_check::bundle;
+use sheet_text::bundle;
 use yard_check::check;
 ghost use mathlib.Core.Path.{_≡_};
 ghost use Prim.Native.Nat.{_≤_, _<_, min};

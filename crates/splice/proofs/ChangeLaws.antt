@@ -25,7 +25,8 @@ use Rattle.free_path.proofs.CountLaws.{bind-stop, bind-go, part-take, length-pa
 use Rattle.update_definition.specs.State.{Round, Search, Turn, ends, again, withDivNodes, withFree, viewOf, diverging}
 use Rattle.update_definition.specs.Look.{Here}
 use Rattle.update_definition.specs.Moves.{trainsOf, changeDiverge}
-use Rattle.splice.specs.Read.{trainOf, Stands, Changes, atSplit, baseEnd, changeAt}
+use Rattle.splice.specs.Read.{Stands, Changes, atSplit, baseEnd, changeAt}
+use Rattle.update_definition.specs.ImageTrain.{trainOf}
 use Rattle.splice.specs.Parts.{filled}
 use Rattle.splice.specs.declared.Reached.{Reached}
 use Rattle.splice.proofs.ListLaws.{need-and, at-need, paste-in, walk-found}

@@ -23,7 +23,8 @@ use Rattle.free_path.proofs.CountLaws.{bind-stop, bind-go, answer-no}
 use Rattle.update_definition.specs.State.{Round, Search, Turn, ends, again, withPath, withDivNodes, withFrontBack, withFixed, withFree}
 use Rattle.update_definition.specs.Look.{Here}
 use Rattle.update_definition.specs.Join.{Ends, Divs, removeLinks, insertLinks, shiftOffsets, newEnds, moveFrontBack, updateFreePathHelpers, updateDivNodes, freeIsCorrect, spliceAt, join}
-use Rattle.splice.specs.Read.{trainOf, Kept, Stands, Joins, finishAt}
+use Rattle.splice.specs.Read.{Kept, Stands, Joins, finishAt}
+use Rattle.update_definition.specs.ImageTrain.{trainOf}
 use Rattle.splice.specs.Parts.{fromOn, movesOf}
 use Rattle.splice.specs.Flags.{exchangeLinks}
 use Rattle.splice.specs.declared.Reached.{Reached}

@@ -22,7 +22,8 @@ use Rattle.update_definition.specs.State.{Round, Search, Turn, ends, again, wit
 use Rattle.update_definition.specs.Look.{Here}
 use Rattle.update_definition.specs.Moves.{changeDiverge}
 use Rattle.update_definition.specs.Join.{moveFrontBack, updateFreePathHelpers, updateDivNodes}
-use Rattle.splice.specs.Read.{trainOf, Kept, Stands, Joins, Changes, finishAt}
+use Rattle.splice.specs.Read.{Kept, Stands, Joins, Changes, finishAt}
+use Rattle.update_definition.specs.ImageTrain.{trainOf}
 use Rattle.splice.specs.Parts.{tailMoves, movesOf}
 use Rattle.splice.specs.Flags.{bit, Holds, Gives, Below, exchanged}
 use Rattle.splice.specs.declared.Again.{Again}

@@ -27,17 +27,17 @@ pub record Splices {A : Type 0} (g f h : ℕ → A) (at c k m : ℕ) : Type 0 wh
   pub rest : (i : ℕ) → i < m - k → g (at + c + i) ≡ f (k + i)
 
 -- k entries from a on are x
-unfoldable pub filled : ℕ → ℕ → ℕ → List ℕ → List ℕ
+unfoldable pub filled : (k x a : ℕ) (xs : List ℕ) → List ℕ
 filled zero x a xs = xs
 filled (suc k) x a xs = set (filled k x a xs) (a + k) x
 
 -- the record that moves after m of k: the last of those left where they go up, else the first
-abbrev pub nextMoved : Bool → ℕ → ℕ → ℕ
+abbrev pub nextMoved : (grown : Bool) (k m : ℕ) → ℕ
 nextMoved true k m = k - 1 - m
 nextMoved false k m = m
 
 -- how many of k nodes move that stand at i and are to stand at j: each once, or none where they stand there (Q-4)
-abbrev pub tailMoves : ℕ → ℕ → ℕ → ℕ
+abbrev pub tailMoves : (i j k : ℕ) → ℕ
 tailMoves i j k = cond (eqb i j) 0 k
 
 -- a part of a spliced path at its place: the tail, the old path from base on (Q-4's term), behind the new nodes; the new nodes behind the split

@@ -11,35 +11,19 @@ use Rattle.disp_structs.specs.Values.{sameEst}
 use Rattle.disp_structs.specs.declared.EstIdx.{EstIdx}
 use Rattle.disp_structs.specs.declared.EstTime.{EstTime}
 use Rattle.disp_structs.specs.declared.DispNode.{DispNode}
-use Rattle.image.specs.Image.{estCount, divergeRoom, trainIdx, distDispPathSearch, distFixedMax, estAt, nodeAt, nodePlace}
+use Rattle.image.specs.Image.{estCount, divergeRoom, nodeAt, nodePlace}
 use Rattle.image.specs.declared.codec.PathHeader.{PathHeader}
 use Rattle.disp_structs.specs.declared.TrainIdxsView.{TrainIdxsView}
-use Rattle.free_path.specs.Base.{Res, ok, _>>=_, _>>_, need, room, walkFrom}
+use Rattle.free_path.specs.Base.{Res, ok, _>>_, need, room, walkFrom, _>>=_}
 use Rattle.free_path.specs.Columns.{divAt, trains}
 use Rattle.disp_structs.specs.Listed.{listed}
 use Rattle.update_definition.specs.State.{Round, Search, Turn, ends, again, viewOf, diverging, withPath, withDivNodes, withFixed, withFree}
+use Rattle.update_definition.specs.ImageTrain.{trainOf}
 use Rattle.update_definition.specs.Look.{Here}
 use Rattle.update_definition.specs.Join.{freeIsCorrect}
 use Rattle.splice.specs.Parts.{DivsFit}
 use Rattle.splice.specs.Flags.{Below}
 use Rattle.splice.specs.declared.Reached.{Reached}
-
--- the train of an image, of columns dt and dn of diverge nodes, and of a header's numbers
-unfoldable pub trainOf : List ℕ → List ℕ → List ℕ → PathHeader → Train
-trainOf img dt dn h =
-    record {
-      «est_times» = listed (estCount img) (estAt img);
-      «disp_path» = listed (h .«path_count») (nodeAt img);
-      «div_nodes» = listed (h .«diverge_count») (divAt dt dn);
-      «disp_node_idx_fixed» = h .fixed;
-      «disp_node_idx_free» = h .free;
-      «disp_node_idx_front» = h .front;
-      «disp_node_idx_back» = h .back;
-      «dist_disp_path_search» = distDispPathSearch img;
-      «dist_fixed_max» = distFixedMax img;
-      «train_idx» = trainIdx img;
-      divergeRoom = divergeRoom img;
-    }
 
 -- two images have the same length, and the same bytes before their path records: header and est records
 pub record Kept (img was : List ℕ) : Type 0 where
@@ -96,7 +80,7 @@ finishAt t new p base d = do
 -- ---- a change of diverge nodes
 
 -- the asserts (503-507): nothing new, and the old path and a diverge node at the split node
-unfoldable pub atSplit : List ℕ → ℕ → Reached → EstIdx → List ℕ → ℕ → Bool
+unfoldable pub atSplit : (img : List ℕ) (n : ℕ) (p : Reached) (alt : EstIdx) (dn : List ℕ) (m : ℕ) → Bool
 atSplit img n p alt dn m =
     eqb (p .«new_count») 0
     && (eqb (p .«div_count») 1
@@ -104,7 +88,7 @@ atSplit img n p alt dn m =
     && (ltb (p .split) n && (sameEst alt (nodeAt img (p .split) .«est_idx») && (ltb (p .«div_split») m && eqb (p .split) (getD dn (p .«div_split») 0))))))
 
 -- where the old diverge nodes of the split node end (508-514)
-unfoldable pub baseEnd : List ℕ → ℕ → Reached → EstIdx → List ℕ → List ℕ → ℕ → Res ℕ
+unfoldable pub baseEnd : (img : List ℕ) (n : ℕ) (p : Reached) (alt : EstIdx) (dt dn : List ℕ) (m : ℕ) → Res ℕ
 baseEnd img n p alt dt dn m = need (atSplit img n p alt dn m) >> walkFrom (λ d. not (eqb (d .«disp_node_idx») (p .split))) (listed m (divAt dt dn)) (p .«div_split» + 1)
 
 -- the trains that are taken, in place of the diverge nodes up to k (518-532)

@@ -29,7 +29,7 @@ pub struct Index {
 }
 
 // From i on the first of n nodes that has the est.
-pub fn join_base(img: &[u8], n: u32, i: u32, next: EstIdx) -> Index
+pub(crate) fn join_base(img: &[u8], n: u32, i: u32, next: EstIdx) -> Index
     ensures { λ r. ⌜ answer (r .code) (r .at) ≡ walkFrom (λ x. sameEst next (x .«est_idx»)) (listed n (nodeAt (now (img .entry)))) i ⌝ }
 {
     let mut k = i;
@@ -115,7 +115,7 @@ fn is_never(t: Seconds) -> bool
 }
 
 // disp_node_idx_free is correct: 0 or 13.
-pub fn free_is_correct(img: &[u8], n: u32, free: u32) -> u32
+pub(crate) fn free_is_correct(img: &[u8], n: u32, free: u32) -> u32
     ensures { λ r. ⌜ (answer r tt ≡ freeIsCorrect (listed n (nodeAt (now (img .entry)))) free) × (r ≡ 0 → free < n) ⌝ }
 {
     if n <= free {

@@ -7,7 +7,7 @@ use native.Mathlib.Omega.{arith}
 use lib.Ieee.{Float}
 use Rattle.link_rules.specs.Octets.{leAt}
 use Rattle.link_rules.specs.Network.{allBelow}
-use Rattle.link_rules.proofs.TableLaws.{all-at}
+use Rattle.link_rules.proofs.TableLaws.{all-at, both}
 use Rattle.disp_structs.specs.Floats.{realOf}
 use Rattle.disp_structs.specs.declared.Metres.{Metres}
 use Rattle.image.specs.Image.{estCount, pathCount, distDispPathSearch, distFixedMax, estFrom, nodeFrom, nodePlace}
@@ -16,7 +16,6 @@ use Rattle.image_fault.specs.declared.Widths.the-variants.{Either}
 use Rattle.link_rules.specs.Refusals.{noRefusal, refused}
 use Rattle.link_rules.specs.declared.refusal.Refusal.{Refusal}
 use Rattle.image_fault.proofs.AcceptLaws as Clean
-use Rattle.image_fault.proofs.ScanLaws.{both}
 use Rattle.track_profile.specs.Profile.{InProfile, inProfile, distAt, offsetAt, imageInProfile, profileFault}
 use Rattle.track_profile.specs.ExactSteps.{NearOnlyIfEqual}
 use Rattle.track_profile.proofs.NearLaws.{near-equal, worth-eq}

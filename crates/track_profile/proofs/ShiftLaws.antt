@@ -15,7 +15,7 @@ use lib.Ieee.Exact.{HasValue}
 use lib.Ieee.Order.{le-of-values, round-mono}
 use lib.Ieee.Positive.{positive, between, values-of-le}
 use Rattle.disp_structs.specs.Floats.{nought}
-use Rattle.image_fault.proofs.ScanLaws.{both}
+use Rattle.link_rules.proofs.TableLaws.{and-left, both}
 use Rattle.track_profile.specs.Profile.{longest, Worth, InProfile, inProfile}
 use Rattle.track_profile.proofs.GridLaws.{sumSign, sumSize, add-exact, sub-exact}
 use Rattle.track_profile.proofs.NearLaws.{worth-eq, zero-side, nought-is, or-cases}
@@ -151,17 +151,13 @@ unfolding eq
 eq-value nan r c m e v h = absurd v
 eq-value (inf t) r c m e v h = absurd v
 eq-value (fin t n d) r c m e v h =
-    let q : n * up d * down e ≡ m * up e * down d = eqb-true (n * up d * down e) (m * up e * down d) (first (eqb (n * up d * down e) (m * up e * down d)) (Bool·beq t false || eqb (n * up d * down e) 0) h) in
+    let q : n * up d * down e ≡ m * up e * down d = eqb-true (n * up d * down e) (m * up e * down d) (and-left (eqb (n * up d * down e) (m * up e * down d)) (Bool·beq t false || eqb (n * up d * down e) 0) h) in
     eq-of-mul-eq-mul-right (down d) (down-pos d) (m * up e * 1024) (c * down e)
     (mul-right-comm (m * up e) 1024 (down d)
     ∙ ap (λ (z : ℕ). z * 1024) (sym q)
     ∙ mul-right-comm (n * up d) (down e) 1024
     ∙ ap (λ (z : ℕ). z * down e) (v .1)
     ∙ mul-right-comm c (down d) (down e))
-  where
-    first : (a b : Bool) → (a && b) ≡ true → a ≡ true
-    first true b k = refl
-    first false b k = k
 
 -- the difference of what is at least 2 ^ 42 and 2 ^ 42
 over-size : (n : ℕ) → base * 1024 ≤ n → sumSize false n true (base * 1024) ≡ n - base * 1024

@@ -24,7 +24,7 @@ use Rattle.train_disp.specs.CodeFacts.{Sized}
 use Rattle.link_rules.specs.Refusals.{orElse, refusedUnless}
 use Rattle.link_rules.specs.declared.refusal.Refusal.{Refusal}
 use Rattle.link_rules.specs.declared.refusal.Answer.the-variants.{Done, Refused}
-use Rattle.image_fault.proofs.ScanLaws.{both}
+use Rattle.link_rules.proofs.TableLaws.{both}
 use Rattle.image_fault.proofs.AcceptLaws.{or-else-clean, refused-clean}
 use Rattle.train_disp.specs.declared.Settings.{Settings}
 

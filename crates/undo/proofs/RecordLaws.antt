@@ -6,12 +6,11 @@ use Prim.Native.Nat.{ℕ, _+_, _-_, _≤_, _<_}
 use native.Mathlib.Omega.{arith}
 use lib.ListN.{length, getD, take, drop, length-drop, take-append-drop}
 use lib.Seq.{length-take-le, take-append-seam, drop-at, drop-drop, getD-take, getD-drop, ext-getD}
-use Rattle.link_rules.specs.Octets.{leAt, putLe}
+use Rattle.link_rules.specs.Octets.{leAt, putLe, putBytes}
 use Rattle.link_rules.proofs.OctetLaws.{le-cong, le-put-same, le-put-other, length-put}
 use Rattle.image.proofs.Writers.{Writes, then, put-to}
 use Rattle.yard_check.specs.Yard.{slotCount}
 use Rattle.yard_check.proofs.PatchLaws.{patch-length, patch-low, patch-high}
-use Rattle.yard_check.specs.Bytes.{putBytes}
 use Rattle.undo.specs.Undo.{filledBytes, oldOffset, writtenOffset, oldYard, writtenYard, withNumbers, withOld, withWritten, filled}
 
 -- the same bytes from a on, n of them

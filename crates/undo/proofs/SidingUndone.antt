@@ -16,7 +16,7 @@ use Rattle.yard_check.specs.Calls.{mark, Answered, marked, Outcome}
 use Rattle.yard_check.specs.DemandThree.{Each, OutcomesMatch}
 use Rattle.yard_check.proofs.Siding.{siding, diverted, plain, twoSlots}
 use Rattle.yard_check.proofs.SidingRenumbered.{swapped, first, second, world, two-cases, one-yard, of-types}
-use Rattle.yard_check.specs.Bytes.{putBytes}
+use Rattle.link_rules.specs.Octets.{putBytes}
 use Rattle.undo.specs.Undo.{withNumbers, withOld, withWritten, roomFault, recordedFault, recordedWith, numbersFit, oldFits, wasWritten, undoFits, undone}
 use Rattle.undo.specs.UndoCalls.{UndoCall, call, recorded, undo, runWith, runAllWith}
 use Rattle.undo.specs.DemandThreeUndo.{UndoCallsMatch, UndoCallsOfTypes, UndoPremises}

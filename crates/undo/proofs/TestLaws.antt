@@ -9,7 +9,7 @@ use lib.ListN.{length}
 use borrow.Author.Tests.{leb-true, lt-ltb, le-ltb, le-leb, lt-leb, eq-eqb, ne-eqb}
 use Rattle.link_rules.specs.Octets.{leAt}
 use Rattle.link_rules.specs.Refusals.{refusedUnless}
-use Rattle.image_fault.proofs.ScanLaws.{both}
+use Rattle.link_rules.proofs.TableLaws.{both}
 use Rattle.free_path.proofs.ColumnLaws.{and-true, and-false}
 use Rattle.undo.specs.Undo.{filledBytes, oldOffset, writtenOffset, roomFault, numbersFit, oldFits, wasWritten, undoFits}
 

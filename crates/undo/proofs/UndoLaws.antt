@@ -8,15 +8,14 @@ use lib.Dec.{lit<, ltb, leb, eqb}
 use lib.ListN.{length, getD, take, drop, length-drop}
 use lib.Seq.{length-take-le, getD-take, getD-drop, ext-getD}
 use borrow.Author.Tests.{eqb-true, leb-true, ltb-true, eq-eqb, ne-eqb, le-leb}
-use Rattle.link_rules.specs.Octets.{leAt, putLe}
+use Rattle.link_rules.specs.Octets.{leAt, putLe, putBytes}
 use Rattle.link_rules.specs.Network.{allBelow}
 use Rattle.link_rules.specs.Refusals.{refused}
 use Rattle.link_rules.specs.declared.refusal.Refusal.{Refusal}
 use Rattle.link_rules.specs.declared.refusal.Answer.the-variants as TakenBack
 use Rattle.link_rules.proofs.OctetLaws.{Bytes, le-cong, put-le}
-use Rattle.link_rules.proofs.TableLaws.{all-at}
+use Rattle.link_rules.proofs.TableLaws.{all-at, both}
 use Rattle.image_fault.proofs.MatchLaws.{all-same}
-use Rattle.image_fault.proofs.ScanLaws.{both}
 use Rattle.image_fault.proofs.AcceptLaws.{or-else-clean, refused-clean}
 use Rattle.yard_check.specs.Yard.{slotCount, yardFits}
 use Rattle.yard_check.specs.Check.{CheckArgs, Refused, Checked, check, checkFault, checkDone, checkedBy, checkedWith}
@@ -24,7 +23,7 @@ use Rattle.yard_check.specs.Checks.{answeredOf, checkedOf}
 use Rattle.yard_check.specs.declared.check.Answer as Code
 use Rattle.yard_check.proofs.YardLaws.{fits}
 use Rattle.yard_check.proofs.CheckLaws.{taken, yard-length}
-use Rattle.yard_check.specs.Bytes.{putBytes, sameBytes}
+use Rattle.yard_check.specs.Bytes.{sameBytes}
 use Rattle.yard_check.proofs.SeenLaws.{lengths-same}
 use Rattle.image_fault.proofs.MatchLaws.{all-same}
 use Rattle.undo.specs.Undo.{filledBytes, oldOffset, writtenOffset, oldYard, writtenYard, withNumbers, withOld, withWritten, filled, roomFault, recordedFault, Recorded, recording, recordedDone, recordedBy, recordedWith, recordedOf, numbersFit, oldFits, wasWritten, undoFits, Undone, undoing, undoneBy, undone}

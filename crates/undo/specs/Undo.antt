@@ -4,7 +4,7 @@ use mathlib.Core.Bool.{Bool, true, false, _&&_}
 use mathlib.Core.List.{List}
 use lib.Dec.{ltb, leb, eqb}
 use lib.ListN.{length, getD, take, drop}
-use Rattle.link_rules.specs.Octets.{leAt, putLe}
+use Rattle.link_rules.specs.Octets.{leAt, putLe, putBytes}
 use Rattle.link_rules.specs.Network.{allBelow}
 use Rattle.link_rules.specs.Refusals.{refused, orElse, refusedUnless}
 use Rattle.link_rules.specs.declared.refusal.Refusal.{Refusal}
@@ -12,7 +12,6 @@ use Rattle.link_rules.specs.declared.refusal.Answer as Taken
 use Rattle.link_rules.specs.declared.refusal.Answer.the-variants as TakenBack
 use Rattle.image_fault.specs.declared.Widths.{Widths}
 use Rattle.image_fault.specs.declared.Widths.the-variants.{Narrow, Either}
-use Rattle.yard_check.specs.Bytes.{putBytes}
 use Rattle.yard_check.specs.Yard.{slotCount, yardFits}
 use Rattle.yard_check.specs.Check.{CheckArgs, Answer, Refused, Checked, checkFault, checkedWith}
 use Rattle.yard_check.specs.Checks.{answeredOf}
@@ -39,7 +38,7 @@ writtenYard y r = take y (drop (writtenOffset y) r)
 -- ---- a record is filled; buffer bytes beyond stay
 
 -- the four numbers, for an old yard of y bytes and S slots
-unfoldable pub withNumbers : ℕ → ℕ → List ℕ → List ℕ
+unfoldable pub withNumbers : (y slots : ℕ) (r : List ℕ) → List ℕ
 withNumbers y slots r = putLe 4 (writtenOffset y) 12 (putLe 4 oldOffset 8 (putLe 4 slots 4 (putLe 4 (filledBytes y) 0 r)))
 
 -- the numbers and the old yard
@@ -50,7 +49,7 @@ withOld old r = putBytes oldOffset old (withNumbers (length old) (slotCount old)
 unfoldable pub withWritten : List ℕ → List ℕ → List ℕ
 withWritten written r = putBytes (writtenOffset (length written)) written r
 
-abbrev pub filled : List ℕ → List ℕ → List ℕ → List ℕ
+abbrev pub filled : (old written r : List ℕ) → List ℕ
 filled old written r = withWritten written (withOld old r)
 
 -- ---- a check that fills a record
@@ -60,7 +59,7 @@ unfoldable pub roomFault : ℕ → ℕ → Refusal
 roomFault y room = refusedUnless (leb (filledBytes y) room && ltb (filledBytes y) 4294967296) 20
 
 -- 20, then the check's own; long and room are the lengths of the report and of the record
-unfoldable pub recordedFault : List ℕ → List ℕ → CheckArgs → ℕ → ℕ → Refusal
+unfoldable pub recordedFault : (yard occ : List ℕ) (a : CheckArgs) (long room : ℕ) → Refusal
 recordedFault yard occ a long room = orElse (roomFault (length yard) room) (checkFault yard occ a long)
 
 pub record Recorded : Type 0 where
@@ -69,7 +68,7 @@ pub record Recorded : Type 0 where
   pub report : List ℕ
   pub undoRecord : List ℕ
 
-abbrev pub recording : Answer → List ℕ → List ℕ → List ℕ → Recorded
+abbrev pub recording : (answer : Answer) (yard report r : List ℕ) → Recorded
 recording answer yard report r = record { answer = answer; yard = yard; report = report; undoRecord = r }
 
 -- the check of the old yard, and the record filled
@@ -81,26 +80,26 @@ abbrev pub recordedBy : ℕ → Refusal → Recorded → List ℕ → List ℕ �
 recordedBy zero f done yard report r = done
 recordedBy (suc n) f done yard report r = recording (Refused f) yard report r
 
-unfoldable pub recordedWith : List ℕ → List ℕ → CheckArgs → List ℕ → List ℕ → Recorded
+unfoldable pub recordedWith : (yard occ : List ℕ) (a : CheckArgs) (report r : List ℕ) → Recorded
 recordedWith yard occ a report r =
     let f = recordedFault yard occ a (length report) (length r) in
     let done = recordedDone yard r (checkedWith yard occ a report) in
     recordedBy (f .number) f done yard report r
 
 -- the widths, the yard, the occupancy, the blocking list, the moved train, begin, local, the round limit, the report, the record
-abbrev pub recordedIn : Widths → List ℕ → List ℕ → List ℕ → ℕ → ℕ → Bool → ℕ → List ℕ → List ℕ → Recorded
+abbrev pub recordedIn : (w : Widths) (yard occ blocking : List ℕ) (moved begin : ℕ) (local : Bool) (limit : ℕ) (report r : List ℕ) → Recorded
 recordedIn w yard occ blocking moved begin local limit report r =
     recordedWith yard occ (record { widths = w; blocking = blocking; moved = moved; begin = begin; local = local; limit = limit }) report r
 
 -- over an occupancy of u16 entries, and over one of u32 entries (document 02, Q-6)
-abbrev pub recorded : List ℕ → List ℕ → List ℕ → ℕ → ℕ → Bool → ℕ → List ℕ → List ℕ → Recorded
+abbrev pub recorded : (yard occ blocking : List ℕ) (moved begin : ℕ) (local : Bool) (limit : ℕ) (report r : List ℕ) → Recorded
 recorded yard occ blocking moved begin local limit report r = recordedIn Narrow yard occ blocking moved begin local limit report r
 
-abbrev pub recordedWide : List ℕ → List ℕ → List ℕ → ℕ → ℕ → Bool → ℕ → List ℕ → List ℕ → Recorded
+abbrev pub recordedWide : (yard occ blocking : List ℕ) (moved begin : ℕ) (local : Bool) (limit : ℕ) (report r : List ℕ) → Recorded
 recordedWide yard occ blocking moved begin local limit report r = recordedIn Either yard occ blocking moved begin local limit report r
 
 -- what the code gives
-abbrev pub recordedOf : Code.Answer → List ℕ → List ℕ → List ℕ → Recorded
+abbrev pub recordedOf : (x : Code.Answer) (yard report r : List ℕ) → Recorded
 recordedOf x yard report r = recording (answeredOf x) yard report r
 
 -- ---- undo

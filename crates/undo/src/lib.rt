@@ -4,9 +4,9 @@ pub mod records;
 
 use link_rules::link_idx::NarrowTrainIdx;
 use link_rules::link_idx::TrainIdx;
+use link_rules::octets;
 use link_rules::refusal;
 use link_rules::refusal::Refusal;
-use yard_check::bytes;
 use yard_check::check;
 use yard_check::check::Answer;
 use yard_check::check::Args;
@@ -126,7 +126,7 @@ pub fn undo(yard: &mut [u8], undo_record: &[u8]) -> refusal::Answer
 {
     if records::undo_fits(yard, undo_record) {
         let e = 16 + yard.len();
-        bytes::put_bytes(yard, 0, &undo_record[16..e]);
+        octets::put_bytes(yard, 0, &undo_record[16..e]);
         return refusal::Answer::Done;
     }
     refusal::Answer::Refused(Refusal {

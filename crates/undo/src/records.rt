@@ -42,7 +42,7 @@ pub(crate) fn put_old(to: &mut [u8], old: &[u8])
     ensures { λ _. ⌜ now (to .exit) ≡ withOld (now (old .entry)) (now (to .entry)) ⌝ }
 {
     put_numbers(to, old.len(), yard::slot_count(old));
-    bytes::put_bytes(to, 16, old)
+    octets::put_bytes(to, 16, old)
 }
 
 // After the check: the yard that it wrote.
@@ -50,7 +50,7 @@ pub(crate) fn put_written(to: &mut [u8], written: &[u8])
     requires { ⌜ filledBytes (length (now written)) ≤ length (now to) ⌝ }
     ensures { λ _. ⌜ now (to .exit) ≡ withWritten (now (written .entry)) (now (to .entry)) ⌝ }
 {
-    bytes::put_bytes(to, 16 + written.len(), written)
+    octets::put_bytes(to, 16 + written.len(), written)
 }
 
 // ---- read

@@ -61,7 +61,7 @@ abbrev pub matchAt : List DispNode → List DispNode → ℕ → ℕ → Res ℕ
 matchAt path new from i = at path i >>= λ n. matchNew new from (n .«link_event»)
 
 -- both go to the new path, idx_min only if it has passed the split; the higher goes on where the lower stopped (729-745)
-unfoldable pub moveEnds : List DispNode → List DispNode → ℕ → ℕ → ℕ → Res Ends
+unfoldable pub moveEnds : (path new : List DispNode) (split low high : ℕ) → Res Ends
 moveEnds path new split low high = do
   let first = matchAt path new 0 low
   i ← cond (leb split low) first (ok 0)
@@ -69,7 +69,7 @@ moveEnds path new split low high = do
   ok (record { low = cond (leb split low) (split + i) low; high = split + j })
 
 -- the train must be before the join, and is moved if it has passed the split point (726-729)
-unfoldable pub newEnds : List DispNode → List DispNode → ℕ → ℕ → ℕ → ℕ → Res Ends
+unfoldable pub newEnds : (path new : List DispNode) (split base low high : ℕ) → Res Ends
 newEnds path new split base low high = do
   need (ltb high base)
   let passed = moveEnds path new split low high
@@ -106,7 +106,7 @@ shiftDivs join base (d ∷ ds) =
     need (leb base (d .«disp_node_idx» + join)) >>= λ _.
     shiftDivs join base ds >>= λ es. ok (record { «train_idx» = d .«train_idx»; «disp_node_idx» = d .«disp_node_idx» + join - base } ∷ es)
 
-unfoldable pub updateDivNodes : ℕ → List DivergeNode → List DivergeNode → ℕ → ℕ → ℕ → Res Divs
+unfoldable pub updateDivNodes : (divergeRoom : ℕ) (divs new : List DivergeNode) (split base join : ℕ) → Res Divs
 updateDivNodes divergeRoom divs new split base join = do
   k ← walkFrom (λ d. ltb base (d .«disp_node_idx»)) divs split
   let shifted = shiftDivs join base (drop k divs)

@@ -8,3 +8,4 @@ pub mod Accepted
 pub mod Fits
 pub mod UpdateImage
 pub mod UpdateMatch
+pub mod ImageTrain

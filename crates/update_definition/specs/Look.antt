@@ -126,7 +126,7 @@ freeMove false true false = BlockEmpty
 freeMove false false same = Advance
 
 -- disp_path[idx_save] is read only where the saved path must be used
-abbrev pub moveFrom : Bool → Bool → Bool → Bool → Bool → Res Bool → Res Move
+abbrev pub moveFrom : (blocked stuck onAlt onNext saved : Bool) (same : Res Bool) → Res Move
 moveFrom true stuck onAlt onNext saved same = ok (blockedMove stuck onAlt)
 moveFrom false stuck onAlt onNext saved same = cond (not onNext && saved) same (ok false) >>= λ b. ok (freeMove onNext saved b)
 

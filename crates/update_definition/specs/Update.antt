@@ -89,11 +89,11 @@ apart (Range a b) on = false
 apart Check on = false
 
 -- where the intersection search begins (293-295)
-abbrev pub searchBegin : ℕ → ℕ → ℕ → ℕ
+abbrev pub searchBegin : (split free sentinel : ℕ) → ℕ
 searchBegin split free sentinel = cond (ltb split free) (least free sentinel) split
 
 -- the first intersection (292-304)
-unfoldable pub meeting : LinkOptType → List ℕ → List LinkIdx → ℕ → ℕ → ℕ → Res ℕ
+unfoldable pub meeting : (class : LinkOptType) (occ : List ℕ) (links : List LinkIdx) (free split sentinel : ℕ) → Res ℕ
 meeting class occ links free split sentinel = do
   need (leb split sentinel)
   need (ltb (searchBegin split free sentinel) (length links))
@@ -128,7 +128,7 @@ abbrev pub savePoint : List DispNode → ℕ → ℕ → Res ℕ
 savePoint path fixed split = cond (leb fixed split) (ok fixed) (walkFrom notFake path split)
 
 -- the search as it begins, with clean buffers
-abbrev pub searchAt : Train → ℕ → ℕ → ℕ → Search
+abbrev pub searchAt : (t : Train) (split divSplit save : ℕ) → Search
 searchAt t split divSplit save =
     record {
       «idx_split» = split;
@@ -353,5 +353,5 @@ updateFrom (ok n) occ blocking moved local limit t =
     meets (firstMet g (startOf g t)) (roundsFrom limit g t (startOf g t))
 
 -- update_free_path: the occupancy, the blocking list, the moved train, is_local, the round limit, the train
-unfoldable pub updateFreePath : List ℕ → List LinkIdx → TrainIdx → Bool → ℕ → Train → Updated
+unfoldable pub updateFreePath : (occ : List ℕ) (blocking : List LinkIdx) (moved : TrainIdx) (local : Bool) (limit : ℕ) (t : Train) → Updated
 updateFreePath occ blocking moved local limit t = updateFrom (at (t .«disp_path») (t .«disp_node_idx_free»)) occ blocking moved local limit t

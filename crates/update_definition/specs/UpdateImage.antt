@@ -36,7 +36,7 @@ blockingFault l blocking = refusedUnless (leb (length blocking) 4000 && linksBel
 abbrev pub orderFault : ℕ → ℕ → Refusal
 orderFault moved limit = cond (eqb moved 0 || eqb limit 0) (refused 5 0) noRefusal
 
-unfoldable pub callFault : List ℕ → List ℕ → ℕ → ℕ → Refusal
+unfoldable pub callFault : (occ blocking : List ℕ) (moved limit : ℕ) → Refusal
 callFault occ blocking moved limit =
     orElse (lengthFault (length occ))
     (orElse (blockingFault (length occ) blocking)
@@ -79,23 +79,23 @@ abbrev pub linkIdxs : List ℕ → List LinkIdx
 linkIdxs blocking = map (λ (n : ℕ). record { 0 = n }) blocking
 
 -- refusals 2 to 9 of the call and of the image, and 22, in a call that takes the widths w
-unfoldable pub updateFaultIn : Widths → List ℕ → List ℕ → List ℕ → ℕ → ℕ → Refusal
+unfoldable pub updateFaultIn : (w : Widths) (img occ blocking : List ℕ) (moved limit : ℕ) → Refusal
 updateFaultIn w img occ blocking moved limit = orElse (callFault occ blocking moved limit) (faultWith w (givenFault w img occ moved) img (length occ))
 
 -- the image, the occupancy, the blocking list, the moved train, local, the round limit; 10 to 13 are those of updateFreePath
-unfoldable pub updatedImageIn : Widths → List ℕ → List ℕ → List ℕ → ℕ → Bool → ℕ → UpdatedImage
+unfoldable pub updatedImageIn : (w : Widths) (img occ blocking : List ℕ) (moved : ℕ) (local : Bool) (limit : ℕ) → UpdatedImage
 updatedImageIn w img occ blocking moved local limit =
     let f = updateFaultIn w img occ blocking moved limit in
     let u = updateFreePath occ (linkIdxs blocking) (record { 0 = moved }) local limit (decoded img) in
     answerBy (f .number) f u img
 
 -- over an occupancy of u16 entries: narrow images alone (document 01)
-abbrev pub updateFault : List ℕ → List ℕ → List ℕ → ℕ → ℕ → Refusal
+abbrev pub updateFault : (img occ blocking : List ℕ) (moved limit : ℕ) → Refusal
 updateFault img occ blocking moved limit = updateFaultIn Narrow img occ blocking moved limit
 
-abbrev pub updatedImage : List ℕ → List ℕ → List ℕ → ℕ → Bool → ℕ → UpdatedImage
+abbrev pub updatedImage : (img occ blocking : List ℕ) (moved : ℕ) (local : Bool) (limit : ℕ) → UpdatedImage
 updatedImage img occ blocking moved local limit = updatedImageIn Narrow img occ blocking moved local limit
 
 -- over one of u32 entries: images of either width (document 02, Q-6)
-abbrev pub updatedImageWide : List ℕ → List ℕ → List ℕ → ℕ → Bool → ℕ → UpdatedImage
+abbrev pub updatedImageWide : (img occ blocking : List ℕ) (moved : ℕ) (local : Bool) (limit : ℕ) → UpdatedImage
 updatedImageWide img occ blocking moved local limit = updatedImageIn Either img occ blocking moved local limit

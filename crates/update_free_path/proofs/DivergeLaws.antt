@@ -19,7 +19,7 @@ use Rattle.link_rules.specs.Refusals.{noRefusal}
 use Rattle.image_fault.specs.ImageFault.{faultWith}
 use Rattle.image_fault.specs.declared.Widths.the-variants.{Either}
 use Rattle.image_fault.proofs.AcceptLaws as Clean
-use Rattle.splice.specs.Read.{trainOf}
+use Rattle.update_definition.specs.ImageTrain.{trainOf}
 use Rattle.update_definition.specs.State.{withDivNodes}
 use Rattle.update_definition.specs.Update.{adjustSentinel}
 use Rattle.update_definition.specs.Fits.{Fits}

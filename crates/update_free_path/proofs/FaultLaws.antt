@@ -11,7 +11,7 @@ use lib.Seq.{drop-cons}
 use borrow.Author.Tests.{lt-ltb, le-ltb, ltb-true, ltb-false, le-leb, leb-true}
 use Rattle.link_rules.specs.Refusals.{noRefusal, refused}
 use Rattle.image_fault.proofs.AcceptLaws.{or-else-clean}
-use Rattle.image_fault.proofs.ScanLaws.{both}
+use Rattle.link_rules.proofs.TableLaws.{both}
 use Rattle.update_definition.specs.UpdateImage.{linksBelow, callFault, entriesUpTo}
 use Rattle.update_free_path.specs.Updates.{greaterOf}
 

@@ -16,13 +16,13 @@ use Rattle.disp_structs.specs.declared.EstIdx.{EstIdx}
 use Rattle.disp_structs.specs.declared.LinkEvent.{LinkEvent}
 use Rattle.disp_structs.specs.declared.DispNode.{DispNode}
 use Rattle.disp_structs.proofs.ListedLaws.{listed-same, listed-map}
-use Rattle.image.specs.Image.{nodeAt}
+use Rattle.image.specs.Image.{nodeAt, pathOf}
 use Rattle.free_path.specs.Base.{any}
 use Rattle.free_path.specs.Columns.{link, linkAt}
 use Rattle.free_path.specs.LinkOptType.{linkIdxPath}
 use Rattle.free_path.specs.Validate.{onPath}
 use Rattle.splice.proofs.FlagLaws.{all-zero}
-use Rattle.search.specs.Read.{pathOf, onFlag, Marked}
+use Rattle.search.specs.Read.{onFlag, Marked}
 
 -- ---- a column that is filled entry by entry
 

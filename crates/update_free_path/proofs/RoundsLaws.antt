@@ -12,8 +12,8 @@ use Rattle.link_rules.specs.declared.link_idx.TrainIdx.{TrainIdx}
 use Rattle.disp_structs.specs.Listed.{listed}
 use Rattle.disp_structs.specs.Train.{Train}
 use Rattle.disp_structs.proofs.ListedLaws.{listed-length}
-use Rattle.image_fault.proofs.ScanLaws.{both}
-use Rattle.image.specs.Image.{nodeAt, estCount, estAt}
+use Rattle.link_rules.proofs.TableLaws.{both}
+use Rattle.image.specs.Image.{nodeAt, estCount, estAt, pathOf}
 use Rattle.image.specs.declared.codec.PathHeader.{PathHeader}
 use Rattle.free_path.specs.Base.{Res, ok, count}
 use Rattle.free_path.specs.Columns.{linkAt, flagged}
@@ -32,8 +32,9 @@ use Rattle.update_laws.specs.FitsGood.{TrainFits}
 use Rattle.update_laws.proofs.Updates.{round-fits}
 use Rattle.update_laws.proofs.Steps.{round-few, round-answers}
 use Rattle.update_laws.specs.AfterRound.{StaysAccepted, NextRound}
-use Rattle.search.specs.Read.{pathOf, Marked}
-use Rattle.splice.specs.Read.{trainOf, Kept}
+use Rattle.search.specs.Read.{Marked}
+use Rattle.splice.specs.Read.{Kept}
+use Rattle.update_definition.specs.ImageTrain.{trainOf}
 use Rattle.splice.proofs.NodeLaws.{kept-count, kept-then}
 use Rattle.update_laws.proofs.TallyBounds.{count-few}
 use Rattle.round_start.proofs.StrayLaws.{linked-accepted, count-strays}

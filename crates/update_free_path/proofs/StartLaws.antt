@@ -12,7 +12,7 @@ use Rattle.link_rules.proofs.OctetLaws.{Bytes}
 use Rattle.disp_structs.specs.Listed.{listed}
 use Rattle.disp_structs.specs.Train.{Train}
 use Rattle.disp_structs.specs.declared.DispNode.{DispNode}
-use Rattle.image.specs.Image.{largestOf, largestTrain, isWide, divergeCount, divergeAt, nodeAt, pathHeader, divergeRoom, estCount}
+use Rattle.image.specs.Image.{largestOf, largestTrain, isWide, divergeCount, divergeAt, nodeAt, pathHeader, divergeRoom, estCount, pathOf}
 use Rattle.image.proofs.WidthLaws.{words-twice}
 use Rattle.image_fault.specs.declared.Widths.the-variants.{Either}
 use Rattle.image_fault.proofs.AcceptLaws as Clean
@@ -37,8 +37,8 @@ use Rattle.update_free_path.proofs.DivergeLaws.{start-train, start-fits
 use Rattle.update_laws.proofs.RefusalLaws.{refused-number}
 use Rattle.round_start.specs.Start.{Linked}
 use Rattle.round_start.proofs.StrayLaws.{linked-accepted, class-flags, known-links}
-use Rattle.search.specs.Read.{pathOf, Marked}
-use Rattle.splice.specs.Read.{trainOf}
+use Rattle.search.specs.Read.{Marked}
+use Rattle.update_definition.specs.ImageTrain.{trainOf}
 use Rattle.round.specs.Rounds.{givenOf}
 use Rattle.update_free_path.specs.Updates.{errorsOf, statusBy, ranBy, stopRefused, betweenOf, Known, Top, roundsAt, metFrom, RoundsEnded, startAt, givenAt, UpdateBegins, updateOf, Finished}
 use Rattle.round.specs.declared.Given.{Given}

@@ -11,7 +11,7 @@ use Rattle.link_rules.specs.declared.link_idx.TrainIdx.{TrainIdx}
 use Rattle.disp_structs.specs.Listed.{listed}
 use Rattle.disp_structs.specs.Train.{Train}
 use Rattle.disp_structs.specs.Values.{minus}
-use Rattle.image.specs.Image.{estCount, divergeRoom, nodeAt, distFixedMax, pathHeader}
+use Rattle.image.specs.Image.{estCount, divergeRoom, nodeAt, distFixedMax, pathHeader, estsOf, pathOf}
 use Rattle.image.specs.Codec.{decoded}
 use Rattle.image_fault.specs.ImageFault.{faultWith}
 use Rattle.image_fault.specs.declared.Widths.{Widths}
@@ -25,9 +25,8 @@ use Rattle.free_path.specs.LinkOptType.{contains, linkIdxPath, linkOptType}
 use Rattle.free_path.specs.Validate.{known, validateFreePath}
 use Rattle.update_definition.specs.Update as Update
 use Rattle.update_definition.specs.UpdateImage.{UpdatedImage, linkIdxs, updatedImageIn, storedAnswer, refusedAnswer}
-use Rattle.validate.specs.Paths.{estsOf}
-use Rattle.search.specs.Read.{pathOf}
-use Rattle.splice.specs.Read.{trainOf, Kept}
+use Rattle.splice.specs.Read.{Kept}
+use Rattle.update_definition.specs.ImageTrain.{trainOf}
 use Rattle.round.specs.Rounds.{Held, givenOf}
 use Rattle.round.specs.declared.Given.{Given}
 use Rattle.round.specs.declared.End.{End}
@@ -69,7 +68,7 @@ isRefusal (Refused r) = true
 
 -- the errors of the path of an image
 abbrev pub errorsOf : List ℕ → List ℕ → PathHeader → Res ℕ
-errorsOf img occ h = validateFreePath occ (estsOf img) (h .free) (pathOf img (h .«path_count»))
+errorsOf img occ h = validateFreePath occ (estsOf img (estCount img)) (h .free) (pathOf img (h .«path_count»))
 
 abbrev pub judgedBy : Res ℕ → Update.Status
 judgedBy (ok n) = Update.statusOf n
@@ -110,7 +109,7 @@ Answers image img occ dt dn r x image₁ =
 
 -- ---- the loop over rounds
 
-abbrev pub betweenOf : List ℕ → List ℕ → List ℕ → Between → Update.Between
+abbrev pub betweenOf : (img dt dn : List ℕ) (w : Between) → Update.Between
 betweenOf img dt dn w = Update.between (trainOf img dt dn (w .header)) (w .split) (w .«div_split») (w .tally)
 
 abbrev pub dueAt : Between → Bool
@@ -181,11 +180,11 @@ pub record Top (occ img col on dt dn : List ℕ) (w : Between) : Type 0 where
   pub faultless : w .tally .faults ≡ 0
 
 -- the answer of the loop over rounds from w on
-abbrev pub roundsAt : List ℕ → Given → List LinkIdx → List LinkIdx → ℕ → List ℕ → List ℕ → List ℕ → Train → Between → Update.Updated
+abbrev pub roundsAt : (occ : List ℕ) (g : Given) (blocking start : List LinkIdx) (limit : ℕ) (img dt dn : List ℕ) (was : Train) (w : Between) → Update.Updated
 roundsAt occ g blocking start limit img dt dn was w = Update.roundsFrom (limit - w .tally .rounds) (givenOf g occ blocking start) was (betweenOf img dt dn w)
 
 -- the train met by the loop from w on: that of the next round where it is the first one and due, else the one that is kept
-abbrev pub metFrom : List ℕ → Given → List LinkIdx → List LinkIdx → List ℕ → List ℕ → List ℕ → Between → TrainIdx
+abbrev pub metFrom : (occ : List ℕ) (g : Given) (blocking start : List LinkIdx) (img dt dn : List ℕ) (w : Between) → TrainIdx
 metFrom occ g blocking start img dt dn w =
     cond (eqb (w .tally .rounds) 0 && dueAt w) (Update.roundMet (givenOf g occ blocking start) (trainOf img dt dn (w .header)) (w .split) (w .«div_split»)) (w .met)
 
@@ -218,7 +217,7 @@ abbrev pub startAt : PathHeader → ℕ → Between
 startAt h s = record { header = h; split = 1; «div_split» = 1; tally = started s; met = noTrain }
 
 -- what an update does not change, flags being those of the links on the path, and free the first node of the free path
-abbrev pub givenAt : List ℕ → List ℕ → List ℕ → Args → ℕ → Given
+abbrev pub givenAt : (img blocking flags : List ℕ) (o : Args) (free : ℕ) → Given
 givenAt img blocking flags o free =
     record {
       «train_idx_moved» = o .moved;
@@ -242,7 +241,7 @@ pub record Space (img occ col on flags known dt dn : List ℕ) : Type 0 where
   pub noneKnown : known ≡ replicate (length flags) 0
 
 -- the update of the train of an image
-abbrev pub updateOf : List ℕ → List ℕ → List ℕ → Args → Update.Updated
+abbrev pub updateOf : (img occ blocking : List ℕ) (o : Args) → Update.Updated
 updateOf img occ blocking o = Update.updateFreePath occ (linkIdxs blocking) (o .moved) (o .local) (o .limit) (decoded img)
 
 -- what is asked before the first round: refused as the update is, else an update that begins

@@ -19,7 +19,7 @@ ghost use Rattle.link_rules.specs.Refusals as Refusals;
 ghost use Rattle.link_rules.specs.declared.refusal.Refusal.{Refusal};
 ghost use Rattle.update_definition.specs.Update as Update;
 ghost use Rattle.update_definition.specs.UpdateImage.{leftImage, refusedAnswer};
-ghost use Rattle.splice.specs.Read.{trainOf};
+ghost use Rattle.update_definition.specs.ImageTrain.{trainOf};
 ghost use Rattle.update_free_path.specs.Updates.{statusOf, updatedOf, isRefusal, errorsOf, judgedBy, statusBy, Named, AnswerFits, Answers};
 
 pub enum Status {

@@ -151,17 +151,6 @@ pub fn update_fault(
 
 // ---- what the first round finds
 
-pub(crate) fn copy_image(image: &[u8], scratch: &mut [u8])
-    requires { ⌜ length (now scratch) ≡ length (now image) ⌝ }
-    ensures { λ _. ⌜ now (scratch .exit) ≡ now (image .entry) ⌝ }
-{
-    let mut i = 0;
-    while i < image.len() {
-        scratch[i] = image[i];
-        i += 1;
-    }
-}
-
 // The first m diverge nodes of the image, into two columns.
 pub(crate) fn take_diverges(img: &[u8], m: usize, dt: &mut [u32], dn: &mut [u32])
     requires { ⌜ (m ≤ length (now dt)) × (m ≤ length (now dn)) × (m < 2 ^ 32) ⌝ }

@@ -13,6 +13,7 @@ use image::codec::PathHeader;
 use image_fault::Widths;
 use link_rules::link_idx::NarrowTrainIdx;
 use link_rules::link_idx::TrainIdx;
+use link_rules::octets;
 use link_rules::refusal::Refusal;
 use start::Args;
 ghost use mathlib.Core.Path.{_≡_};
@@ -42,7 +43,7 @@ fn update_in(
     requires { ⌜ UpdateBegins (now image) (now occ) h × (length (now scratch) ≡ length (now image)) × Space (now image) (now occ) (now col) (now on) (now flags) (now known) (now dt) (now dn) ⌝ }
     ensures { λ x. ⌜ updatedOf x (now (image .exit)) ≡ storedAnswer (updateOf (now (image .entry)) (now (occ .entry)) (now (blocking .entry)) o) (now (image .entry)) ⌝ }
 {
-    call::copy_image(image, scratch);
+    octets::put_bytes(scratch, 0, image);
     let r = start::run(scratch, occ, blocking, o, h, col, on, flags, known, dt, dn);
     answer::answered(image, scratch, occ, r, dt, dn)
 }

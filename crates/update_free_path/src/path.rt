@@ -7,10 +7,10 @@ ghost use Prim.Native.Nat.{ℕ, _<_, _≤_};
 ghost use lib.ListN.{length};
 ghost use Rattle.disp_structs.specs.Listed.{listed};
 ghost use Rattle.disp_structs.specs.Values.{arriving};
-ghost use Rattle.image.specs.Image.{nodeAt};
+ghost use Rattle.image.specs.Image.{nodeAt, pathOf};
 ghost use Rattle.free_path.specs.Columns.{linkAt};
 ghost use Rattle.free_path.specs.LinkOptType.{linkIdxPath};
-ghost use Rattle.search.specs.Read.{pathOf, Marked};
+ghost use Rattle.search.specs.Read.{Marked};
 
 // ---- link_idx_path
 

@@ -15,12 +15,12 @@ ghost use Prim.Native.Nat.{ℕ, _≤_, _<_};
 ghost use lib.Dec.{ltb};
 ghost use lib.ListN.{length, drop};
 ghost use Rattle.disp_structs.specs.Listed.{listed};
-ghost use Rattle.image.specs.Image.{estCount, divergeRoom, nodeAt};
+ghost use Rattle.image.specs.Image.{estCount, divergeRoom, nodeAt, pathOf};
 ghost use Rattle.free_path.specs.Base.{count};
 ghost use Rattle.free_path.specs.Columns.{linkAt, flagged};
 ghost use Rattle.free_path.specs.LinkOptType.{linkIdxPath};
 ghost use Rattle.free_path.specs.Validate.{strayLink};
-ghost use Rattle.search.specs.Read.{pathOf, Marked};
+ghost use Rattle.search.specs.Read.{Marked};
 ghost use Rattle.tally.specs.Tally.{counted, stepped};
 ghost use Rattle.update_free_path.specs.Updates.{dueAt, isLast, ranOf, keptMet, stoppedBy, nextOf, closedAt, Counting, Sizes, Top, RoundsEnded};
 

@@ -27,7 +27,7 @@ use Rattle.image.proofs.CodecLaws.{Keeps, Held}
 use Rattle.link_rules.specs.Refusals.{noRefusal}
 use Rattle.image_fault.specs.ImageFault.{faultWith}
 use Rattle.image_fault.specs.declared.Widths.{Widths}
-use Rattle.image_fault.proofs.ScanLaws.{both}
+use Rattle.link_rules.proofs.TableLaws.{both}
 use Rattle.image_fault.proofs.AcceptLaws as Clean
 use Rattle.update_definition.specs.Accepted.{Accepted, timeAccepted}
 use Rattle.update_definition.specs.Fits.{Fits}

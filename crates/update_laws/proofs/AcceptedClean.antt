@@ -31,7 +31,8 @@ use Rattle.image.proofs.CodecLaws.{GoodImage}
 use Rattle.image_fault.specs.ImageFault.{firstUnfit, countsFit, partsFit, widthNumber, trainFits, estTypeFits, nodeTypeFits, divergeSpareFits, zeroWord, unusedZero, recordsFit, imageFits, floatFits, timeFits, distFits, eventFits, estLinksFit, estFits, nodeFits, indicesFit, headerFits, divergeTrainFits, trainsFault, valueFault, cycleRefused, cycleFault, stepsTo, comesFrom, endsAt, arrivesOn, arrived, firstArrival, onRoute, innerFits, divergeFits, routeFault, faultWith}
 use Rattle.image_fault.specs.declared.Widths.{Widths}
 use Rattle.link_rules.specs.Refusals.{noRefusal}
-use Rattle.image_fault.proofs.ScanLaws.{both, step-fit}
+use Rattle.image_fault.proofs.ScanLaws.{step-fit}
+use Rattle.link_rules.proofs.TableLaws.{both}
 use Rattle.free_path.specs.Base.{ok, at}
 use Rattle.update_definition.specs.Accepted.{EventAccepted, EstAccepted, NodeAccepted, Accepted, timeAccepted, distanceAccepted}
 use Rattle.update_definition.specs.Fits.{Fits}

@@ -33,7 +33,7 @@ use Rattle.image_fault.specs.ImageFault.{floatFits, timeFits, distFits, eventFi
 use Rattle.image_fault.specs.declared.Widths.{Widths}
 use Rattle.link_rules.specs.Refusals.{noRefusal}
 use Rattle.image_fault.specs.CodeFacts.{CountsFit}
-use Rattle.image_fault.proofs.ScanLaws.{both}
+use Rattle.link_rules.proofs.TableLaws.{both}
 use Rattle.image_fault.proofs.AcceptLaws as Clean
 use Rattle.image_fault.proofs.RouteLaws as Route
 use Rattle.update_definition.specs.Accepted.{EventAccepted, EstAccepted, EstsAccepted, NodeAccepted, PathAccepted, Leads, DivsAccepted, Accepted, timeAccepted, distanceAccepted}

@@ -26,7 +26,7 @@ use Rattle.image.specs.ImageMatch.{ImagesMatch}
 use Rattle.image_fault.specs.declared.Widths.{Widths}
 use Rattle.link_rules.specs.Refusals.{noRefusal, refused, orElse}
 use Rattle.link_rules.specs.declared.refusal.Refusal.{Refusal}
-use Rattle.image_fault.proofs.ScanLaws.{both}
+use Rattle.link_rules.proofs.TableLaws.{both}
 use Rattle.image_fault.proofs.AcceptLaws.{accepted-in, or-else-clean}
 use Rattle.image_fault.proofs.MatchLaws.{fault-match, state-match, stored-match}
 use Rattle.tally.specs.Tally.{started}

@@ -12,7 +12,7 @@ use Rattle.image.specs.Image.{largestTrain}
 use Rattle.image_fault.specs.ImageFault.{faultWith}
 use Rattle.image_fault.specs.declared.Widths.{Widths}
 use Rattle.image_fault.specs.declared.Widths.the-variants.{Either}
-use Rattle.image_fault.proofs.ScanLaws.{both}
+use Rattle.link_rules.proofs.TableLaws.{both}
 use Rattle.image_fault.proofs.AcceptLaws.{or-else-clean, refused-clean, own-clean}
 use Rattle.update_definition.specs.Fits.{TrainsWithin}
 use Rattle.update_definition.specs.UpdateImage.{callFault, entriesUpTo, givenFault, updateFaultIn}

@@ -34,7 +34,7 @@ abbrev pub metres : ℕ → Metres
 metres b = record { 0 = ofBits binary64 b }
 
 -- an est record: dist_to_next, next, alt, prev, prev_alt, link, type
-abbrev pub est : ℕ → ℕ → ℕ → ℕ → ℕ → ℕ → EstType → EstTime
+abbrev pub est : (dist next alt prev prevAlt l : ℕ) (t : EstType) → EstTime
 est dist next alt prev prevAlt l t =
     record {
       «dist_to_next» = metres dist;
@@ -46,7 +46,7 @@ est dist next alt prev prevAlt l t =
     }
 
 -- a path record: offset, time_pass, link, est, auth, type
-abbrev pub node : ℕ → ℕ → ℕ → ℕ → ℕ → EstType → DispNode
+abbrev pub node : (offset time l e auth : ℕ) (t : EstType) → DispNode
 node offset time l e auth t =
     record {
       offset = metres offset;

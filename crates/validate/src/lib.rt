@@ -10,8 +10,7 @@ ghost use Rattle.free_path.specs.Base.{count};
 ghost use Rattle.free_path.specs.Columns.{answer};
 ghost use Rattle.free_path.specs.Validate.{badPath, inConflict, validateFreePath};
 ghost use Rattle.disp_structs.specs.Values.{isArrive};
-ghost use Rattle.image.specs.Image.{estCount, nodeAt};
-ghost use Rattle.validate.specs.Paths.{estsOf, pathOf};
+ghost use Rattle.image.specs.Image.{estCount, nodeAt, estsOf, pathOf};
 use disp_structs::DispNode;
 use disp_structs::EstIdx;
 use disp_structs::Metres;
@@ -30,7 +29,7 @@ pub struct Errors {
 
 // The errors of the steps of the path, the first n nodes of the image, and the occupancy conflicts at or after free.
 pub fn validate_free_path(img: &[u8], n: u32, occ: &[u32], free: u32) -> Errors
-    ensures { λ r. ⌜ answer (r .code) (r .count) ≡ validateFreePath (now (occ .entry)) (estsOf (now (img .entry))) free (pathOf (now (img .entry)) n) ⌝ }
+    ensures { λ r. ⌜ answer (r .code) (r .count) ≡ validateFreePath (now (occ .entry)) (estsOf (now (img .entry)) (estCount (now (img .entry)))) free (pathOf (now (img .entry)) n) ⌝ }
 {
     let steps = step_errors(img, n);
     if steps.code != 0 {
@@ -65,7 +64,7 @@ fn path_node(img: &[u8], e: u32, i: u32) -> DispNode
 
 // An est number past the records is 13. a and x are node i and its est record.
 fn step_errors(img: &[u8], n: u32) -> Errors
-    ensures { λ r. ⌜ (answer (r .code) (r .count) ≡ badPath (estsOf (now (img .entry))) (pathOf (now (img .entry)) n)) × (r .count < 2 ^ 32) ⌝ }
+    ensures { λ r. ⌜ (answer (r .code) (r .count) ≡ badPath (estsOf (now (img .entry)) (estCount (now (img .entry)))) (pathOf (now (img .entry)) n)) × (r .count < 2 ^ 32) ⌝ }
 {
     let e = codec::est_count(img);
     let mut a = codec::node_at(img, 0);

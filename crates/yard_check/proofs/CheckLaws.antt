@@ -12,7 +12,7 @@ use Rattle.link_rules.proofs.OctetLaws.{Bytes}
 use Rattle.image_fault.specs.ImageFault.{faultWith}
 use Rattle.link_rules.specs.Refusals.{noRefusal, refused}
 use Rattle.link_rules.specs.declared.refusal.Refusal.{Refusal}
-use Rattle.image_fault.proofs.ScanLaws.{both}
+use Rattle.link_rules.proofs.TableLaws.{both}
 use Rattle.image_fault.proofs.AcceptLaws.{or-else-clean}
 use Rattle.image.specs.Image.{largestTrain}
 use Rattle.update_definition.specs.Fits.{TrainsUpTo, TrainsWithin}

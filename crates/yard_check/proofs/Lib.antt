@@ -19,7 +19,3 @@ pub mod DemandThree
 pub mod MatchTests
 pub mod SidingRenumbered
 pub mod SidingWide
-pub mod SheetLaws
-pub mod BundleLaws
-pub mod SheetRoom
-pub mod SheetExample

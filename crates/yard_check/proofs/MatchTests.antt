@@ -10,12 +10,11 @@ use lib.ListN.{length, getD, List·getD-eq-default}
 use borrow.Author.Tests.{eqb-true, ltb-true}
 use Rattle.link_rules.specs.Octets.{leAt}
 use Rattle.link_rules.specs.Network.{allBelow}
-use Rattle.link_rules.proofs.TableLaws.{all-at}
+use Rattle.link_rules.proofs.TableLaws.{all-at, both}
 use Rattle.image.specs.Fields.{divergeWords, divergeSize}
 use Rattle.image.specs.Image.{estCount, divergeRoom, isWide, estPlace, nodePlace, divergePlace}
 use Rattle.image.specs.ImageMatch.{SameBytes, Renumbered, ImagesMatch}
 use Rattle.image.proofs.Writers.{side}
-use Rattle.image_fault.proofs.ScanLaws.{both}
 
 -- every entry is below the bound
 unfoldable pub entriesBelow : ℕ → List ℕ → Bool

@@ -1,6 +1,5 @@
 -- The check over the images of two yards: what its refusals tell, and the two loops over the slots. Assumes nothing.
 use mathlib.Core.Path.{_≡_, refl, sym, ap, _∙_}
-use mathlib.Core.Logic.{⊎-elim}
 use mathlib.Core.Bool.{Bool, true, false, cond, not, _&&_}
 use mathlib.Core.List.{List}
 use Prim.Native.Nat.{ℕ, zero, suc, _+_, _*_, _-_, _^_, max, _≤_, _<_}
@@ -14,9 +13,8 @@ use Rattle.link_rules.specs.LinkIdx.{noTrain}
 use Rattle.link_rules.specs.Network.{allBelow}
 use Rattle.link_rules.specs.Refusals.{noRefusal, refusedUnless}
 use Rattle.link_rules.specs.declared.refusal.Refusal.{Refusal}
-use Rattle.link_rules.proofs.TableLaws.{all-at}
+use Rattle.link_rules.proofs.TableLaws.{all-at, both}
 use Rattle.image.specs.Image.{isWide, largestTrain}
-use Rattle.image_fault.proofs.ScanLaws.{both}
 use Rattle.image_fault.proofs.AcceptLaws.{or-else-clean}
 use Rattle.update_definition.specs.Fits.{TrainsUpTo}
 use Rattle.update_definition.specs.UpdateImage.{callFault, givenFault}
@@ -24,7 +22,7 @@ use Rattle.update_laws.proofs.BytesAccepted.{narrow-held}
 use Rattle.wide_occupancy.specs.WideOccupancy.{largest, largeTrainFault}
 use Rattle.wide_occupancy.proofs.TrainLaws.{largest-bounds}
 use Rattle.yard_check.specs.Yard.{yardSize, slotCount, partBegin, partEnd, partOf, yardFits, yardFault}
-use Rattle.yard_check.specs.Check.{CheckArgs, slotsFault, reportFault, Row, isFinishedRow, isBlockedRow, isErredRow, Visit, slotVisit, slotRow, slotImage, yardAfter, reportAfter, howMany, Refused, answerBy, answerOf, slotSet}
+use Rattle.yard_check.specs.Check.{CheckArgs, slotsFault, reportFault, Row, isFinishedRow, isBlockedRow, isErredRow, Visit, slotVisit, slotImage, yardAfter, reportAfter, Refused, answerBy, answerOf, slotSet}
 use Rattle.yard_check.specs.Checks.{tallyAfter, NextTurn, Lies, slotSeen, Spans, spanImage, Agree, SpanVisited}
 use Rattle.yard_check.specs.Pair.{pairImage, pairVisit, pairRow, partLies, secondLies, pairLargest, lateFault, pairFault, PairChecked, pairOf, pairDone, pairBy, pairChecked}
 use Rattle.yard_check.specs.declared.check.Span.{Span}

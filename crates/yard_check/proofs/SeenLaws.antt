@@ -2,7 +2,7 @@
 use mathlib.Core.Path.{_≡_, refl, sym, ap, ap₂, subst, _∙_}
 use mathlib.Core.Logic.{⊎-elim}
 use mathlib.Core.Bool.{Bool, true, false, cond, not, _&&_}
-use mathlib.Core.List.{List, _++_, append-nil}
+use mathlib.Core.List.{List, _++_}
 use Prim.Native.Nat.{ℕ, zero, suc, _+_, _*_, _/_, _%_, _^_, _≤_, _<_}
 use native.Mathlib.Nat.{two-pow-succ, eq-or-lt-of-le}
 use native.Mathlib.Numerals.{add-one}
@@ -10,15 +10,14 @@ use native.Mathlib.Omega.{arith}
 use lib.Dec.{leb, eqb}
 use lib.ListN.{length, getD, take, drop, length-append, length-drop}
 use lib.Pow.{pow-mono, shl-exact}
-use lib.Seq.{ext-getD, take-append-seam, drop-length}
-use borrow.Author.Tests.{eqb-true, eqb-false, leb-true, leb-false, eq-eqb, ne-eqb, le-leb, lt-leb}
+use lib.Seq.{ext-getD, take-append-seam}
+use borrow.Author.Tests.{eqb-true, eqb-false, leb-true, leb-false, eq-eqb, ne-eqb}
 use Rattle.link_rules.specs.Network.{allBelow}
-use Rattle.link_rules.specs.Octets.{leAt}
-use Rattle.link_rules.proofs.OctetLaws.{Bytes}
+use Rattle.link_rules.specs.Octets.{leAt, putBytes, putWhole}
+use Rattle.link_rules.proofs.OctetLaws.{Bytes, put-none, put-some}
 use Rattle.image.proofs.Writers.{side}
-use Rattle.link_rules.proofs.TableLaws.{all-at}
-use Rattle.image_fault.proofs.ScanLaws.{both}
-use Rattle.yard_check.specs.Bytes.{putBytes, putWhole, sameBytes}
+use Rattle.link_rules.proofs.TableLaws.{all-at, both}
+use Rattle.yard_check.specs.Bytes.{sameBytes}
 use Rattle.yard_check.specs.Check.{slotSet, isSeen}
 use Rattle.yard_check.specs.Checks.{NextTurn}
 use Rattle.yard_check.specs.declared.check.Counts.{Counts}
@@ -136,23 +135,7 @@ set-room y seen t k =
 pub shifted : (t : ℕ) → t < 64 → 1 * 2 ^ t % 2 ^ 64 ≡ 2 ^ t
 shifted t h = shl-exact {a = 1} 1 t 64 (omega arith) (omega arith) ∙ omega arith
 
--- ---- bytes put into a buffer
-
-module _ (k : ℕ) (xs r : List ℕ) where
-  pub put-none : length r < k + length xs → putWhole k xs r ≡ r
-  unfolding putWhole
-  put-none h = ap (λ (b : Bool). cond b (putBytes k xs r) r) (lt-leb (k + length xs) (length r) h)
-
-  pub put-some : k + length xs ≤ length r → putWhole k xs r ≡ putBytes k xs r
-  unfolding putWhole
-  put-some h = ap (λ (b : Bool). cond b (putBytes k xs r) r) (le-leb (k + length xs) (length r) h)
-
--- all of a buffer
-pub put-all : (xs r : List ℕ) → length xs ≡ length r → putWhole 0 xs r ≡ xs
-unfolding putBytes
-put-all xs r e =
-    let k : 0 + length xs ≡ length r = omega (arith, e) in
-    put-some 0 xs r (omega (arith, e)) ∙ (ap (λ (n : ℕ). xs ++ drop n r) k ∙ (ap (λ (ys : List ℕ). xs ++ ys) (drop-length r) ∙ append-nil xs))
+-- ---- the copy of an image in the room
 
 -- the copy at the front of the room, compared with an image as long
 pub seen-in-room : (room img img′ : List ℕ) → length img′ ≡ length img

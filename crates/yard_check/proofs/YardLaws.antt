@@ -2,25 +2,38 @@
 use mathlib.Core.Path.{_≡_, refl, sym, ap, subst, _∙_}
 use mathlib.Core.Logic.{⊎-elim}
 use mathlib.Core.Bool.{Bool, true, false, cond}
-use mathlib.Core.List.{List}
+use mathlib.Core.List.{List, []}
 use Prim.Native.Nat.{ℕ, zero, suc, _+_, _*_, _-_, _≤_, _<_}
 use native.Mathlib.Nat.{eq-or-lt-of-le}
 use native.Mathlib.Omega.{arith}
 use lib.Dec.{ltb, leb, eqb}
 use lib.ListN.{length, getD, take, drop, length-drop, List·getD-eq-default}
 use lib.Seq.{getD-take, getD-drop, ext-getD, length-take-le}
-use borrow.Author.Tests.{eqb-true, leb-true, ltb-true, lt-ltb, le-ltb}
+use borrow.Author.Tests.{eqb-true, leb-true, ltb-true, lt-ltb, le-ltb, le-leb, lt-leb}
 use Rattle.link_rules.specs.Octets.{leAt}
 use Rattle.link_rules.specs.Network.{allBelow}
 use Rattle.link_rules.proofs.OctetLaws.{Bytes, le-cong}
-use Rattle.link_rules.proofs.TableLaws.{all-at}
+use Rattle.link_rules.proofs.TableLaws.{all-at, both}
 use Rattle.image.proofs.Writers.{side}
-use Rattle.image_fault.proofs.ScanLaws.{both}
 use Rattle.image_fault.proofs.MatchLaws.{all-same}
-use Rattle.yard_check.specs.Yard.{yardSize, slotCount, partBegin, partEnd, partOf, withPart, partFits, yardFits}
+use Rattle.yard_check.specs.Yard.{yardSize, slotCount, partBegin, partEnd, partOf, imageIn, withPart, partFits, yardFits}
 use Rattle.yard_check.specs.Check.{yardAfter}
 use Rattle.yard_check.specs.Checks.{Lies}
 use Rattle.yard_check.proofs.PatchLaws.{le-moved, patched, patch-length, patch-low, patch-mid, patch-high, patch-bytes}
+
+-- ---- the image in a slot
+
+pub image-low : (yard : List ℕ) (slot : ℕ) → slot < 1 → imageIn yard slot ≡ []
+unfolding imageIn
+image-low yard slot h = rw (lt-leb 1 slot h)
+
+pub image-high : (yard : List ℕ) (slot : ℕ) → slotCount yard < slot → imageIn yard slot ≡ []
+unfolding imageIn
+image-high yard slot h = rw (lt-leb slot (slotCount yard) h, le-leb 1 slot (omega arith))
+
+pub image-is : (yard : List ℕ) (slot : ℕ) → 1 ≤ slot → slot ≤ slotCount yard → imageIn yard slot ≡ partOf yard slot
+unfolding imageIn
+image-is yard slot h k = rw (le-leb 1 slot h, le-leb slot (slotCount yard) k)
 
 -- ---- what 14 says
 

@@ -106,7 +106,7 @@ unfoldable pub reportFault : (wide : Bool) → ℕ → ℕ → Refusal
 reportFault wide slots long = cond (eqb long (rowSize wide * slots)) noRefusal (refused 16 0)
 
 -- long is the length of the report
-unfoldable pub checkFault : List ℕ → List ℕ → CheckArgs → ℕ → Refusal
+unfoldable pub checkFault : (yard occ : List ℕ) (a : CheckArgs) (long : ℕ) → Refusal
 checkFault yard occ a long =
     orElse (callFault occ (a .blocking) (a .moved) (a .limit))
     (orElse (yardFault yard)
@@ -143,7 +143,7 @@ abbrev pub refusedRow : Refusal → ℕ → ℕ → Row
 refusedRow f rounds strays = record { code = 16 + f .number; place = f .place; rounds = rounds; holder = 0; strays = strays; faults = 0; met = 0 }
 
 -- holder (document 02, Q-3): the train by which a slot is blocked, else 0
-abbrev pub statusRow : Status → ℕ → ℕ → ℕ → Row
+abbrev pub statusRow : (status : Status) (rounds strays met : ℕ) → Row
 statusRow Success rounds strays met = record { code = 3; place = 0; rounds = rounds; holder = 0; strays = strays; faults = 0; met = met }
 statusRow (Blocked holder) rounds strays met = record { code = 4; place = 0; rounds = rounds; holder = holder .0; strays = strays; faults = 0; met = met }
 statusRow (Faulty n) rounds strays met = record { code = 5; place = 0; rounds = rounds; holder = 0; strays = strays; faults = n; met = met }
@@ -231,23 +231,23 @@ visitBy zero f false true u img = visit movedRow img
 visitBy zero f false false u img = visit (updatedRow (u .answer)) (u .image)
 
 -- of slot t with this image
-unfoldable pub visited : List ℕ → CheckArgs → ℕ → List ℕ → Visit
+unfoldable pub visited : (occ : List ℕ) (a : CheckArgs) (t : ℕ) (img : List ℕ) → Visit
 visited occ a t img =
     let f = faultWith (a .widths) noRefusal img (length occ) in
     let u = updatedImageIn (a .widths) img occ (a .blocking) (a .moved) (a .local) (a .limit) in
     visitBy (f .number) f (isFinished img) (eqb t (a .moved)) u img
 
 -- slots below begin are not visited
-unfoldable pub slotVisit : List ℕ → List ℕ → CheckArgs → ℕ → Visit
+unfoldable pub slotVisit : (yard occ : List ℕ) (a : CheckArgs) (t : ℕ) → Visit
 slotVisit yard occ a t =
     let img = partOf yard t in
     let v = visited occ a t img in
     cond (ltb t (a .begin)) (visit unvisitedRow img) v
 
-abbrev pub slotRow : List ℕ → List ℕ → CheckArgs → ℕ → Row
+abbrev pub slotRow : (yard occ : List ℕ) (a : CheckArgs) (t : ℕ) → Row
 slotRow yard occ a t = slotVisit yard occ a t .row
 
-abbrev pub slotImage : List ℕ → List ℕ → CheckArgs → ℕ → List ℕ
+abbrev pub slotImage : (yard occ : List ℕ) (a : CheckArgs) (t : ℕ) → List ℕ
 slotImage yard occ a t = slotVisit yard occ a t .image
 
 -- ---- all slots, from the image and the row of each
@@ -301,7 +301,7 @@ checkOver wide yard images rows begin report =
     check (answerOf rows slots begin) (yardAfter yard images slots) (reportAfter wide rows report slots)
 
 -- from the visits
-abbrev pub checkDone : List ℕ → List ℕ → CheckArgs → List ℕ → Checked
+abbrev pub checkDone : (yard occ : List ℕ) (a : CheckArgs) (report : List ℕ) → Checked
 checkDone yard occ a report = checkOver (wideRows (a .widths) yard) yard (slotImage yard occ a) (slotRow yard occ a) (a .begin) report
 
 -- by the number of the refusal f, which leaves the yard and the report
@@ -309,22 +309,22 @@ abbrev pub checkedBy : ℕ → Refusal → Checked → List ℕ → List ℕ →
 checkedBy zero f done yard report = done
 checkedBy (suc n) f done yard report = check (Refused f) yard report
 
-unfoldable pub checkedWith : List ℕ → List ℕ → CheckArgs → List ℕ → Checked
+unfoldable pub checkedWith : (yard occ : List ℕ) (a : CheckArgs) (report : List ℕ) → Checked
 checkedWith yard occ a report =
     let f = checkFault yard occ a (length report) in
     let done = checkDone yard occ a report in
     checkedBy (f .number) f done yard report
 
 -- the widths, the yard, the occupancy, the blocking list, the moved train, begin, local, the round limit, the report
-abbrev pub checkedIn : Widths → List ℕ → List ℕ → List ℕ → ℕ → ℕ → Bool → ℕ → List ℕ → Checked
+abbrev pub checkedIn : (w : Widths) (yard occ blocking : List ℕ) (moved begin : ℕ) (local : Bool) (limit : ℕ) (report : List ℕ) → Checked
 checkedIn w yard occ blocking moved begin local limit report =
     checkedWith yard occ (record { widths = w; blocking = blocking; moved = moved; begin = begin; local = local; limit = limit }) report
 
 -- over an occupancy of u16 entries (document 01), and over one of u32 entries (document 02, Q-6)
-abbrev pub checked : List ℕ → List ℕ → List ℕ → ℕ → ℕ → Bool → ℕ → List ℕ → Checked
+abbrev pub checked : (yard occ blocking : List ℕ) (moved begin : ℕ) (local : Bool) (limit : ℕ) (report : List ℕ) → Checked
 checked yard occ blocking moved begin local limit report = checkedIn Narrow yard occ blocking moved begin local limit report
 
-abbrev pub checkedWide : List ℕ → List ℕ → List ℕ → ℕ → ℕ → Bool → ℕ → List ℕ → Checked
+abbrev pub checkedWide : (yard occ blocking : List ℕ) (moved begin : ℕ) (local : Bool) (limit : ℕ) (report : List ℕ) → Checked
 checkedWide yard occ blocking moved begin local limit report = checkedIn Either yard occ blocking moved begin local limit report
 
 -- ---- which images a check changed (document 02, Q-10)

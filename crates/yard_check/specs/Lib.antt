@@ -6,5 +6,3 @@ pub mod Pair
 pub mod YardMatch
 pub mod Calls
 pub mod DemandThree
-pub mod Sheet
-pub mod Sheets

@@ -69,11 +69,11 @@ pub record PairChecked : Type 0 where
   pub second : List ℕ
   pub report : List ℕ
 
-abbrev pub pairOf : Answer → List ℕ → List ℕ → List ℕ → PairChecked
+abbrev pub pairOf : (answer : Answer) (yard second report : List ℕ) → PairChecked
 pairOf answer yard second report = record { answer = answer; yard = yard; second = second; report = report }
 
 -- of the first yard the slots behind the first count get an image
-abbrev pub laterImage : List ℕ → ℕ → List ℕ → CheckArgs → ℕ → List ℕ
+abbrev pub laterImage : (yard : List ℕ) (count : ℕ) (occ : List ℕ) (a : CheckArgs) (t : ℕ) → List ℕ
 laterImage yard count occ a t = cond (ltb count t) (slotImage yard occ a t) (partOf yard t)
 
 -- a check that is not refused
@@ -95,5 +95,5 @@ pairChecked yard second count occ a report =
     pairBy (f .number) f done yard second report
 
 -- as the code gives it
-abbrev pub pairCheckedOf : Code.Answer → List ℕ → List ℕ → List ℕ → PairChecked
+abbrev pub pairCheckedOf : (x : Code.Answer) (yard second report : List ℕ) → PairChecked
 pairCheckedOf x yard second report = pairOf (answeredOf x) yard second report

@@ -1,7 +1,7 @@
 -- The yard (document 01, Layouts): u32 size, u32 S, S u32 offsets, then the images; slot t (1 to S) holds train t. Refusal 14. Assumes nothing.
 use Prim.Native.Nat.{ℕ, _+_, _*_, _-_, min, max}
 use mathlib.Core.Bool.{Bool, cond, _&&_}
-use mathlib.Core.List.{List, _++_}
+use mathlib.Core.List.{List, [], _++_}
 use lib.Dec.{ltb, leb, eqb}
 use lib.ListN.{length, take, drop}
 use Rattle.link_rules.specs.Octets.{leAt}
@@ -29,6 +29,10 @@ partEnd yard t = cond (ltb t (slotCount yard)) (partBegin yard (t + 1)) (length 
 unfoldable pub partOf : List ℕ → ℕ → List ℕ
 partOf yard t = take (partEnd yard t - partBegin yard t) (drop (partBegin yard t) yard)
 
+-- empty where the yard has no such slot, and none has slot 0
+unfoldable pub imageIn : (yard : List ℕ) (slot : ℕ) → List ℕ
+imageIn yard slot = cond (leb 1 slot && leb slot (slotCount yard)) (partOf yard slot) []
+
 -- where the part lies within the yard, whatever the offsets are
 unfoldable pub partFrom : List ℕ → ℕ → ℕ
 partFrom yard t = min (partBegin yard t) (length yard)
@@ -37,7 +41,7 @@ unfoldable pub partUntil : List ℕ → ℕ → ℕ
 partUntil yard t = max (partFrom yard t) (min (partEnd yard t) (length yard))
 
 -- the yard with another image in slot t
-unfoldable pub withPart : List ℕ → ℕ → List ℕ → List ℕ
+unfoldable pub withPart : (yard : List ℕ) (t : ℕ) (img : List ℕ) → List ℕ
 withPart yard t img = take (partBegin yard t) yard ++ (img ++ drop (partEnd yard t) yard)
 
 -- ---- 14: bad yard header, a part below 64 bytes, or wrong slot train

@@ -1,36 +1,10 @@
-// Bytes put into a buffer, and bytes compared.
+// Bytes compared.
 use link_rules::octets;
 ghost use mathlib.Core.Path.{_≡_};
 ghost use mathlib.Core.Bool.{not, _&&_};
 ghost use lib.Dec.{leb};
 ghost use lib.ListN.{length, take};
-ghost use Rattle.yard_check.specs.Bytes.{putWhole, sameBytes};
-
-// Bytes into a buffer of their length.
-fn copy(to: &mut [u8], from: &[u8])
-    requires { ⌜ length (now to) ≡ length (now from) ⌝ }
-    ensures { λ _. ⌜ now (to .exit) ≡ now (from .entry) ⌝ }
-{
-    let mut i = 0;
-    while i < to.len() {
-        to[i] = from[i];
-        i += 1;
-    }
-}
-
-// From k on; nothing where they don't all find room.
-pub fn put_bytes(to: &mut [u8], k: usize, from: &[u8])
-    ensures { λ _. ⌜ now (to .exit) ≡ putWhole k (now (from .entry)) (now (to .entry)) ⌝ }
-{
-    if to.len() < k {
-        return;
-    }
-    if to.len() - k < from.len() {
-        return;
-    }
-    let e = k + from.len();
-    copy(&mut to[k..e], from)
-}
+ghost use Rattle.yard_check.specs.Bytes.{sameBytes};
 
 // Of slices of one length, eight bytes at a time; behind the end both read as 0.
 fn same_words(a: &[u8], b: &[u8]) -> bool

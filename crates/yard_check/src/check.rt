@@ -394,7 +394,7 @@ fn seen_visit(
     ensures { λ r. ⌜ (Check.visit (rowOf (r .row)) (now (img .exit)) ≡ Check.visited (now (occ .entry)) (argsOf w (now (blocking .entry)) a) t (now (img .entry)))
         × (r .changed ≡ Check.isSeen (length (now (room .entry))) (now (img .entry)) (now (img .exit))) ⌝ }
 {
-    bytes::put_bytes(room, 0, img);
+    octets::put_bytes(room, 0, img);
     let r = visit(img, w, occ, blocking, a, t);
     Seen {
         row: r,

@@ -4,7 +4,7 @@ use link_rules::octets;
 ghost use mathlib.Core.Path.{_≡_};
 ghost use Prim.Native.Nat.{_+_};
 ghost use Rattle.link_rules.specs.Network.{allBelow};
-ghost use Rattle.yard_check.specs.Yard.{slotCount, partBegin, partEnd, partFrom, partUntil, partOf, partFits, yardFits};
+ghost use Rattle.yard_check.specs.Yard.{slotCount, partBegin, partEnd, partFrom, partUntil, partOf, imageIn, partFits, yardFits};
 
 // S, how many slots the yard has.
 pub fn slot_count(yard: &[u8]) -> u32
@@ -64,6 +64,19 @@ pub fn part(yard: &[u8], t: TrainIdx) -> &[u8]
     let a = part_from(yard, slot);
     let e = part_until(yard, slot);
     &yard[a..e]
+}
+
+// None where the yard has no such slot.
+pub fn image_in(yard: &[u8], slot: TrainIdx) -> &[u8]
+    ensures { λ r. ⌜ now r ≡ imageIn (now (yard .entry)) (slot .0) ⌝ }
+{
+    if slot.0 < 1 {
+        return &yard[0..0];
+    }
+    if slot_count(yard) < slot.0 {
+        return &yard[0..0];
+    }
+    part(yard, slot)
 }
 
 // ---- 14: bad yard header, a part below 64 bytes, or wrong slot train

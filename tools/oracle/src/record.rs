@@ -2,6 +2,7 @@
 //! panic site, each branch and each boundary stands in it. The same seed gives the same list.
 
 use crate::calls::*;
+use crate::carry_calls;
 use crate::cases::*;
 use crate::gen::*;
 use crate::hook;
@@ -30,6 +31,8 @@ pub const LEAF: u32 = 90;
 pub const LISTED: u32 = 100;
 pub const TAKEN_BACK: u32 = 110;
 pub const INDEXED: u32 = 120;
+pub const BESIDE: u32 = 130;
+pub const CARRIED: u32 = 140;
 
 /// Keeps the smallest cases for each key.
 struct Chooser {
@@ -740,6 +743,30 @@ fn indexes(rng: &mut Rng) -> Vec<Case> {
     cases
 }
 
+/// Of random calls, among them those of the operations: the smallest for each operation and answer, and some as they come.
+fn among(rng: &mut Rng, ops: &[u32], tag: u32, make: fn(&mut Rng) -> Case) -> Vec<Case> {
+    let (mut chooser, mut some) = (Chooser::new(1), vec![]);
+    for i in 0..4_000 {
+        let c = make(rng).answered();
+        if ops.contains(&c.op) {
+            chooser.offer(format!("{:?}", (c.op, c.answer[0], c.answer[1], c.answer[4])), &c);
+            if i % 200 == 0 {
+                some.push(c);
+            }
+        }
+    }
+    chooser.cases(tag).chain(some).collect()
+}
+
+const BESIDE_OPS: [u32; 6] = [
+    INDEXED_CHECK,
+    WIDE_INDEXED_CHECK,
+    RECORDED_INDEXED_CHECK,
+    WIDE_RECORDED_INDEXED_CHECK,
+    INDEXED_LAY_OUT,
+    INDEXED_UNDO,
+];
+
 pub fn recorded(seed: u64) -> Vec<Case> {
     let mut rng = Rng::new(seed);
     let rng = &mut rng;
@@ -768,6 +795,8 @@ pub fn recorded(seed: u64) -> Vec<Case> {
     list.extend(tag(lists(rng), LISTED));
     list.extend(tag(taken_back(rng), TAKEN_BACK));
     list.extend(tag(indexes(rng), INDEXED));
+    list.extend(tag(among(rng, &BESIDE_OPS, BESIDE, index_calls::any), BESIDE));
+    list.extend(tag(among(rng, &[CARRY, HALF_CHECK], CARRIED, carry_calls::any), CARRIED));
     let mut seen = BTreeSet::new();
     list.retain(|c| seen.insert((c.op, c.args, c.ins.clone())));
     list.into_iter().map(Case::answered).collect()

@@ -1,7 +1,7 @@
 use mathlib.Core.Path.{sym, _∙_}
 use denote.Ref.{now}
 use lib.Seq.{length-take-le}
-use Rattle.yard_check.proofs.BundleLaws.{parts}
+use Rattle.sheet_text.proofs.BundleLaws.{parts}
 use Rattle.bundle_check.proofs.PlaceLaws.{room-occupancy, room-blocking}
 use borrow.Author.Needs.{needs}
 use Rattle.bundle_check.proofs.check_fitting.Statement.{statement}

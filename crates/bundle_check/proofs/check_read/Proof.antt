@@ -3,7 +3,7 @@ use Prim.Native.Nat.{ℕ, _+_, _*_}
 use denote.Ref.{now}
 use Rattle.link_rules.specs.Octets.{leAt}
 use Rattle.disp_structs.specs.Listed.{listed}
-use Rattle.yard_check.specs.Sheet.{blockingOffset}
+use Rattle.sheet_text.specs.Sheet.{blockingOffset}
 use Rattle.bundle_check.proofs.PlaceLaws.{in-bundle}
 use borrow.Author.Needs.{needs}
 use Rattle.bundle_check.proofs.check_read.Statement.{statement}

@@ -5,7 +5,7 @@ use native.Mathlib.Omega.{arith}
 use denote.Ref.{now}
 use lib.ListN.{length, take, drop}
 use Rattle.yard_check.specs.Check.{rowSize}
-use Rattle.yard_check.proofs.BundleLaws.{report-few}
+use Rattle.sheet_text.proofs.BundleLaws.{report-few}
 use Rattle.bundle_check.proofs.PlaceLaws.{report-none, report-from}
 use borrow.Author.Needs.{needs}
 use Rattle.bundle_check.proofs.report_length.Statement.{statement}

@@ -4,7 +4,7 @@ use Prim.Native.Nat.{ℕ}
 use Rattle.link_rules.specs.AdvanceRewind.{marked, markedBy, updateLinksBlocked}
 use Rattle.link_rules.specs.declared.refusal.Answer.the-variants.{Done}
 use Rattle.link_rules.proofs.MarkLaws.{refused-by}
-use Rattle.candidate.specs.Candidate.{trainOf, actOf}
+use Rattle.candidate.specs.Candidate.{trainGiven, actOf}
 use borrow.Author.Needs.{needs}
 use Rattle.candidate.proofs.act.Statement.{statement}
 use Rattle.candidate.proofs.act.Tie as tie
@@ -19,7 +19,7 @@ returns : tie.Need-returns
 unfolding actOf
 returns c =
     let a = c .before .before .before .before .before .before .args in
-    let after = updateLinksBlocked (now (a .table)) (now (a .occupancy)) (a .link) (trainOf (a .slot) (a .marks)) in
+    let after = updateLinksBlocked (now (a .table)) (now (a .occupancy)) (a .link) (trainGiven (a .slot) (a .marks)) in
     sym (refused-by (c .before .act-refusal .result) (now (a .occupancy)) after (c .if1 .taken))
     ∙ ap (λ (n : ℕ). markedBy n (now (a .occupancy)) after) (c .before .act-refusal .ensures)
 
@@ -36,7 +36,7 @@ returns-2 : tie.Need-returns-2
 unfolding actOf
 returns-2 c =
     let a = c .before .before .before .before .before .before .before .before .before .before .before .args in
-    let after = updateLinksBlocked (now (a .table)) (now (a .occupancy)) (a .link) (trainOf (a .slot) (a .marks)) in
+    let after = updateLinksBlocked (now (a .table)) (now (a .occupancy)) (a .link) (trainGiven (a .slot) (a .marks)) in
     ap (marked Done) (c .before .before .update-links-blocked .ensures ∙ ap (updateLinksBlocked (now (a .table)) (now (a .occupancy)) (a .link)) (c .before .before .before .train-of .ensures))
     ∙ ap (λ (n : ℕ). markedBy n (now (a .occupancy)) after) (sym (c .before .before .before .before .before .if1 .left) ∙ c .before .before .before .before .before .before .act-refusal .ensures)
 

@@ -5,7 +5,7 @@ use denote.Ref.{now}
 use lib.ListN.{length, take, length-set}
 use Rattle.link_rules.specs.Octets.{leAt}
 use Rattle.disp_structs.specs.Listed.{listed}
-use Rattle.yard_check.proofs.BundleLaws.{fill-turn, fill-end, fill-none}
+use Rattle.sheet_text.proofs.BundleLaws.{fill-turn, fill-end, fill-none}
 use Rattle.sitting.proofs.read_links.Statement.{statement}
 use Rattle.sitting.proofs.read_links.Tie as tie
 

@@ -3,7 +3,7 @@ use mathlib.Core.Path.{ap}
 use Prim.Native.Nat.{ℕ, _*_}
 use native.Mathlib.Omega.{arith}
 use Rattle.yard_check.specs.Check.{rowSize}
-use Rattle.yard_check.proofs.BundleLaws.{report-few}
+use Rattle.sheet_text.proofs.BundleLaws.{report-few}
 use denote.Ref.{now}
 use borrow.Author.Needs.{needs}
 use Rattle.sitting.proofs.report_length.Statement.{statement}

@@ -4,7 +4,7 @@ use native.Mathlib.Omega.{arith}
 use denote.Ref.{now}
 use lib.ListN.{length, take, drop, length-drop}
 use lib.Seq.{length-take-le}
-use Rattle.yard_check.proofs.SeenLaws.{put-all}
+use Rattle.link_rules.proofs.OctetLaws.{put-all}
 use Rattle.link_rules.specs.declared.refusal.Answer.the-variants as TakenBack
 use Rattle.undo.specs.Undo.{oldYard, undoing}
 use Rattle.undo.proofs.UndoLaws.{undo-fits, undo-done, undo-refused}

@@ -2,6 +2,7 @@ use mathlib.Core.Path.{sym, ap, subst, _∙_}
 use mathlib.Core.List.{List}
 use Prim.Native.Nat.{ℕ}
 use denote.Ref.{now}
+use Rattle.link_rules.proofs.OctetLaws.{put-all}
 use Rattle.image.specs.Codec.{decoded}
 use Rattle.update_definition.specs.Update.{Updated}
 use Rattle.update_definition.specs.UpdateImage.{storedAnswer}
@@ -11,22 +12,24 @@ use borrow.Author.Needs.{needs}
 use Rattle.update_free_path.proofs.update_in.Statement.{statement}
 use Rattle.update_free_path.proofs.update_in.Tie as tie
 
-copy-image-requires : tie.Need-copy-image-requires
-copy-image-requires c κs = search needs
+put-bytes-requires : tie.Need-put-bytes-requires
+put-bytes-requires c κs = search needs
 
 run-requires : tie.Need-run-requires
 run-requires c κs =
     let a = c .before .before .before .before .before .before .before .before .before .before .before .before .before .before .before .before .before .before .before .before .before .before .args in
     let p = c .before .before .before .before .before .before .before .before .before .before .before .before .before .before .before .before .before .before .before .before .before .before .pre in
-    let k = c .before .before .before .before .before .before .before .before .before .copy-image in
-    (subst (λ (img : List ℕ). UpdateBegins img (now (a .occ)) (a .h)) (sym (k .ensures)) (p .0), subst (λ (img : List ℕ). Space img (now (a .occ)) (now (a .col)) (now (a .on)) (now (a .flags)) (now (a .known)) (now (a .dt)) (now (a .dn))) (sym (k .ensures)) (p .2))
+    let k = c .before .before .before .before .before .before .before .before .before .put-bytes in
+    let copied = k .ensures ∙ put-all (now (a .image)) (now (a .scratch)) (sym (c .before .before .before .before .before .before .before .before .before .before .before .before .before .before .before .before .before .before .before .before .before .before .pre .1)) in
+    (subst (λ (img : List ℕ). UpdateBegins img (now (a .occ)) (a .h)) (sym copied) (p .0), subst (λ (img : List ℕ). Space img (now (a .occ)) (now (a .col)) (now (a .on)) (now (a .flags)) (now (a .known)) (now (a .dt)) (now (a .dn))) (sym copied) (p .2))
 
 answered-requires : tie.Need-answered-requires
 answered-requires c κs =
     let a = c .before .before .before .before .before .before .before .before .before .before .before .before .before .before .before .before .before .before .before .before .before .before .before .before .before .before .before .before .before .before .before .before .before .before .before .before .before .before .before .before .before .args in
-    let k = c .before .before .before .before .before .before .before .before .before .before .before .before .before .before .before .before .before .before .before .before .before .before .before .before .before .before .before .before .copy-image in
+    let k = c .before .before .before .before .before .before .before .before .before .before .before .before .before .before .before .before .before .before .before .before .before .before .before .before .before .before .before .before .put-bytes in
+    let copied = k .ensures ∙ put-all (now (a .image)) (now (a .scratch)) (sym (c .before .before .before .before .before .before .before .before .before .before .before .before .before .before .before .before .before .before .before .before .before .before .before .before .before .before .before .before .before .before .before .before .before .before .before .before .before .before .before .before .before .pre .1)) in
     let r = c .before .before .before .before .before .before .before .before .before .before .before .before .before .before .before .before .before .before .run in
-    (r .ensures .named, r .ensures .faultless, λ q. kept-sizes (r .last .0) (k .last .1 .0) (now (a .image)) (k .ensures) (r .ensures .kept q))
+    (r .ensures .named, r .ensures .faultless, λ q. kept-sizes (r .last .0) (k .last .0) (now (a .image)) copied (r .ensures .kept q))
 
 same-length : tie.Need-same-length
 same-length c = search needs
@@ -55,17 +58,18 @@ same-length-8 c = search needs
 returns : tie.Need-returns
 returns c =
     let a = c .before .before .before .before .before .before .before .before .before .before .before .before .before .before .before .before .before .before .before .before .before .before .before .before .before .before .before .before .before .before .before .before .before .before .before .before .before .before .before .before .before .before .before .before .args in
-    let k = c .before .before .before .before .before .before .before .before .before .before .before .before .before .before .before .before .before .before .before .before .before .before .before .before .before .before .before .before .before .before .before .copy-image in
+    let k = c .before .before .before .before .before .before .before .before .before .before .before .before .before .before .before .before .before .before .before .before .before .before .before .before .before .before .before .before .before .before .before .put-bytes in
+    let copied = k .ensures ∙ put-all (now (a .image)) (now (a .scratch)) (sym (c .before .before .before .before .before .before .before .before .before .before .before .before .before .before .before .before .before .before .before .before .before .before .before .before .before .before .before .before .before .before .before .before .before .before .before .before .before .before .before .before .before .before .before .before .pre .1)) in
     let r = c .before .before .before .before .before .before .before .before .before .before .before .before .before .before .before .before .before .before .before .before .before .run in
-    c .before .before .answered .ensures (decoded (k .last .1 .0))
+    c .before .before .answered .ensures (decoded (k .last .0))
     ∙ ap (λ (u : Updated). storedAnswer u (now (a .image))) (r .ensures .is)
-    ∙ ap (λ (img : List ℕ). storedAnswer (updateOf img (now (a .occ)) (now (a .blocking)) (a .o)) (now (a .image))) (k .ensures)
+    ∙ ap (λ (img : List ℕ). storedAnswer (updateOf img (now (a .occ)) (now (a .blocking)) (a .o)) (now (a .image))) copied
 
 pub update-in-spec : {M : Type 1} → statement M
 update-in-spec =
     tie.close
     (tie.spec
-    copy-image-requires
+    put-bytes-requires
     run-requires
     answered-requires
     same-length

@@ -14,8 +14,8 @@ u32s-requires c κs = search needs
 no-bytes-requires : tie.Need-no-bytes-requires
 no-bytes-requires c κs = search needs
 
-fourth-input-requires : tie.Need-fourth-input-requires
-fourth-input-requires c κs = search needs
+report-of-requires : tie.Need-report-of-requires
+report-of-requires c κs = search needs
 
 same-length : tie.Need-same-length
 same-length c = search needs
@@ -51,7 +51,7 @@ answer-by-spec =
     third-input-requires
     u32s-requires
     no-bytes-requires
-    fourth-input-requires
+    report-of-requires
     unread-requires
     same-length
     returns

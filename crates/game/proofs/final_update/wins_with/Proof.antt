@@ -5,6 +5,7 @@ use native.Mathlib.Omega.{arith}
 use lib.ListN.{length, getD, take, length-take}
 use denote.Ref.{now}
 use borrow.Author.Needs.{needs}
+use Rattle.link_rules.proofs.OctetLaws.{put-all}
 use Rattle.update_definition.specs.Update.{Status}
 use Rattle.update_definition.specs.UpdateImage.{UpdatedImage, updatedImageWide}
 use Rattle.game.specs.Game.{isBlocked, heldBy, closerWins, finalStatus}
@@ -13,8 +14,8 @@ use Rattle.game.proofs.PositionLaws.{links-below, closed-in}
 use Rattle.game.proofs.final_update.wins_with.Statement.{statement}
 use Rattle.game.proofs.final_update.wins_with.Tie as tie
 
-copy-bytes-requires : tie.Need-copy-bytes-requires
-copy-bytes-requires c κs = search needs
+put-bytes-requires : tie.Need-put-bytes-requires
+put-bytes-requires c κs = search needs
 
 copy-entries-requires : tie.Need-copy-entries-requires
 copy-entries-requires c κs = search needs
@@ -54,13 +55,13 @@ returns c =
     let u = c .before .before .before .update-wide in
     let p = c .before .before .before .before .before .before .before .before .before .place in
     let w = c .before .before .before .before .before .before .before .before .before .before .before .before .before .before .before .copy-entries in
-    let m = c .before .before .before .before .before .before .before .before .before .before .before .before .before .before .before .before .before .before .before .copy-bytes in
+    let m = c .before .before .before .before .before .before .before .before .before .before .before .before .before .before .before .before .before .before .before .put-bytes in
     let g = gameOf (now (a .image)) (now (a .occ)) (a .o) (now (a .links)) in
     let links = now (a .links) in
     let ends : List ℕ → List ℕ → List ℕ → Status = λ img occ blocking. updatedImageWide img occ blocking (a .o .moved .0) (a .o .local) (a .o .limit) .answer .status in
     c .is-blocked .ensures
     ∙ ap isBlocked (ap (λ (x : UpdatedImage). x .answer .status) (u .ensures)
-    ∙ ap (λ (z : List ℕ). ends z (p .last .1 .1 .1 .0) (take (p .result) (p .last .1 .1 .1 .1 .0))) (m .ensures)
+    ∙ ap (λ (z : List ℕ). ends z (p .last .1 .1 .1 .0) (take (p .result) (p .last .1 .1 .1 .1 .0))) (m .ensures ∙ put-all (now (a .image)) (now (a .img)) (omega (arith, s .pre)))
     ∙ ap (λ (z : List ℕ). ends (now (a .image)) z (take (p .result) (p .last .1 .1 .1 .1 .0))) (p .ensures .0 .held)
     ∙ ap (λ (z : List ℕ). ends (now (a .image)) (heldBy (a .o .moved .0) (linksIn links (a .c)) z) (take (p .result) (p .last .1 .1 .1 .1 .0))) (w .ensures)
     ∙ ap (λ (z : List ℕ). ends (now (a .image)) (heldBy (a .o .moved .0) (linksIn links (a .c)) (now (a .occ))) z) (p .ensures .0 .listed)
@@ -70,7 +71,7 @@ pub wins-with-spec : {M : Type 1} → statement M
 wins-with-spec =
     tie.close
     (tie.spec
-    copy-bytes-requires
+    put-bytes-requires
     copy-entries-requires
     place-requires
     array-share-prefix-blocking

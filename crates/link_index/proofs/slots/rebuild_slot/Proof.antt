@@ -11,8 +11,8 @@ use Rattle.link_index.proofs.slots.rebuild_slot.Tie as tie
 has-bit-requires : tie.Need-has-bit-requires
 has-bit-requires c κs = search needs
 
-slot-image-requires : tie.Need-slot-image-requires
-slot-image-requires c κs = search needs
+image-in-requires : tie.Need-image-in-requires
+image-in-requires c κs = search needs
 
 build-slot-requires : tie.Need-build-slot-requires
 build-slot-requires c κs = search needs
@@ -23,7 +23,7 @@ same-length c = search needs
 returns : tie.Need-returns
 returns c =
     let a = c .before .before .before .before .before .before .before .before .before .args in
-    c .before .before .build-slot .ensures ∙ (ap (λ (img : List ℕ). slotBuilt img (a .t) (now (a .index))) (c .before .before .before .before .slot-image .ensures)
+    c .before .before .build-slot .ensures ∙ (ap (λ (img : List ℕ). slotBuilt img (a .t) (now (a .index))) (c .before .before .before .before .image-in .ensures)
     ∙ sym (ap (λ (b : Bool). slotRebuilt b (now (a .yard)) (a .t) (now (a .index))) (sym (c .before .before .before .before .before .before .has-bit .ensures) ∙ c .before .before .before .before .before .if1 .taken)))
 
 returns-2 : tie.Need-returns-2
@@ -34,7 +34,7 @@ rebuild-slot-spec =
     tie.close
     (tie.spec
     has-bit-requires
-    slot-image-requires
+    image-in-requires
     build-slot-requires
     same-length
     returns

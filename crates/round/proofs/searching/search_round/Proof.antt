@@ -22,7 +22,8 @@ use Rattle.search.specs.declared.look.Here.{Here}
 use Rattle.search.specs.Effects.{leaves, effectOf, turnOf}
 use Rattle.search.proofs.TurnLaws.{turn-done}
 use Rattle.search.specs.Runs.{endOf, Ran}
-use Rattle.splice.specs.Read.{trainOf, Stands, Joins, Changes}
+use Rattle.splice.specs.Read.{Stands, Joins, Changes}
+use Rattle.update_definition.specs.ImageTrain.{trainOf}
 use Rattle.splice.proofs.NodeLaws.{kept-count}
 use Rattle.round.specs.Rounds.{Room}
 use Rattle.round.proofs.FitLaws.{train-is, reached-small, join-fits, change-fits}

@@ -6,7 +6,7 @@ use lib.ListN.{length, length-replicate}
 use Rattle.update_definition.specs.State as State
 use Rattle.search.specs.Read.{roundOf}
 use Rattle.search.specs.Runs.{SearchBegins}
-use Rattle.splice.specs.Read.{trainOf}
+use Rattle.update_definition.specs.ImageTrain.{trainOf}
 use Rattle.round.proofs.StartLaws.{zeroed-same}
 use borrow.Author.Needs.{needs}
 use Rattle.round.proofs.searching.search_small.Statement.{statement}

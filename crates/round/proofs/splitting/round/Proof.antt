@@ -3,7 +3,7 @@ use mathlib.Core.Path.{refl, ap, _∙_}
 use mathlib.Core.List.{[]}
 use native.Mathlib.Omega.{arith}
 use Rattle.est_times.proofs.Counting.{clash}
-use Rattle.splice.specs.Read.{trainOf}
+use Rattle.update_definition.specs.ImageTrain.{trainOf}
 use Rattle.round.specs.Rounds.{isAtEnd}
 use Rattle.round.specs.declared.RoundEnd.{RoundEnd}
 use Rattle.round.proofs.RoundLaws.{sentinels-refused, sentinels-steps, sentinels-met, round-met, split-met, split-refused, split-steps, round-end, end-steps, round-on, on-steps, split-first}

@@ -4,7 +4,8 @@ use Prim.Native.Nat.{ℕ}
 use Rattle.free_path.specs.Base.{ok}
 use Rattle.free_path.specs.Columns.{answer}
 use Rattle.update_definition.specs.Update.{savePoint}
-use Rattle.search.specs.Read.{divsOf, pathOf}
+use Rattle.search.specs.Read.{divsOf}
+use Rattle.image.specs.Image.{pathOf}
 use Rattle.round_start.specs.Start.{dividedAt}
 use Rattle.round.specs.Rounds.{isAtEnd}
 use Rattle.round.specs.declared.RoundEnd.{RoundEnd}

@@ -3,7 +3,7 @@ use denote.Ref.{now}
 use mathlib.Core.Bool.{not}
 use Rattle.free_path.specs.LinkOptType.{linksOnPath, contains}
 use Rattle.update_definition.specs.Update.{apart}
-use Rattle.search.specs.Read.{pathOf}
+use Rattle.image.specs.Image.{pathOf}
 use borrow.Author.Needs.{needs}
 use Rattle.round_start.proofs.path.is_apart.Statement.{statement}
 use Rattle.round_start.proofs.path.is_apart.Tie as tie

@@ -3,9 +3,8 @@ use denote.Ref.{now}
 use Prim.Native.Nat.{_-_}
 use native.Mathlib.Omega.{arith}
 use lib.ListN.{drop}
-use Rattle.image.specs.Image.{nodeAt}
+use Rattle.image.specs.Image.{nodeAt, pathOf}
 use Rattle.free_path.specs.LinkOptType.{linksOnPath, contains}
-use Rattle.search.specs.Read.{pathOf}
 use Rattle.round_start.proofs.PathLaws.{has-link, has-turn, has-end}
 use borrow.Author.Needs.{needs}
 use Rattle.round_start.proofs.path.on_path.Statement.{statement}

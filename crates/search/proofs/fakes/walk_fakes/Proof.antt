@@ -5,11 +5,10 @@ use Prim.Native.Nat.{_-_}
 use native.Mathlib.Omega.{arith}
 use Rattle.disp_structs.specs.Values.{isFake}
 use Rattle.disp_structs.specs.declared.LinkEvent.{LinkEvent}
-use Rattle.image.specs.Image.{nodeAt}
+use Rattle.image.specs.Image.{nodeAt, pathOf}
 use Rattle.free_path.specs.Base.{walkFrom}
 use Rattle.splice.proofs.ListLaws.{walk-hit, walk-miss, walk-none}
 use Rattle.update_definition.specs.Moves.{notFake}
-use Rattle.search.specs.Read.{pathOf}
 use borrow.Author.Needs.{needs}
 use Rattle.search.proofs.fakes.walk_fakes.Statement.{statement}
 use Rattle.search.proofs.fakes.walk_fakes.Tie as tie

@@ -1,21 +1,15 @@
 use denote.Ref.{now}
-use mathlib.Core.Path.{_≡_, refl, sym, ap, _∙_}
+use mathlib.Core.Path.{sym, ap, _∙_}
 use native.Mathlib.Omega.{arith}
 use borrow.Author.Tests.{not-true, not-false}
 use Rattle.disp_structs.specs.Values.{sameEvent}
 use Rattle.disp_structs.specs.declared.LinkEvent.{LinkEvent}
-use Rattle.image.specs.Image.{nodeAt}
+use Rattle.image.specs.Image.{nodeAt, pathOf}
 use Rattle.free_path.proofs.ColumnLaws.{listed-read, listed-out}
-use Rattle.search.specs.Read.{pathOf}
 use Rattle.search.proofs.RewindLaws.{shift-stop, shift-high, shift-out, shift-other, shift-good}
 use borrow.Author.Needs.{needs}
 use Rattle.search.proofs.rewind.shift_save.Statement.{statement}
 use Rattle.search.proofs.rewind.shift_save.Tie as tie
-use Rattle.search.proofs.rewind.shift_save.Reads as reads
-use Rattle.search.proofs.rewind.shift_save.Lts as lts
-use Rattle.image.proofs.codec.node_link_event.Reads as node-link-event-reads
-use Rattle.disp_structs.proofs.events.same_event.Reads as same-event-reads
-use Rattle.search.proofs.rewind.walk_back.Reads as walk-back-reads
 
 -- src/rewind.rt:63:9
 walk-back-requires : tie.Need-walk-back-requires

@@ -1,22 +1,17 @@
 use denote.Ref.{now}
 use mathlib.Core.Path.{_≡_, refl, sym, ap, _∙_}
 use mathlib.Core.Bool.{not}
-use Prim.Native.Nat.{_+_, _-_, _≤_}
+use Prim.Native.Nat.{_≤_}
 use native.Mathlib.Omega.{arith}
 use Rattle.disp_structs.specs.Values.{isFake}
 use Rattle.disp_structs.specs.declared.LinkEvent.{LinkEvent}
-use Rattle.image.specs.Image.{nodeAt}
+use Rattle.image.specs.Image.{nodeAt, pathOf}
 use Rattle.free_path.specs.Base.{walkBack}
 use Rattle.update_definition.specs.Moves.{notFake}
-use Rattle.search.specs.Read.{pathOf}
 use Rattle.search.proofs.RewindLaws.{back-none, back-out, back-hit, back-miss}
 use borrow.Author.Needs.{needs}
 use Rattle.search.proofs.rewind.walk_back.Statement.{statement}
 use Rattle.search.proofs.rewind.walk_back.Tie as tie
-use Rattle.search.proofs.rewind.walk_back.Reads as reads
-use Rattle.search.proofs.rewind.walk_back.Lts as lts
-use Rattle.image.proofs.codec.node_link_event.Reads as node-link-event-reads
-use Rattle.disp_structs.proofs.events.is_fake.Reads as is-fake-reads
 
 abbrev Inv-loop : tie.InvT-loop
 Inv-loop img n from k₀ k = (k ≤ n) × (walkBack notFake (pathOf img n) k ≡ walkBack notFake (pathOf img n) from)

@@ -11,10 +11,10 @@ use borrow.Author.Tests.{not-true, not-false}
 use Rattle.disp_structs.specs.Train.{Train}
 use Rattle.disp_structs.specs.Listed.{listed}
 use Rattle.disp_structs.proofs.ListedLaws.{listed-length}
-use Rattle.image.specs.Image.{estCount, nodePlace, estAt, nodeAt, putNode}
+use Rattle.image.specs.Image.{estCount, nodePlace, estAt, nodeAt, putNode, pathOf}
 use Rattle.free_path.specs.Base.{ok}
 use Rattle.update_definition.specs.Look as Look
-use Rattle.search.specs.Read.{divsOf, pathOf, roundOf, hereOf, searchIn, arrays, Lent, Small}
+use Rattle.search.specs.Read.{divsOf, roundOf, hereOf, searchIn, arrays, Lent, Small}
 use Rattle.splice.specs.Parts.{Sound}
 use Rattle.splice.specs.Read.{Kept}
 use Rattle.splice.proofs.NodeLaws.{kept-count, kept-then}

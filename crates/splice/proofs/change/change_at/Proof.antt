@@ -7,7 +7,7 @@ use Rattle.disp_structs.specs.Listed.{listed}
 use Rattle.disp_structs.specs.declared.DivergeNode.{DivergeNode}
 use Rattle.free_path.specs.Columns.{answer, divAt}
 use Rattle.update_definition.specs.State.{ends, again}
-use Rattle.splice.specs.Read.{trainOf}
+use Rattle.update_definition.specs.ImageTrain.{trainOf}
 use Rattle.splice.specs.declared.Again.{Again}
 use Rattle.splice.proofs.JoinLaws.{told}
 use Rattle.splice.proofs.ChangeLaws.{new-divs, change-order, change-past, change-full, change-done}

@@ -7,7 +7,7 @@ use Rattle.disp_structs.specs.Listed.{listed}
 use Rattle.image.specs.Image.{nodeAt}
 use Rattle.free_path.specs.Columns.{divAt}
 use Rattle.update_definition.specs.Join.{updateFreePathHelpers, updateDivNodes}
-use Rattle.splice.specs.Read.{trainOf}
+use Rattle.update_definition.specs.ImageTrain.{trainOf}
 use Rattle.splice.specs.Parts.{DivsFit}
 use Rattle.splice.proofs.ListLaws.{walk-found}
 use Rattle.splice.proofs.NodeLaws.{kept-le, kept-count, kept-then}

@@ -3,9 +3,9 @@ use Prim.Native.Nat.{ℕ}
 use native.Mathlib.Omega.{arith}
 use denote.Ref.{now}
 use lib.ListN.{length}
-use Rattle.yard_check.specs.Bytes.{putWhole}
+use Rattle.link_rules.specs.Octets.{putWhole}
 use Rattle.yard_check.specs.Yard.{slotCount}
-use Rattle.yard_check.proofs.SeenLaws.{put-some}
+use Rattle.link_rules.proofs.OctetLaws.{put-some}
 use Rattle.undo.specs.Undo.{withNumbers, withOld}
 use Rattle.undo.proofs.RecordLaws.{numbers-length}
 use borrow.Author.Needs.{needs}

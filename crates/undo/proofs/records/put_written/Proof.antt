@@ -3,7 +3,7 @@ use Prim.Native.Nat.{_+_}
 use native.Mathlib.Omega.{arith}
 use denote.Ref.{now}
 use lib.ListN.{length}
-use Rattle.yard_check.proofs.SeenLaws.{put-some}
+use Rattle.link_rules.proofs.OctetLaws.{put-some}
 use Rattle.undo.specs.Undo.{withWritten}
 use borrow.Author.Needs.{needs}
 use Rattle.undo.proofs.records.put_written.Statement.{statement}

@@ -1,7 +1,7 @@
 -- `answered` meets its contract. Assumes nothing.
 use native.Mathlib.Omega.{arith}
 use denote.Ref.{now}
-use Rattle.splice.specs.Read.{trainOf}
+use Rattle.update_definition.specs.ImageTrain.{trainOf}
 use Rattle.update_free_path.specs.Updates.{errorsOf}
 use Rattle.update_free_path.proofs.AnswerLaws.{done-stop, answered-is}
 use borrow.Author.Needs.{needs}

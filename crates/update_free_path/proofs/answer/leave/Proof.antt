@@ -1,6 +1,6 @@
 use mathlib.Core.Path.{sym, _∙_}
 use denote.Ref.{now}
-use Rattle.splice.specs.Read.{trainOf}
+use Rattle.update_definition.specs.ImageTrain.{trainOf}
 use Rattle.image_store.proofs.StoreLaws.{stored-train}
 use Rattle.update_free_path.proofs.AnswerLaws.{left-refused, left-done}
 use borrow.Author.Needs.{needs}

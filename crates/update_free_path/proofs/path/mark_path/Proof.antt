@@ -4,7 +4,8 @@ use Prim.Native.Nat.{ℕ, _-_, _≤_}
 use native.Mathlib.Omega.{arith}
 use lib.ListN.{length, length-replicate}
 use Rattle.disp_structs.specs.declared.EstIdx.{EstIdx}
-use Rattle.search.specs.Read.{pathOf, Marked}
+use Rattle.search.specs.Read.{Marked}
+use Rattle.image.specs.Image.{pathOf}
 use Rattle.update_free_path.proofs.PathLaws.{mark-none, mark-turn}
 use borrow.Author.Needs.{needs}
 use Rattle.update_free_path.proofs.path.mark_path.Statement.{statement}

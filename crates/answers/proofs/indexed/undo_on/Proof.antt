@@ -1,0 +1,59 @@
+use mathlib.Core.Path.{sym}
+use lib.Seq.{length-take-le}
+use native.Mathlib.Omega.{arith}
+use borrow.Author.Needs.{needs}
+use Rattle.answers.proofs.indexed.undo_on.Statement.{statement}
+use Rattle.answers.proofs.indexed.undo_on.Tie as tie
+
+first-input-requires : tie.Need-first-input-requires
+first-input-requires c κs = search needs
+
+put-bytes-requires : tie.Need-put-bytes-requires
+put-bytes-requires c κs = search needs
+
+no-entries-requires : tie.Need-no-entries-requires
+no-entries-requires c κs = search needs
+
+third-input-requires : tie.Need-third-input-requires
+third-input-requires c κs = search needs
+
+unread-requires : tie.Need-unread-requires
+unread-requires c κs = search needs
+
+same-length : tie.Need-same-length
+same-length c = search needs
+
+returns : tie.Need-returns
+returns c = search needs
+
+array-borrow-prefix-room : tie.Need-array-borrow-prefix-room
+array-borrow-prefix-room c = search needs
+
+slice-aggregate-undo-beside : tie.Need-slice-aggregate-undo-beside
+slice-aggregate-undo-beside c = sym (length-take-le _ (c .before .before .before .before .no-entries .result) (omega arith))
+
+undo-beside-requires : tie.Need-undo-beside-requires
+undo-beside-requires c κs = search needs
+
+same-length-2 : tie.Need-same-length-2
+same-length-2 c = search needs
+
+returns-2 : tie.Need-returns-2
+returns-2 c = search needs
+
+pub undo-on-spec : {M : Type 1} → statement M
+undo-on-spec =
+    tie.close
+    (tie.spec
+    first-input-requires
+    put-bytes-requires
+    no-entries-requires
+    third-input-requires
+    unread-requires
+    same-length
+    returns
+    array-borrow-prefix-room
+    slice-aggregate-undo-beside
+    undo-beside-requires
+    same-length-2
+    returns-2)

@@ -1,0 +1,4 @@
+pub mod SheetLaws
+pub mod BundleLaws
+pub mod SheetRoom
+pub mod SheetExample
