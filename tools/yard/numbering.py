@@ -158,7 +158,7 @@ def renumbered_call(call, numbering):
         return (kind, line, {name: [numbering.link(l) for l in n] if name == "blocking" else n for name, n in told.items()})
     if kind == "act":
         given[2] = numbering.link(given[2])
-    if kind in ("report", "replay", "recorded", "index") or not given or not 1 <= given[0] <= numbering.slots:
+    if kind in ("report", "replay", "recorded", "index", "carry") or not given or not 1 <= given[0] <= numbering.slots:
         return (kind, line, *given)
     given[1:] = [[numbering.link(l) for l in x] if isinstance(x, list) else x for x in given[1:]]
     return (kind, line, numbering.train(given[0]), *given[1:])
