@@ -4,7 +4,6 @@ use crate::check;
 use crate::print;
 use carry;
 use carry::half;
-use link_rules::link_idx::TrainIdx;
 use link_rules::octets;
 use yard_check::check::Answer;
 
@@ -177,10 +176,7 @@ fn half_checked(
     blocking: &[u32],
     report: &mut [u8],
 ) -> Answer {
-    let moved = TrainIdx(case::argument(head, 0));
-    let begin = check::begin_of(case::argument(head, 1));
-    let local = 0 < case::argument(head, 2);
-    let limit = (case::argument(head, 3) % 65536) as u16;
+    let a = check::told(head);
     let count = case::argument(head, 4);
     half::check_half(
         yard,
@@ -188,10 +184,10 @@ fn half_checked(
         count,
         occ,
         blocking,
-        moved,
-        begin,
-        local,
-        limit,
+        a.moved,
+        a.begin,
+        a.local,
+        a.limit,
         report,
     )
 }

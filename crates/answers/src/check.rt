@@ -8,6 +8,7 @@ use link_rules::link_idx::TrainIdx;
 use link_rules::octets;
 use yard_check::check;
 use yard_check::check::Answer;
+use yard_check::check::Args;
 
 pub(crate) fn answer(head: &[u8], body: &[u8], sums: bool) -> bool {
     let mut room = case::no_bytes();
@@ -190,16 +191,30 @@ fn checked(
     blocking: &[u32],
     report: &mut [u8],
 ) -> Answer {
-    let moved = case::argument(head, 0);
-    let begin = begin_of(case::argument(head, 1));
-    let local = 0 < case::argument(head, 2);
-    let limit = (case::argument(head, 3) % 65536) as u16;
+    let a = told(head);
     if case::operation(head) == case::WIDE_CHECK {
-        let moved = TrainIdx(moved);
-        return check::check_wide(yard, wide, blocking, moved, begin, local, limit, report);
+        return check::check_wide(
+            yard,
+            wide,
+            blocking,
+            a.moved,
+            a.begin,
+            a.local,
+            a.limit,
+            report,
+        );
     }
-    let moved = NarrowTrainIdx((moved % 65536) as u16);
-    check::check_deadlock(yard, narrow, blocking, moved, begin, local, limit, report)
+    let moved = narrow_train(a.moved);
+    check::check_deadlock(
+        yard,
+        narrow,
+        blocking,
+        moved,
+        a.begin,
+        a.local,
+        a.limit,
+        report,
+    )
 }
 
 pub(crate) fn print_answer(answer: Answer) -> bool {
@@ -210,8 +225,22 @@ pub(crate) fn print_answer(answer: Answer) -> bool {
     }
 }
 
+// What a check is told: arguments 0 to 3.
+pub(crate) fn told(head: &[u8]) -> Args {
+    Args {
+        moved: TrainIdx(case::argument(head, 0)),
+        begin: begin_of(case::argument(head, 1)),
+        local: 0 < case::argument(head, 2),
+        limit: (case::argument(head, 3) % 65536) as u16,
+    }
+}
+
+pub(crate) fn narrow_train(train: TrainIdx) -> NarrowTrainIdx {
+    NarrowTrainIdx((train.0 % 65536) as u16)
+}
+
 // A begin that is no u16 becomes the largest, which 15 refuses as well.
-pub(crate) fn begin_of(n: u32) -> u16 {
+fn begin_of(n: u32) -> u16 {
     if 65535 < n {
         return 65535;
     }

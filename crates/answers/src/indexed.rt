@@ -6,7 +6,6 @@ use crate::print;
 use link_index::checks;
 use link_index::layout;
 use link_index::undoing;
-use link_rules::link_idx::NarrowTrainIdx;
 use link_rules::link_idx::TrainIdx;
 use link_rules::octets;
 use yard_check::check::Answer;
@@ -160,24 +159,15 @@ fn checked(
     report: &mut [u8],
     index: &mut [u64],
 ) -> Answer {
-    let moved = case::argument(head, 0);
-    let begin = check::begin_of(case::argument(head, 1));
-    let local = 0 < case::argument(head, 2);
-    let limit = (case::argument(head, 3) % 65536) as u16;
+    let a = check::told(head);
     if check::is_wide(case::operation(head)) {
-        let a = Args {
-            moved: TrainIdx(moved),
-            begin: begin,
-            local: local,
-            limit: limit,
-        };
         return checks::check_wide_indexed(yard, wide, blocking, a, report, index);
     }
     let a = Args {
-        moved: TrainIdx(moved % 65536),
-        begin: begin,
-        local: local,
-        limit: limit,
+        moved: TrainIdx(a.moved.0 % 65536),
+        begin: a.begin,
+        local: a.local,
+        limit: a.limit,
     };
     checks::check_indexed(yard, narrow, blocking, a, report, index)
 }
@@ -192,34 +182,29 @@ fn recorded(
     undo_record: &mut [u8],
     index: &mut [u64],
 ) -> Answer {
-    let moved = case::argument(head, 0);
-    let begin = check::begin_of(case::argument(head, 1));
-    let local = 0 < case::argument(head, 2);
-    let limit = (case::argument(head, 3) % 65536) as u16;
+    let a = check::told(head);
     if check::is_wide(case::operation(head)) {
-        let moved = TrainIdx(moved);
         return checks::check_recorded_wide_indexed(
             yard,
             wide,
             blocking,
-            moved,
-            begin,
-            local,
-            limit,
+            a.moved,
+            a.begin,
+            a.local,
+            a.limit,
             report,
             undo_record,
             index,
         );
     }
-    let moved = NarrowTrainIdx((moved % 65536) as u16);
     checks::check_recorded_indexed(
         yard,
         narrow,
         blocking,
-        moved,
-        begin,
-        local,
-        limit,
+        check::narrow_train(a.moved),
+        a.begin,
+        a.local,
+        a.limit,
         report,
         undo_record,
         index,

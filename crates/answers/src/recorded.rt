@@ -2,8 +2,6 @@
 use crate::case;
 use crate::check;
 use crate::print;
-use link_rules::link_idx::NarrowTrainIdx;
-use link_rules::link_idx::TrainIdx;
 use link_rules::octets;
 use undo;
 use yard_check::check::Answer;
@@ -69,19 +67,16 @@ fn recorded(
     report: &mut [u8],
     undo_record: &mut [u8],
 ) -> Answer {
-    let moved = case::argument(head, 0);
-    let begin = check::begin_of(case::argument(head, 1));
-    let local = 0 < case::argument(head, 2);
-    let limit = (case::argument(head, 3) % 65536) as u16;
+    let a = check::told(head);
     if case::operation(head) == case::WIDE_RECORDED_CHECK {
         return undo::check_recorded_wide(
             yard,
             wide,
             blocking,
-            TrainIdx(moved),
-            begin,
-            local,
-            limit,
+            a.moved,
+            a.begin,
+            a.local,
+            a.limit,
             report,
             undo_record,
         );
@@ -90,10 +85,10 @@ fn recorded(
         yard,
         narrow,
         blocking,
-        NarrowTrainIdx((moved % 65536) as u16),
-        begin,
-        local,
-        limit,
+        check::narrow_train(a.moved),
+        a.begin,
+        a.local,
+        a.limit,
         report,
         undo_record,
     )
