@@ -32,7 +32,7 @@ use Rattle.yard_check.specs.Yard.{yardSize, slotCount, partBegin, partEnd, part
 use Rattle.yard_check.specs.Check.{wideCount, howMany}
 use Rattle.yard_check.proofs.PatchLaws.{le-moved, patched, patch-length, patch-low, patch-mid, patch-high}
 use Rattle.yard_check.proofs.YardLaws.{Fits, fits, part-long, part-train, part-length, part-le, part-bytes}
-use Rattle.carry.specs.Carry.{wideLength, wideEnd, wideSize, lengthsFault, imagesFault, offsetFits, headerFits, carriedFits, zeroFrom, begunFits, secondFits, slotsFault, carryFault, withOffsets, begun, widened, withWidened, Carried, carrying, carried, steps}
+use Rattle.carry.specs.Carry.{wideLength, wideEnd, wideSize, occupanciesFault, imagesFault, offsetFits, secondHeaderFits, carriedFits, zeroFrom, begunFits, secondFits, restFault, carryFault, withOffsets, begun, widened, withWidened, Carried, carrying, carried, steps}
 use Rattle.carry.specs.CarriedFar.{Header, CarriedImage, CarriedFar}
 use Rattle.carry.proofs.LayoutLaws.{end-zero, end-suc, end-mono, length-is, wide-long, wide-few, passed, second-room, carry-slots, carried-refused, carried-done}
 
@@ -364,12 +364,12 @@ module _ (yard occ : List ℕ) (count : ℕ) (wide wideOcc : List ℕ) where
       → carried yard occ count wide wideOcc ≡ carrying (Stepped.Refused (carryFault yard (length occ) count wide (length wideOcc))) wide wideOcc
   refused-leaves n = sym (carried-refused yard occ count wide wideOcc (carryFault yard (length occ) count wide (length wideOcc)) refl n)
 
-  slots-belied : imagesFault yard (length occ) (slotCount yard - count) count .number ≡ 0 → secondFits yard count wide ≡ false → slotsFault yard (length occ) count wide ≡ refused 24 0
-  unfolding slotsFault
+  slots-belied : imagesFault yard (length occ) (slotCount yard - count) count .number ≡ 0 → secondFits yard count wide ≡ false → restFault yard (length occ) count wide ≡ refused 24 0
+  unfolding restFault
   slots-belied i s = or-else-none (imagesFault yard (length occ) (slotCount yard - count) count) (refusedUnless (secondFits yard count wide) 24) i ∙ rw s
 
   -- a second yard that belies the count is 24, behind the others
-  pub belied : lengthsFault (length occ) (length wideOcc) .number ≡ 0 → yardFits yard ≡ true → imagesFault yard (length occ) (slotCount yard - count) count .number ≡ 0
+  pub belied : occupanciesFault (length occ) (length wideOcc) .number ≡ 0 → yardFits yard ≡ true → imagesFault yard (length occ) (slotCount yard - count) count .number ≡ 0
       → secondFits yard count wide ≡ false → carried yard occ count wide wideOcc ≡ carrying (Stepped.Refused (refused 24 0)) wide wideOcc
   belied l y i s =
       sym (carried-refused yard occ count wide wideOcc (refused 24 0) (sym (slots-belied i s) ∙ carry-slots yard (length occ) count wide (length wideOcc) l y) (λ q. omega (arith, q)))
@@ -405,7 +405,7 @@ module _ (links k : ℕ) (yard wide : List ℕ) (far : CarriedFar links (suc k) 
   zero-true = all-of _ (length wide - wideEnd yard (suc k)) (λ i m. eq-eqb (getD wide (wideEnd yard (suc k) + i) 0) 0 (far .rest (wideEnd yard (suc k) + i) (omega arith)))
 
   pub not-belied : secondFits yard (suc k) wide ≡ true
-  unfolding secondFits begunFits headerFits
+  unfolding secondFits begunFits secondHeaderFits
   not-belied =
       rw (
         lt-ltb (suc k) (slotCount yard) l,
@@ -428,8 +428,8 @@ images-none yard l (suc n) t h =
     ∙ images-none yard l n (t + 1) (λ u a b. h u (omega arith) (omega arith))
 
 -- a sitting that steps carried goes on: the next step is not refused
-pub goes-on : (l k : ℕ) (yard wide : List ℕ) → CarriedFar l (suc k) yard wide → suc k < slotCount yard → (m : ℕ) → lengthsFault l m .number ≡ 0 → carryFault yard l (suc k) wide m .number ≡ 0
-unfolding slotsFault
+pub goes-on : (l k : ℕ) (yard wide : List ℕ) → CarriedFar l (suc k) yard wide → suc k < slotCount yard → (m : ℕ) → occupanciesFault l m .number ≡ 0 → carryFault yard l (suc k) wide m .number ≡ 0
+unfolding restFault
 goes-on l k yard wide far h m e =
     let i = images-none yard l (slotCount yard - suc k) (suc k) (λ u a b. far .narrow u a (omega arith)) in
     ap (λ (f : Refusal). f .number)
@@ -440,8 +440,8 @@ module _ (yard occ wide wideOcc : List ℕ) (b : Bytes yard) (h : carryFault yar
   abbrev after : ℕ → Carried
   after n = steps yard occ wide wideOcc n
 
-  equal : lengthsFault (length occ) (length occ) .number ≡ 0
-  unfolding lengthsFault
+  equal : occupanciesFault (length occ) (length occ) .number ≡ 0
+  unfolding occupanciesFault
   equal =
       let l = passed yard (length occ) 0 wide (length wideOcc) h .lengths in
       rw (le-leb 2 (length occ) (l .0), le-leb (length occ) 4000 (l .1), eq-eqb (length occ) (length occ) refl)
@@ -454,7 +454,7 @@ module _ (yard occ wide wideOcc : List ℕ) (b : Bytes yard) (h : carryFault yar
       (s .0, s .1, ap (λ (c : Carried). c .answer) (sym (carried-done yard occ 0 wide wideOcc h)))
   step-by-step (suc n) l =
       let p = step-by-step n (omega arith) in
-      let e = goes-on (length occ) n yard (after n .yard) (p .0) l (length (after n .occupancy)) (ap (λ (x : List ℕ). lengthsFault (length occ) (length x) .number) (p .1) ∙ equal) in
+      let e = goes-on (length occ) n yard (after n .yard) (p .0) l (length (after n .occupancy)) (ap (λ (x : List ℕ). occupanciesFault (length occ) (length x) .number) (p .1) ∙ equal) in
       let s = next-step yard occ (after n .yard) (after n .occupancy) b n (p .0) e in
       (s .0, s .1 ∙ p .1, ap (λ (c : Carried). c .answer) (sym (carried-done yard occ (suc n) (after n .yard) (after n .occupancy) e)))
 

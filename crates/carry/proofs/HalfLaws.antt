@@ -18,7 +18,7 @@ use Rattle.yard_check.specs.Yard.{yardSize, slotCount, partBegin, partOf, yardF
 use Rattle.yard_check.specs.Check.{CheckArgs, Refused}
 use Rattle.yard_check.specs.Pair.{partLies, secondLies, lateFault, pairFault, PairChecked, pairOf, pairDone, pairBy, pairChecked}
 use Rattle.yard_check.proofs.YardLaws.{Fits, fits, part-long, part-length}
-use Rattle.carry.specs.Carry.{wideEnd, wideSize, offsetFits, headerFits, carriedFits, zeroFrom, begunFits, secondFits}
+use Rattle.carry.specs.Carry.{wideEnd, wideSize, offsetFits, secondHeaderFits, carriedFits, zeroFrom, begunFits, secondFits}
 use Rattle.carry.specs.CarriedFar.{Header}
 use Rattle.carry.specs.HalfCheck.{halfFits, earlyFault, halfFault, halfChecked}
 use Rattle.carry.proofs.LayoutLaws.{end-zero, end-suc, length-is, or-first}
@@ -33,7 +33,7 @@ pub record HalfTaken (yard wide : List ℕ) (count : ℕ) : Type 0 where
   pub header : Header yard wide
 
 pub half-taken : (yard wide : List ℕ) (count : ℕ) → halfFits yard count wide ≡ true → HalfTaken yard wide count
-unfolding halfFits secondFits begunFits headerFits offsetFits
+unfolding halfFits secondFits begunFits secondHeaderFits offsetFits
 half-taken yard wide count h =
     let S = slotCount yard in
     let a = both (leb 1 count) (secondFits yard count wide) h in
@@ -41,7 +41,7 @@ half-taken yard wide count h =
     let b = both (ltb count S) _ (a .1) in
     let c = both (eqb (length wide) (wideSize yard)) (eqb count 0 || begunFits yard count wide) (b .1) in
     let d : begunFits yard count wide ≡ true = rw (ne-eqb count 0 (λ q. omega (arith, low, q))) at (c .1) in
-    let e = both (headerFits yard wide) (allBelow count (carriedFits yard wide) && zeroFrom (wideEnd yard count) wide) d .0 in
+    let e = both (secondHeaderFits yard wide) (allBelow count (carriedFits yard wide) && zeroFrom (wideEnd yard count) wide) d .0 in
     let f = both (eqb (yardSize wide) (wideSize yard)) _ e in
     let g = both (eqb (slotCount wide) S) (allBelow S (offsetFits yard wide)) (f .1) in
     record {

@@ -27,7 +27,7 @@ use Rattle.yard_check.proofs.YardLaws.{fits}
 use Rattle.image_fault.specs.declared.Widths.the-variants.{Narrow}
 use Rattle.ceiling.proofs.LinkLaws.{more-links}
 use Rattle.conversion.specs.Conversion.{widenFault, afterWiden}
-use Rattle.carry.specs.Carry.{wideLength, wideEnd, wideSize, lengthsFault, imagesFault, secondFits, slotsFault, carryFault, withOffsets, begun, begunBy, occupancyBy, carrying, withWidened, carriedBy, carriedDone, carried}
+use Rattle.carry.specs.Carry.{wideLength, wideEnd, wideSize, occupanciesFault, imagesFault, secondFits, restFault, carryFault, withOffsets, begun, begunBy, occupancyBy, carrying, withWidened, carriedBy, carriedDone, carried}
 
 -- ---- the first yard
 
@@ -111,20 +111,20 @@ into-part yard wide n a e img p q r ok h long =
 
 -- ---- 2
 
-pub lengths-low : (l m : ℕ) → l < 2 → refusedUnless false 2 ≡ lengthsFault l m
-unfolding lengthsFault
+pub lengths-low : (l m : ℕ) → l < 2 → refusedUnless false 2 ≡ occupanciesFault l m
+unfolding occupanciesFault
 lengths-low l m h = rw (lt-leb 2 l h)
 
-pub lengths-high : (l m : ℕ) → 2 ≤ l → 4000 < l → refusedUnless false 2 ≡ lengthsFault l m
-unfolding lengthsFault
+pub lengths-high : (l m : ℕ) → 2 ≤ l → 4000 < l → refusedUnless false 2 ≡ occupanciesFault l m
+unfolding occupanciesFault
 lengths-high l m g h = rw (le-leb 2 l g, lt-leb l 4000 h)
 
-pub lengths-equal : (l m : ℕ) → 2 ≤ l → l ≤ 4000 → refusedUnless (eqb m l) 2 ≡ lengthsFault l m
-unfolding lengthsFault
+pub lengths-equal : (l m : ℕ) → 2 ≤ l → l ≤ 4000 → refusedUnless (eqb m l) 2 ≡ occupanciesFault l m
+unfolding occupanciesFault
 lengths-equal l m g h = rw (le-leb 2 l g, le-leb l 4000 h)
 
-pub lengths-clean : (l m : ℕ) → lengthsFault l m .number ≡ 0 → (2 ≤ l) × (l ≤ 4000) × (m ≡ l)
-unfolding lengthsFault
+pub lengths-clean : (l m : ℕ) → occupanciesFault l m .number ≡ 0 → (2 ≤ l) × (l ≤ 4000) × (m ≡ l)
+unfolding occupanciesFault
 lengths-clean l m h =
     let a = or-else-clean (lengthFault l) (refusedUnless (eqb m l) 2) h in
     let b = both (leb 2 l) (leb l 4000) (refused-clean _ 2 (lit< tt) (a .0)) in
@@ -199,17 +199,17 @@ pub yard-few : (yard : List ℕ) → Bytes yard → yardFits yard ≡ true → (
 yard-few yard b h = let f = fits yard h in (omega (arith, f .size, le-lt 4 yard 0 b), f .few)
 
 module _ (yard : List ℕ) (l count : ℕ) (wide : List ℕ) (m : ℕ) where
-  pub carry-short : (lengthsFault l m .number ≡ 0 → ⊥) → lengthsFault l m ≡ carryFault yard l count wide m
+  pub carry-short : (occupanciesFault l m .number ≡ 0 → ⊥) → occupanciesFault l m ≡ carryFault yard l count wide m
   unfolding carryFault
-  carry-short h = sym (or-first (lengthsFault l m) (orElse (yardFault yard) (slotsFault yard l count wide)) h)
+  carry-short h = sym (or-first (occupanciesFault l m) (orElse (yardFault yard) (restFault yard l count wide)) h)
 
-  pub carry-slots : lengthsFault l m .number ≡ 0 → yardFits yard ≡ true → slotsFault yard l count wide ≡ carryFault yard l count wide m
+  pub carry-slots : occupanciesFault l m .number ≡ 0 → yardFits yard ≡ true → restFault yard l count wide ≡ carryFault yard l count wide m
   unfolding carryFault
-  carry-slots h k = sym (or-next (lengthsFault l m) (orElse (yardFault yard) (slotsFault yard l count wide)) h ∙ rw k)
+  carry-slots h k = sym (or-next (occupanciesFault l m) (orElse (yardFault yard) (restFault yard l count wide)) h ∙ rw k)
 
-  pub carry-yard : lengthsFault l m .number ≡ 0 → yardFits yard ≡ false → refusedUnless false 14 ≡ carryFault yard l count wide m
+  pub carry-yard : occupanciesFault l m .number ≡ 0 → yardFits yard ≡ false → refusedUnless false 14 ≡ carryFault yard l count wide m
   unfolding carryFault
-  carry-yard h k = sym (or-next (lengthsFault l m) (orElse (yardFault yard) (slotsFault yard l count wide)) h ∙ rw k)
+  carry-yard h k = sym (or-next (occupanciesFault l m) (orElse (yardFault yard) (restFault yard l count wide)) h ∙ rw k)
 
   -- what a step that is not refused was asked
   pub record Passed : Type 0 where
@@ -219,9 +219,9 @@ module _ (yard : List ℕ) (l count : ℕ) (wide : List ℕ) (m : ℕ) where
     pub second : secondFits yard count wide ≡ true
 
   pub passed : carryFault yard l count wide m .number ≡ 0 → Passed
-  unfolding carryFault slotsFault
+  unfolding carryFault restFault
   passed h =
-      let a = or-else-clean (lengthsFault l m) _ h in
+      let a = or-else-clean (occupanciesFault l m) _ h in
       let b = or-else-clean (yardFault yard) _ (a .1) in
       let c = or-else-clean (imagesFault yard l (slotCount yard - count) count) (refusedUnless (secondFits yard count wide) 24) (b .1) in
       record {

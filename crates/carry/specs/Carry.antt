@@ -34,8 +34,8 @@ wideSize yard = wideEnd yard (slotCount yard)
 -- ---- refusals 2, 14, 6 to 9 of the images still to carry, and 24, in this order
 
 -- 2: either length is outside 2 to 4,000, or they are unequal
-unfoldable pub lengthsFault : (l m : ℕ) → Refusal
-lengthsFault l m = orElse (lengthFault l) (refusedUnless (eqb m l) 2)
+unfoldable pub occupanciesFault : (l m : ℕ) → Refusal
+occupanciesFault l m = orElse (lengthFault l) (refusedUnless (eqb m l) 2)
 
 -- of the n slots behind slot t, the lowest that 6 to 9 refuse over l links, with its own number and place
 unfoldable pub imagesFault : (yard : List ℕ) (l n t : ℕ) → Refusal
@@ -47,8 +47,8 @@ unfoldable pub offsetFits : (yard wide : List ℕ) (i : ℕ) → Bool
 offsetFits yard wide i = eqb (partBegin wide (i + 1)) (wideEnd yard i)
 
 -- size, S and every offset
-unfoldable pub headerFits : List ℕ → List ℕ → Bool
-headerFits yard wide =
+unfoldable pub secondHeaderFits : List ℕ → List ℕ → Bool
+secondHeaderFits yard wide =
     eqb (yardSize wide) (wideSize yard) && (eqb (slotCount wide) (slotCount yard) && allBelow (slotCount yard) (offsetFits yard wide))
 
 -- slot i + 1 is carried: its train, and a wide image
@@ -61,19 +61,19 @@ zeroFrom a bs = allBelow (length bs - a) (λ i. eqb (getD bs (a + i) 0) 0)
 
 -- once begun: the header, the slots that are carried, and the parts behind them zero
 unfoldable pub begunFits : (yard : List ℕ) (count : ℕ) (wide : List ℕ) → Bool
-begunFits yard count wide = headerFits yard wide && (allBelow count (carriedFits yard wide) && zeroFrom (wideEnd yard count) wide)
+begunFits yard count wide = secondHeaderFits yard wide && (allBelow count (carriedFits yard wide) && zeroFrom (wideEnd yard count) wide)
 
 -- else 24
 unfoldable pub secondFits : (yard : List ℕ) (count : ℕ) (wide : List ℕ) → Bool
 secondFits yard count wide = ltb count (slotCount yard) && (eqb (length wide) (wideSize yard) && (eqb count 0 || begunFits yard count wide))
 
 -- behind 14: the images still to carry, then 24
-unfoldable pub slotsFault : (yard : List ℕ) (l count : ℕ) (wide : List ℕ) → Refusal
-slotsFault yard l count wide = orElse (imagesFault yard l (slotCount yard - count) count) (refusedUnless (secondFits yard count wide) 24)
+unfoldable pub restFault : (yard : List ℕ) (l count : ℕ) (wide : List ℕ) → Refusal
+restFault yard l count wide = orElse (imagesFault yard l (slotCount yard - count) count) (refusedUnless (secondFits yard count wide) 24)
 
 -- l and m are the lengths of the two occupancies
 unfoldable pub carryFault : (yard : List ℕ) (l count : ℕ) (wide : List ℕ) (m : ℕ) → Refusal
-carryFault yard l count wide m = orElse (lengthsFault l m) (orElse (yardFault yard) (slotsFault yard l count wide))
+carryFault yard l count wide m = orElse (occupanciesFault l m) (orElse (yardFault yard) (restFault yard l count wide))
 
 -- ---- a step that is not refused
 

@@ -13,7 +13,7 @@ use Rattle.yard_check.specs.Yard.{slotCount, partOf, yardFits}
 use Rattle.yard_check.specs.Check.{wideCount, rowAt, Checked, checked as checkedNarrow}
 use Rattle.yard_check.specs.YardMatch.{NotRefused}
 use Rattle.yard_check.specs.Pair.{PairChecked}
-use Rattle.carry.specs.Carry.{lengthsFault, carryFault, widened, carried}
+use Rattle.carry.specs.Carry.{occupanciesFault, carryFault, widened, carried}
 use Rattle.carry.specs.CarriedFar.{CarriedFar}
 use Rattle.carry.specs.HalfCheck.{halfChecked, halfArgs}
 
@@ -28,7 +28,7 @@ FirstStep =
 -- no further step is refused, and each carries one slot more
 abbrev pub NextStep : Type 0
 NextStep =
-    (k : ℕ) (yard occ wide wideOcc : List ℕ) → Octets yard → CarriedFar (length occ) (suc k) yard wide → suc k < slotCount yard → lengthsFault (length occ) (length wideOcc) .number ≡ 0
+    (k : ℕ) (yard occ wide wideOcc : List ℕ) → Octets yard → CarriedFar (length occ) (suc k) yard wide → suc k < slotCount yard → occupanciesFault (length occ) (length wideOcc) .number ≡ 0
     → (carried yard occ (suc k) wide wideOcc .answer ≡ Stepped.Done) × CarriedFar (length occ) (suc (suc k)) yard (carried yard occ (suc k) wide wideOcc .yard)
 
 -- after S steps the second yard passes 14, and no narrow image is left

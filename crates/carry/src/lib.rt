@@ -19,7 +19,7 @@ ghost use Rattle.link_rules.specs.Octets.{putLe};
 ghost use Rattle.link_rules.specs.Network.{allBelow};
 ghost use Rattle.image_fault.specs.ImageFault.{imageFault};
 ghost use Rattle.yard_check.specs.Yard.{slotCount, partOf};
-ghost use Rattle.carry.specs.Carry.{wideLength, wideEnd, wideSize, lengthsFault, imagesFault, offsetFits, headerFits, carriedFits, zeroFrom, begunFits, secondFits, slotsFault, carryFault, withOffsets, begun, begunBy, occupancyBy, withWidened, carrying, carried};
+ghost use Rattle.carry.specs.Carry.{wideLength, wideEnd, wideSize, occupanciesFault, imagesFault, offsetFits, secondHeaderFits, carriedFits, zeroFrom, begunFits, secondFits, restFault, carryFault, withOffsets, begun, begunBy, occupancyBy, withWidened, carrying, carried};
 
 // ---- where the parts of the second yard lie
 
@@ -98,7 +98,7 @@ fn offsets_fit(yard: &[u8], wide: &[u8]) -> bool
 
 fn header_fits(yard: &[u8], wide: &[u8]) -> bool
     requires { ⌜ (length (now yard) < 4294967296) × (slotCount (now yard) ≤ 63) ⌝ }
-    ensures { λ r. ⌜ r ≡ headerFits (now (yard .entry)) (now (wide .entry)) ⌝ }
+    ensures { λ r. ⌜ r ≡ secondHeaderFits (now (yard .entry)) (now (wide .entry)) ⌝ }
 {
     let slots = yard::slot_count(yard);
     let size = wide_end(yard, slots);
@@ -195,7 +195,7 @@ pub(crate) fn second_fits(yard: &[u8], count: u32, wide: &[u8]) -> bool
 // ---- all in order
 
 fn lengths_fault(l: usize, m: usize) -> Refusal
-    ensures { λ r. ⌜ r ≡ lengthsFault l m ⌝ }
+    ensures { λ r. ⌜ r ≡ occupanciesFault l m ⌝ }
 {
     if l < 2 {
         return refusal::refused_unless(false, 2);
@@ -209,7 +209,7 @@ fn lengths_fault(l: usize, m: usize) -> Refusal
 // Behind 2 and 14.
 fn slots_fault(yard: &[u8], l: u32, count: u32, wide: &[u8]) -> Refusal
     requires { ⌜ (length (now yard) < 4294967296) × (slotCount (now yard) ≤ 63) ⌝ }
-    ensures { λ r. ⌜ r ≡ slotsFault (now (yard .entry)) l count (now (wide .entry)) ⌝ }
+    ensures { λ r. ⌜ r ≡ restFault (now (yard .entry)) l count (now (wide .entry)) ⌝ }
 {
     let f = images_fault(yard, l, count);
     refusal::or_else(

@@ -15,7 +15,7 @@ use Rattle.image_fault.proofs.AcceptLaws as Clean
 use Rattle.yard_check.specs.Yard as Yard
 use Rattle.yard_check.specs.Yard.{yardFits, slotCount, partOf}
 use Rattle.yard_check.proofs.YardLaws.{fits}
-use Rattle.ceiling.specs.Ceiling.{stepsUnless, toldBy, roundCeiling, ceilingOf, slotsCeiling, yardFault, yardCeilingOf}
+use Rattle.ceiling.specs.Ceiling.{stepsUnless, toldBy, roundCeiling, ceilingOf, slotsCeiling, ceilingFault, yardCeilingOf}
 use Rattle.ceiling.specs.declared.StepCeiling.{StepCeiling}
 
 -- ---- by the refusal
@@ -39,7 +39,7 @@ module _ (img : List ℕ) (f : Refusal) (e : f ≡ faultWith Either noRefusal im
   unfolding ceilingOf
   image-told n q z = told-steps f n z ∙ ap₂ (λ (r : Refusal) (k : ℕ). toldBy r k) e q
 
-module _ (yard : List ℕ) (limit : ℕ) (f : Refusal) (e : f ≡ yardFault yard limit) where
+module _ (yard : List ℕ) (limit : ℕ) (f : Refusal) (e : f ≡ ceilingFault yard limit) where
   pub yard-refused : (f .number ≡ 0 → ⊥) → _≡_ {A = StepCeiling} (record { fault = f; steps = 0 }) (yardCeilingOf yard limit)
   unfolding yardCeilingOf
   yard-refused z = told-refused f (slotsCeiling yard limit (slotCount yard)) z ∙ ap (λ (r : Refusal). toldBy r (slotsCeiling yard limit (slotCount yard))) e
@@ -72,23 +72,23 @@ slots-turn yard limit t =
 
 -- ---- 5, then 14
 
-pub limit-none : (yard : List ℕ) (limit : ℕ) → limit ≡ 0 → refused 5 0 ≡ yardFault yard limit
-limit-none yard limit e = ap (λ (n : ℕ). yardFault yard n) (sym e)
+pub limit-none : (yard : List ℕ) (limit : ℕ) → limit ≡ 0 → refused 5 0 ≡ ceilingFault yard limit
+limit-none yard limit e = ap (λ (n : ℕ). ceilingFault yard n) (sym e)
 
 abbrev fault-by : Bool → Bool → Refusal
 fault-by none fine = orElse (cond none (refused 5 0) noRefusal) (cond fine noRefusal (refused 14 0))
 
-fault-is : (yard : List ℕ) (limit : ℕ) (a b : Bool) → eqb limit 0 ≡ a → yardFits yard ≡ b → fault-by a b ≡ yardFault yard limit
+fault-is : (yard : List ℕ) (limit : ℕ) (a b : Bool) → eqb limit 0 ≡ a → yardFits yard ≡ b → fault-by a b ≡ ceilingFault yard limit
 fault-is yard limit a b p q = sym (ap₂ fault-by p q)
 
-pub fault-none : (yard : List ℕ) (limit : ℕ) → (limit ≡ 0 → ⊥) → yardFits yard ≡ true → noRefusal ≡ yardFault yard limit
+pub fault-none : (yard : List ℕ) (limit : ℕ) → (limit ≡ 0 → ⊥) → yardFits yard ≡ true → noRefusal ≡ ceilingFault yard limit
 fault-none yard limit z q = fault-is yard limit false true (ne-eqb limit 0 z) q
 
-pub fault-unfit : (yard : List ℕ) (limit : ℕ) → (limit ≡ 0 → ⊥) → yardFits yard ≡ false → refused 14 0 ≡ yardFault yard limit
+pub fault-unfit : (yard : List ℕ) (limit : ℕ) → (limit ≡ 0 → ⊥) → yardFits yard ≡ false → refused 14 0 ≡ ceilingFault yard limit
 fault-unfit yard limit z q = fault-is yard limit false false (ne-eqb limit 0 z) q
 
 -- a yard that is not refused has at most 63 slots
-pub slots-63 : (yard : List ℕ) (limit : ℕ) → yardFault yard limit .number ≡ 0 → slotCount yard ≤ 63
+pub slots-63 : (yard : List ℕ) (limit : ℕ) → ceilingFault yard limit .number ≡ 0 → slotCount yard ≤ 63
 slots-63 yard limit h = go (yardFits yard) refl
   where
     go : (b : Bool) → yardFits yard ≡ b → slotCount yard ≤ 63

@@ -22,7 +22,7 @@ use Rattle.yard_check.specs.Yard as Yard
 use Rattle.yard_check.specs.Yard.{yardFits, slotCount, partOf}
 use Rattle.yard_check.specs.Check.{CheckArgs, checkFault, isFinished}
 use Rattle.yard_check.proofs.YardLaws.{Fits, fits, part-bytes}
-use Rattle.ceiling.specs.Ceiling.{stepsUnless, roundCeiling, ceilingOf, slotsCeiling, yardFault, yardCeilingOf, visitSteps, slotSteps, checkSteps}
+use Rattle.ceiling.specs.Ceiling.{stepsUnless, roundCeiling, ceilingOf, slotsCeiling, ceilingFault, yardCeilingOf, visitSteps, slotSteps, checkSteps}
 use Rattle.ceiling.proofs.LinkLaws.{or-clean, more-links}
 
 -- ---- an update
@@ -106,6 +106,6 @@ check-within yard occ a long bytes h =
     let c = or-else-clean (callFault occ (a .blocking) (a .moved) (a .limit)) _ h in
     let y = or-else-clean (Yard.yardFault yard) _ (c .1) .0 in
     let o = or-else-clean (blockingFault (length occ) (a .blocking)) (orderFault (a .moved) (a .limit)) (or-else-clean (lengthFault (length occ)) _ (c .0) .1) .1 in
-    let z : yardFault yard (a .limit) .number ≡ 0 = or-clean (cond (eqb (a .limit) 0) (refused 5 0) noRefusal) (Yard.yardFault yard) (limit-clean (a .moved) (a .limit) o) y in
+    let z : ceilingFault yard (a .limit) .number ≡ 0 = or-clean (cond (eqb (a .limit) 0) (refused 5 0) noRefusal) (Yard.yardFault yard) (limit-clean (a .moved) (a .limit) o) y in
     subst (λ (k : ℕ). checkSteps yard occ a (slotCount yard) ≤ stepsUnless k (slotsCeiling yard (a .limit) (slotCount yard))) (sym z)
     (slots-within yard occ a bytes (fits yard (unfit-not yard y)) (slotCount yard) (omega arith))

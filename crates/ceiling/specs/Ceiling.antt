@@ -41,11 +41,11 @@ slotsCeiling yard limit zero = 0
 slotsCeiling yard limit (suc n) = slotsCeiling yard limit n + ceilingOf (partOf yard (suc n)) .steps * limit
 
 -- 5: limit 0; then 14
-abbrev pub yardFault : List ℕ → ℕ → Refusal
-yardFault yard limit = orElse (cond (eqb limit 0) (refused 5 0) noRefusal) (Yard.yardFault yard)
+abbrev pub ceilingFault : List ℕ → ℕ → Refusal
+ceilingFault yard limit = orElse (cond (eqb limit 0) (refused 5 0) noRefusal) (Yard.yardFault yard)
 
 unfoldable pub yardCeilingOf : List ℕ → ℕ → StepCeiling
-yardCeilingOf yard limit = toldBy (yardFault yard limit) (slotsCeiling yard limit (slotCount yard))
+yardCeilingOf yard limit = toldBy (ceilingFault yard limit) (slotsCeiling yard limit (slotCount yard))
 
 -- ---- the steps of a check: their sum over the slots that are updated
 

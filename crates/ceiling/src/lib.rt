@@ -9,7 +9,7 @@ use yard_check::yard;
 ghost use mathlib.Core.Path.{_≡_};
 ghost use Prim.Native.Nat.{_*_, _≤_};
 ghost use Rattle.yard_check.specs.Yard.{partOf};
-ghost use Rattle.ceiling.specs.Ceiling.{toldBy, roundCeiling, ceilingOf, slotsCeiling, yardFault, yardCeilingOf};
+ghost use Rattle.ceiling.specs.Ceiling.{roundCeiling, ceilingOf, slotsCeiling, ceilingFault, yardCeilingOf};
 
 // Refused, or number 0 and so many steps.
 pub struct StepCeiling {
@@ -73,7 +73,7 @@ fn slots_ceiling(yard: &[u8], slots: u32, limit: u16) -> u64
 
 // 5, then 14; number 0 where the call is not refused.
 fn yard_fault(yard: &[u8], limit: u16) -> Refusal
-    ensures { λ r. ⌜ r ≡ yardFault (now (yard .entry)) limit ⌝ }
+    ensures { λ r. ⌜ r ≡ ceilingFault (now (yard .entry)) limit ⌝ }
 {
     if limit == 0 {
         return Refusal {

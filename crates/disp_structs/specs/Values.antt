@@ -1,11 +1,10 @@
 -- Events, path nodes and distances, as the definitions compare them. Assumes nothing.
 use Prim.Native.Nat.{ℕ}
-use mathlib.Core.Bool.{Bool, true, false, cond, not, _&&_, _||_}
+use mathlib.Core.Bool.{Bool, true, false, cond, not, _&&_}
 use lib.Dec.{eqb}
-use lib.Ieee.{Float, inf, binary64, add, sub, eq}
-use Rattle.link_rules.specs.LinkIdx.{noLink, sameLink, noTrain}
+use lib.Ieee.{inf, binary64, add, sub, eq}
+use Rattle.link_rules.specs.LinkIdx.{noLink, sameLink}
 use Rattle.link_rules.specs.declared.link_idx.LinkIdx.{LinkIdx}
-use Rattle.link_rules.specs.declared.link_idx.TrainIdx.{TrainIdx}
 use Rattle.disp_structs.specs.Floats.{nought, inReach, nearFloat}
 use Rattle.disp_structs.specs.declared.Metres.{Metres}
 use Rattle.disp_structs.specs.declared.Seconds.{Seconds}

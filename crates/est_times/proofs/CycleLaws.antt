@@ -14,7 +14,8 @@ use Rattle.est_times.specs.Cycles.{follow, via, reach, onCycle, firstOnC
 use Rattle.est_times.specs.Walks.{Step, Walk, Steps}
 use Rattle.est_times.specs.Walks.Walk.{last}
 use Rattle.est_times.specs.declared.Cycle.the-variants.{None, At}
-use Rattle.est_times.proofs.Counting.{count, two, clash, same-or-not, count-lt, count-bound}
+use Rattle.est_times.specs.Counts.{countBelow}
+use Rattle.est_times.proofs.Counting.{two, clash, same-or-not, count-lt, count-bound}
 use Rattle.est_times.proofs.FirstAt.{first-none, none-first, first-at, first-same}
 use Rattle.est_times.proofs.WalkLaws.{reach-walk, walk-reach, walk-from, walk-more, walk-rises, follow-below}
 
@@ -43,7 +44,7 @@ module _ (next alt : List ℕ) (e : ℕ) where
 
   -- and where there is none, there is such a rank: how many records lead to a by one step or more
   abbrev pub rankOf : ℕ → ℕ
-  rankOf a = count e (λ x. reach next alt e e x a)
+  rankOf a = countBelow e (λ x. reach next alt e e x a)
 
   module _ (none : firstOnCycle next alt e ≡ None) where
     off : (a : ℕ) → a < e → reach next alt e e a a ≡ false

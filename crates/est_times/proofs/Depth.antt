@@ -9,11 +9,8 @@ use lib.Dec.{eqb}
 use lib.ListN.{getD, length, set}
 use lib.Seq.{getD-set-same, getD-set-other}
 use borrow.Author.Tests.{eqb-true, eq-eqb, ne-eqb}
-use Rattle.est_times.proofs.Counting.{count, count-lt, count-bound, same-or-not}
-
--- u records are not blocked, and d are on the stack
-abbrev pub leftOf : ℕ → ℕ → ℕ → ℕ
-leftOf e u d = 2 * u + (e - d)
+use Rattle.est_times.specs.Counts.{countBelow, leftOf}
+use Rattle.est_times.proofs.Counting.{count-lt, count-bound, same-or-not}
 
 -- one on the stack more; one less, and one blocked; one blocked
 pub data Move (e : ℕ) : ℕ → ℕ → ℕ → ℕ → Type 0 where
@@ -43,11 +40,11 @@ run-entries l r = omega (arith, run-left r)
 abbrev pub openAt : List ℕ → ℕ → Bool
 openAt blocked q = eqb (getD blocked q 0) 0
 
-pub open-few : (e : ℕ) (blocked : List ℕ) → count e (openAt blocked) ≤ e
+pub open-few : (e : ℕ) (blocked : List ℕ) → countBelow e (openAt blocked) ≤ e
 open-few e blocked = count-bound e (openAt blocked)
 
 pub block-falls : (e : ℕ) (blocked : List ℕ) (s : ℕ) → s < e → s < length blocked → getD blocked s 0 ≡ 0
-    → count e (openAt (set blocked s 1)) < count e (openAt blocked)
+    → countBelow e (openAt (set blocked s 1)) < countBelow e (openAt blocked)
 block-falls e blocked s l m z =
     let same = getD-set-same blocked s 1 0 m in
     count-lt e (openAt (set blocked s 1)) (openAt blocked)

@@ -10,7 +10,8 @@ use lib.Dec.{eqb}
 use lib.ListN.{getD, set, length, replicate, length-set, length-replicate, getD-replicate}
 use lib.Seq.{getD-set-same, getD-set-other}
 use borrow.Author.Tests.{eqb-true, eqb-false, eq-eqb, ne-eqb, not-true}
-use Rattle.est_times.proofs.Counting.{count, two, clash, count-lt, count-bound, same-or-not}
+use Rattle.est_times.specs.Counts.{countBelow}
+use Rattle.est_times.proofs.Counting.{two, clash, count-lt, count-bound, same-or-not}
 use Rattle.est_times.specs.Cycles.{follow, onCycle}
 use Rattle.est_times.specs.Walks.{Step, Walk}
 use Rattle.est_times.specs.Walks.Walk.{last, then}
@@ -84,7 +85,7 @@ module _ (next alt : List ℕ) (e a : ℕ) where
     pub seen-length : length seen ≡ 512
     pub queue-length : length queue ≡ 512
     pub ahead : head ≤ n
-    pub few : n ≤ count e (flag seen)
+    pub few : n ≤ countBelow e (flag seen)
     pub below : (i : ℕ) → i < n → getD queue i 0 < e
     pub came : (i : ℕ) → i < n → (getD queue i 0 ≡ a) ⊎ Walk next alt e a (getD queue i 0)
     pub start : Seen seen a

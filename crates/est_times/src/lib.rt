@@ -3,7 +3,7 @@
 ghost use mathlib.Core.Path.{_≡_};
 ghost use mathlib.Core.Logic.{_⊎_};
 ghost use mathlib.Core.Bool.{true, not, _&&_, _||_};
-ghost use Prim.Native.Nat.{ℕ, min, _+_, _<_, _≤_};
+ghost use Prim.Native.Nat.{min, _+_, _<_, _≤_};
 ghost use lib.Dec.{eqb, ltb};
 ghost use lib.ListN.{getD, set};
 ghost use Rattle.est_times.specs.Cycles.{follow, onCycle, firstOnCycle};

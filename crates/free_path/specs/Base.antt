@@ -1,4 +1,4 @@
--- Answers with refusals, reads that may refuse, and walks. Nothing here knows of trains. Assumes nothing.
+-- Answers with refusals, reads that may refuse, and walks. Nothing here is of trains. Assumes nothing.
 use Prim.Native.Nat.{ℕ, zero, suc, _+_, _-_}
 use mathlib.Core.Bool.{Bool, true, false, cond, _&&_, _||_}
 use mathlib.Core.List.{List, [], _∷_}

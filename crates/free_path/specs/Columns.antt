@@ -2,7 +2,7 @@
 use mathlib.Core.Path.{_≡_}
 use Prim.Native.Nat.{ℕ, zero, suc, _≤_}
 use mathlib.Core.Bool.{Bool, cond, not, _&&_}
-use mathlib.Core.List.{List, [], _∷_, _++_, map}
+use mathlib.Core.List.{List, [], _∷_, map}
 use lib.Dec.{ltb, leb, eqb}
 use lib.ListN.{length, getD, take, set}
 use Rattle.link_rules.specs.LinkIdx.{sameLink, noLink}
@@ -21,6 +21,7 @@ abbrev pub answer : {A : Type 0} → ℕ → A → Res A
 answer zero a = ok a
 answer (suc c) a = no (suc c)
 
+-- the train of a number, the link of a number
 abbrev pub tr : ℕ → TrainIdx
 tr x = record { 0 = x }
 

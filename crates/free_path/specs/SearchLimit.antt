@@ -15,11 +15,11 @@ isMinus (fin s m e) = s
 abbrev pub larger : Float → Float → Float
 larger a b = cond (lt a b) b (cond (lt b a) a (cond (isMinus a) b a))
 
--- maximum of clause 9.6: a NaN wins over a number
+-- maximum of clause 9.6: NaN where one of the two is
 unfoldable pub maximum : Float → Float → Float
 maximum a b = cond (isNan a || isNan b) nan (larger a b)
 
--- maximumNumber of clause 9.6: a number wins over a NaN
+-- maximumNumber of clause 9.6: the number where the other is NaN
 unfoldable pub maximumNumber : Float → Float → Float
 maximumNumber a b = cond (isNan a) b (cond (isNan b) a (larger a b))
 

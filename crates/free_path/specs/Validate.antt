@@ -20,16 +20,16 @@ abbrev pub known : List LinkIdx → (LinkIdx → Bool) → LinkIdx → Bool
 known blocking on l = contains blocking l && on l
 
 -- an Arrive node whose link is occupied and was not known
-unfoldable pub isStray : List ℕ → (LinkIdx → Bool) → DispNode → Bool
-isStray occ known n = isArrive (n .«link_event» .«est_type») && (occupied occ (n .«link_event» .«link_idx») && not (known (n .«link_event» .«link_idx»)))
+unfoldable pub isStray : (occ : List ℕ) (isKnown : LinkIdx → Bool) (n : DispNode) → Bool
+isStray occ isKnown n = isArrive (n .«link_event» .«est_type») && (occupied occ (n .«link_event» .«link_idx») && not (isKnown (n .«link_event» .«link_idx»)))
 
 -- the strays at or after free
-unfoldable pub strays : List ℕ → (LinkIdx → Bool) → ℕ → List DispNode → ℕ
-strays occ known free path = count (isStray occ known) (drop free path)
+unfoldable pub strays : (occ : List ℕ) (isKnown : LinkIdx → Bool) (free : ℕ) (path : List DispNode) → ℕ
+strays occ isKnown free path = count (isStray occ isKnown) (drop free path)
 
 -- a stray as an entry of link_idx_path shows it: ValidateLaws.stray-link
-unfoldable pub strayLink : List ℕ → (LinkIdx → Bool) → LinkIdx → Bool
-strayLink occ known l = not (sameLink l noLink) && (occupied occ l && not (known l))
+unfoldable pub strayLink : (occ : List ℕ) (isKnown : LinkIdx → Bool) (l : LinkIdx) → Bool
+strayLink occ isKnown l = not (sameLink l noLink) && (occupied occ l && not (isKnown l))
 
 -- ---- validate_free_path
 

@@ -16,7 +16,7 @@ pub fn u32_of(col: &[u32], i: usize) -> u32
     col[i]
 }
 
-pub fn link_of(col: &[u32], i: usize) -> LinkIdx
+pub(crate) fn link_of(col: &[u32], i: usize) -> LinkIdx
     ensures { λ r. ⌜ r ≡ linkAt (now (col .entry)) i ⌝ }
 {
     if col.len() <= i {

@@ -1,4 +1,4 @@
-// The strays of a path and its occupancy conflicts, over link_idx_path.
+// The strays of a path, over link_idx_path.
 ghost use mathlib.Core.Path.{_≡_};
 ghost use Prim.Native.Nat.{_+_, _-_, _<_, _^_};
 ghost use mathlib.Core.Bool.{cond};
@@ -34,7 +34,7 @@ fn stray_more(occ: &[u32], known: &[u8], l: LinkIdx, k: usize) -> usize
     k
 }
 
-// The strays at or after free of a path of n nodes. With no flags these are the occupancy conflicts.
+// The strays at or after free of a path of n nodes.
 pub fn strays(col: &[u32], n: usize, free: usize, occ: &[u32], known: &[u8]) -> usize
     ensures { λ r. ⌜ r ≡ count (strayLink (now (occ .entry)) (flagged (now (known .entry)))) (drop free (listed n (linkAt (now (col .entry))))) ⌝ }
 {

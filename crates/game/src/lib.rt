@@ -10,7 +10,7 @@ use link_rules::refusal::Refusal;
 use update_free_path::start::Args;
 use yard_check::bytes;
 ghost use mathlib.Core.Path.{_≡_};
-ghost use Prim.Native.Nat.{_^_, _≤_};
+ghost use Prim.Native.Nat.{_^_};
 ghost use lib.ListN.{length};
 ghost use Rattle.game.specs.Game.{allOpen, closerWins, judged, verdictOf};
 ghost use Rattle.game.specs.Sets.{Verdicts, Accepted, gameOf, winsWith};

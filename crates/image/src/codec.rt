@@ -15,8 +15,7 @@ use link_rules::octets;
 ghost use mathlib.Core.Path.{_≡_};
 ghost use Prim.Native.Nat.{_+_, _*_, _-_, _^_, _<_};
 ghost use lib.ListN.{length, replicate};
-ghost use Rattle.link_rules.specs.Octets.{leAt, putLe};
-ghost use Rattle.disp_structs.specs.Floats.{realOf};
+ghost use Rattle.link_rules.specs.Octets.{leAt};
 ghost use Rattle.image.specs.Image.{sizeOf, estCount, pathCount, divergeCount, divergeRoom, trainIdx, isWide, pathHeader, distDispPathSearch, distFixedMax, estPlace, nodePlace, divergePlace, typeOf, typeNumber, estFrom, estAt, nodeFrom, nodeAt, zeroEst, zeroNode, wholeEst, wholeNode, divergeFrom, divergeAt, putNode, putDiverge, zeroWords, clearNodes, clearDiverges, putPathHeader};
 
 // The header's numbers that an update changes.

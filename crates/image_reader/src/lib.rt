@@ -45,7 +45,7 @@ pub fn node<'a>(r: Reader<'a>) -> DispNode
 
 // ---- for whoever has a plain slice
 
-// For the sheet's last column, and for whether a train is finished.
+// For the sheet's free column, and for whether a train is finished.
 pub fn free_of(image: &[u8]) -> u16
     ensures { λ r. ⌜ r ≡ freeOf (now (image .entry)) ⌝ }
 {

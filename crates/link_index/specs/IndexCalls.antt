@@ -1,10 +1,10 @@
 -- Lists of calls beside an index (document 02, Q-10): what each does to the index, and that a right index stays right. Stated here, proved in
--- proofs/CallLaws. Assumes nothing.
+-- proofs/ListLaws. Assumes nothing.
 use Prim.Native.Nat.{ℕ, _^_, _≤_, _<_}
 use mathlib.Core.Path.{_≡_}
 use mathlib.Core.Bool.{true}
 use mathlib.Core.List.{List, [], _∷_}
-use lib.ListN.{length, getD}
+use lib.ListN.{getD}
 use Rattle.train_disp.specs.declared.Settings.{Settings}
 use Rattle.yard_check.specs.Yard.{slotCount, partOf, withPart, yardFits}
 use Rattle.yard_check.specs.Check.{CheckArgs}
@@ -51,12 +51,9 @@ abbrev pub HaveSlots : Beside → List IndexCall → Type 0
 HaveSlots s [] = Unit {0}
 HaveSlots s (c ∷ cs) = HasSlot s c × HaveSlots (after s c) cs
 
--- an index is of u64, and a yard of u8
+-- an index is of u64
 abbrev pub Entries : List ℕ → Type 0
 Entries index = (l : ℕ) → getD index l 0 < 2 ^ 64
-
-abbrev pub Octets : List ℕ → Type 0
-Octets yard = (i : ℕ) → getD yard i 0 < 256
 
 -- after each of them the bits of the slots whose image changed are as in an index built afresh, and all others stay (ChangedAsBuilt, OthersStay)
 abbrev pub CallsRefresh : Type 0

@@ -1,7 +1,7 @@
 // Marking and releasing a link: update_links_blocked and reset_link_train_idx (advance_rewind.rs 549-584).
 ghost use mathlib.Core.Path.{_≡_};
-ghost use lib.ListN.{length, getD, set};
-ghost use Rattle.link_rules.specs.LinkIdx.{occupied, wideTrain};
+ghost use lib.ListN.{getD, set};
+ghost use Rattle.link_rules.specs.LinkIdx.{wideTrain};
 ghost use Rattle.link_rules.specs.Network.{linkAt};
 ghost use Rattle.link_rules.specs.AdvanceRewind.{holdAll, refilled, resetLinkTrainIdx, resetAll, updateLinksBlocked, isLink, refusalJudged, marked, markJudged, markOf};
 use crate::link_idx::LinkIdx;

@@ -1,5 +1,6 @@
 // A round of update_free_path (free_path.rs 278-633), proved equal to roundOf of update_definition.
 // The train stands in the bytes of an image, two columns of diverge nodes and a header's numbers; everything else is lent room.
+// dt and dn are the trains and nodes of div_nodes, nt and nn those of div_nodes_new. Of the public functions splitting::round alone has a `requires`.
 // The crate assumes nothing of its own.
 pub mod ending;
 pub mod searching;

@@ -40,6 +40,7 @@ fn search_round(
         (searchAt r start [] (arrays (now (pool .entry)) (now (begins .entry)) (now (ends .entry))) (now (nt .entry)) (now (nn .entry))) x
         (now (img .exit)) (now (dt .exit)) (now (dn .exit)) ⌝ }
 {
+    // An image of no est records: its path begins at octet 64.
     octets::put_u32(fresh, 4, 0);
     let s = run::run(
         img,

@@ -1,11 +1,10 @@
--- The start of a round: idx_split, div_idx_split with its asserts, a round with another limit, and paths whose links have flags. Assumes nothing.
+-- The start of a round: idx_split, div_idx_split with its asserts, and paths whose links have flags. Assumes nothing.
 use mathlib.Core.Path.{_≡_}
 use mathlib.Core.Bool.{true, cond}
 use Prim.Native.Nat.{ℕ, _<_}
 use mathlib.Core.List.{List}
 use lib.Dec.{ltb, leb}
 use Rattle.link_rules.specs.declared.link_idx.LinkIdx.{LinkIdx}
-use Rattle.disp_structs.specs.declared.Metres.{Metres}
 use Rattle.disp_structs.specs.Values.{isArrive}
 use Rattle.disp_structs.specs.declared.DispNode.{DispNode}
 use Rattle.disp_structs.specs.declared.DivergeNode.{DivergeNode}
@@ -14,7 +13,6 @@ use Rattle.free_path.specs.Columns.{answer}
 use Rattle.free_path.specs.LinkOptType.{Sentinels, linksOnPath, contains, trainMet}
 use Rattle.free_path.specs.declared.link_opt_type.LinkOptType.{LinkOptType}
 use Rattle.update_definition.specs.Accepted.{Each}
-use Rattle.update_definition.specs.State.{Round}
 use Rattle.update_definition.specs.Update.{divPoint, apart, meeting}
 use Rattle.round_start.specs.declared.split.Split.{Split}
 

@@ -153,7 +153,7 @@ pub record Steps (n : ℕ) (p : Place) (a : Arrays) (x : Placed) (b : Arrays) (f
 
 -- ---- what a turn does up to its move
 
--- the assert on the diverge nodes before and at i (358-361)
+-- the assert on the diverge nodes before and at i (357-360)
 abbrev pub rising : List DivergeNode → ℕ → Res (Unit {0})
 rising divs i = before divs i >>= λ a. at divs i >>= λ b. need (ltb (a .«disp_node_idx») (b .«disp_node_idx»))
 

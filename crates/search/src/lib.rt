@@ -1,7 +1,8 @@
 // The search of a round of update_free_path (free_path.rs 345-633), proved equal to the definitions of update_definition: looking (look, views),
 // the moves but ChangeDiverge and Join (moves, rewind), a turn up to these two (turn), and turn after turn up to the one that ends it (run).
 // est_times and disp_path are read from the image; diverge nodes, views, the pool of blocking trains and is_on_path are
-// columns of numbers that the caller lends. What stands past a column's end reads as 0. The crate assumes nothing of its own.
+// columns of numbers that the caller lends. What stands past a column's end reads as 0. dt and dn are the trains and
+// nodes of div_nodes, nt and nn those of div_nodes_new. Of the public functions run::run alone has a `requires`: Ready. The crate assumes nothing of its own.
 pub mod fakes;
 pub mod look;
 pub mod moves;

@@ -6,7 +6,7 @@ ghost use Prim.Native.Nat.{_+_, _*_};
 ghost use lib.ListN.{length, drop};
 ghost use Rattle.link_rules.specs.Octets.{leAt};
 ghost use Rattle.disp_structs.specs.Listed.{listed};
-ghost use Rattle.sheet_text.specs.Sheet.{occupancyCount, blockingOffset, blockingCount, yardOffset, bundleFits, partsFit, reportSlots};
+ghost use Rattle.sheet_text.specs.Sheet.{blockingOffset, bundleFits, partsFit, reportSlots};
 
 // ---- 17: a bad bundle
 

@@ -204,7 +204,7 @@ fn links_room() -> [u32; 4001]
     [0u32; 4001]
 }
 
-// A record of at most 20 bytes for each of 63 slots.
+// A record of 20 bytes for each of 63 slots.
 fn report_room() -> [u8; 1260]
     ensures { λ r. ⌜ 1260 ≡ length r ⌝ }
 {

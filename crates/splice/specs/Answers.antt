@@ -138,7 +138,7 @@ FinishesAt img fresh h p base divSplit a img₁ =
     × Kept img₁ img
     × (a .moves ≡ movesOf (a .code) (p .split + p .«new_count») (h .«path_count») (ok base))
 
--- where the old path has the next est (576-588)
+-- where the old path has the next est (578-582)
 abbrev pub joinBase : (img : List ℕ) (h : PathHeader) (p : Reached) (est : EstTime) → Res ℕ
 joinBase img h p est = walkFrom (λ x. sameEst (est .«idx_next») (x .«est_idx»)) (listed (h .«path_count») (nodeAt img)) (p .«split_save»)
 

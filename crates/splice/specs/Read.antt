@@ -87,11 +87,11 @@ atSplit img n p alt dn m =
     && (eqb (p .join) (p .split)
     && (ltb (p .split) n && (sameEst alt (nodeAt img (p .split) .«est_idx») && (ltb (p .«div_split») m && eqb (p .split) (getD dn (p .«div_split») 0))))))
 
--- where the old diverge nodes of the split node end (508-514)
+-- where the old diverge nodes of the split node end (510-516)
 unfoldable pub baseEnd : (img : List ℕ) (n : ℕ) (p : Reached) (alt : EstIdx) (dt dn : List ℕ) (m : ℕ) → Res ℕ
 baseEnd img n p alt dt dn m = need (atSplit img n p alt dn m) >> walkFrom (λ d. not (eqb (d .«disp_node_idx») (p .split))) (listed m (divAt dt dn)) (p .«div_split» + 1)
 
--- the trains that are taken, in place of the diverge nodes up to k (518-532)
+-- the trains that are taken, in place of the diverge nodes up to k (518-531)
 unfoldable pub changeAt : Train → Reached → Res (List TrainIdx) → ℕ → Res Turn
 changeAt t p taken k = do
   ts ← taken

@@ -78,7 +78,7 @@ fn changed(h: PathHeader, total: u32, split: u32, div_split: usize) -> Again
     }
 }
 
-// The view's trains take the place of the diverge nodes up to k (518-532).
+// The view's trains take the place of the diverge nodes up to k (518-531).
 fn change_at(
     img: &[u8],
     h: PathHeader,

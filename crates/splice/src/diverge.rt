@@ -37,7 +37,7 @@ pub fn walk_above(dn: &[u32], m: usize, i: usize, x: u32) -> Found
 }
 
 // From i on the first of m entries that is not x.
-pub fn walk_past(dn: &[u32], m: usize, i: usize, x: u32) -> Found
+pub(crate) fn walk_past(dn: &[u32], m: usize, i: usize, x: u32) -> Found
     ensures { λ r. ⌜ ((ts : List ℕ) → answer (r .code) (r .at) ≡ walkFrom (λ d. not (eqb (d .«disp_node_idx») x)) (listed m (divAt ts (now (dn .entry)))) i) ⌝ }
 {
     let mut k = i;

@@ -14,7 +14,6 @@ ghost use Rattle.splice.specs.Parts.{fromOn, putOffset};
 ghost use Rattle.splice.specs.Answers.{PathRoom, PathSpliced};
 use crate::moves;
 use crate::moves::Stretch;
-use disp_structs::DispNode;
 use disp_structs::EstIdx;
 use disp_structs::Metres;
 use disp_structs::Seconds;

@@ -18,7 +18,7 @@ use Rattle.image.specs.Codec.{decoded, putEach, putRecords, putChanges, putSize
 use Rattle.image_fault.specs.ImageFault.{firstUnfit, countsFit, partsFit, trainFits, estTypeFits, nodeTypeFits, divergeSpareFits, zeroWord, unusedZero, recordsFit, imageFits, floatFits, timeFits, distFits, eventFits, estLinksFit, estFits, nodeFits, indicesFit, headerFits, divergeTrainFits, trainsFault, valueFault, cycleFault, stepsTo, comesFrom, endsAt, arrivesOn, arrived, firstArrival, onRoute, innerFits, divergeFits, routeFault, faultWith}
 use Rattle.link_rules.specs.Refusals.{noRefusal, refused}
 use Rattle.update_definition.specs.Update.{Success}
-use Rattle.update_laws.specs.Build.{train, metres, est, node, dive, everything}
+use Rattle.update_laws.proofs.Build.{train, metres, est, node, dive, everything}
 use Rattle.update_definition.specs.UpdateImage.{UpdatedImage, linksBelow, callFault, updateFaultIn, updateFault, updatedImageIn, updatedImage}
 use Rattle.track_profile.specs.Profile.{unitsOf, inProfile, offsetAt, imageInProfile, profileFault}
 use Rattle.track_profile.specs.ExactSteps.{namesNext, namesAlt}

@@ -3,12 +3,12 @@
 ghost use mathlib.Core.Path.{_≡_};
 ghost use mathlib.Core.Bool.{true, false};
 ghost use Prim.Native.Nat.{_+_, _≤_};
-ghost use lib.ListN.{length, replicate};
+ghost use lib.ListN.{length};
 ghost use Rattle.disp_structs.specs.Values;
 ghost use Rattle.disp_structs.specs.Values.{zeroMetres};
 ghost use Rattle.image.specs.Image.{estCount, nodePlace};
 ghost use Rattle.image_fault.specs.ImageFault.{imageFault};
-ghost use Rattle.train_disp.specs.TrainDisp.{newNode, offsetBehind, walkNext, estLength, newPath, settingBits, withHeader, withEst, putNodes, withEnds, laidImage, sizesFit, allWithin, layOutFault, laid, laidOut};
+ghost use Rattle.train_disp.specs.TrainDisp.{newNode, offsetBehind, walkNext, newPath, settingBits, withHeader, withEst, putNodes, withEnds, laidImage, sizesFit, allWithin, layOutFault, laid, laidOut};
 ghost use Rattle.train_disp.specs.CodeFacts.{Sized};
 use disp_structs::DispNode;
 use disp_structs::EstIdx;

@@ -235,7 +235,7 @@ pub record Between : Type 0 where
 abbrev pub between : Train → ℕ → ℕ → Tally → Between
 between t split divSplit tally = record { train = t; «idx_split» = split; «div_idx_split» = divSplit; tally = tally }
 
--- every answer is made here, and has met no train
+-- an answer that has met no train; meets adds the train met
 abbrev pub answerOf : Status → Tally → Answer
 answerOf status tally = record { status = status; tally = tally; met = noTrain }
 

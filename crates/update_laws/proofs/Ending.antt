@@ -11,7 +11,8 @@ use borrow.Author.Tests.{not-true}
 use Rattle.disp_structs.specs.Values.{view, isBlocked}
 use Rattle.disp_structs.specs.declared.DispNode.{DispNode}
 use Rattle.disp_structs.specs.declared.TrainIdxsView.{TrainIdxsView}
-use Rattle.est_times.proofs.Counting.{count, count-le, count-lt, count-bound, clash}
+use Rattle.est_times.specs.Counts.{countBelow}
+use Rattle.est_times.proofs.Counting.{count-le, count-lt, count-bound, clash}
 use Rattle.est_times.proofs.Depth.{Move, move-falls}
 use Rattle.est_times.proofs.Depth.Move.{push, pop, block}
 use Rattle.free_path.specs.Base.{Res, ok, no, popped}
@@ -38,18 +39,18 @@ open-within views x v b e a l h = ⊎-elim
     (λ q. sym (ap (λ (y : TrainIdxsView). not (isBlocked y)) q) ∙ h)
     (getD-set views x v a)
 
-open-le : (views : List TrainIdxsView) (x : ℕ) (v : TrainIdxsView) (e : ℕ) → isBlocked v ≡ true → count e (openAt (set views x v)) ≤ count e (openAt views)
+open-le : (views : List TrainIdxsView) (x : ℕ) (v : TrainIdxsView) (e : ℕ) → isBlocked v ≡ true → countBelow e (openAt (set views x v)) ≤ countBelow e (openAt views)
 open-le views x v e b = count-le e (openAt (set views x v)) (openAt views) (open-within views x v b e)
 
 open-lt : (views : List TrainIdxsView) (x : ℕ) (v : TrainIdxsView) (e : ℕ) → isBlocked v ≡ true → x < e → length views ≡ e → isBlocked (getD views x (view 0 0)) ≡ false
-    → count e (openAt (set views x v)) < count e (openAt views)
+    → countBelow e (openAt (set views x v)) < countBelow e (openAt views)
 open-lt views x v e b l n f = count-lt e (openAt (set views x v)) (openAt views) (open-within views x v b e) x l
     (ap (λ (y : TrainIdxsView). not (isBlocked y)) (getD-set-same views x v (view 0 0) (omega arith)) ∙ ap not b) (ap not f)
 
 -- ---- the looks
 
 module _ (e : ℕ) (r : Round) (h : Here) where
-  looks-open : {s u : Search} → ViewsGood e s → Looks r h s u → count e (openAt (u .views)) ≤ count e (openAt (s .views))
+  looks-open : {s u : Search} → ViewsGood e s → Looks r h s u → countBelow e (openAt (u .views)) ≤ countBelow e (openAt (s .views))
   looks-open g (passes d a b) = omega arith
   looks-open {s} g (blocks d ts a b c t f some) = open-le (s .views) (h .«est_curr» .«idx_next» .0) (view (length (s .«train_idxs_blocking»)) (length (s .«train_idxs_blocking») + length ts)) e
       (blocks-blocked {n = length (s .«train_idxs_blocking») + length ts} (view (length (s .«train_idxs_blocking»)) (length (s .«train_idxs_blocking») + length ts)) (record { low = g .pool .some; order = omega arith; high = omega arith }))
@@ -74,7 +75,7 @@ module _ (links : ℕ) (r : Round) (g : Accepted links (r .train)) where
   E = length (r .train .«est_times»)
 
   module _ (s : Search) (k : StackGood r s) (v : ViewsGood E s) (h : Here) (st : Stands r s h) (o : blocked (s .views) (h .«disp_node_curr» .«est_idx») ≡ false) where
-    rewound-less : (w : Rewound r h s) → count E (openAt (set (s .views) (h .«disp_node_curr» .«est_idx» .0) (w .pooled .made))) < count E (openAt (s .views))
+    rewound-less : (w : Rewound r h s) → countBelow E (openAt (set (s .views) (h .«disp_node_curr» .«est_idx» .0) (w .pooled .made))) < countBelow E (openAt (s .views))
     rewound-less w = open-lt (s .views) (h .«disp_node_curr» .«est_idx» .0) (w .pooled .made) E (blocks-blocked (w .pooled .made) (rewound-good E r h s v w .made)) (at-below (r .train .«est_times») (h .«disp_node_curr» .«est_idx» .0) (st .est)) (v .long) o
 
     pushed : (b : DispNode) → s .«idx_split» + length (s .«disp_path_new») < E → s .«idx_split» + length (s .«disp_path_new» ++ (b ∷ [])) ≡ s .«idx_split» + length (s .«disp_path_new») + 1

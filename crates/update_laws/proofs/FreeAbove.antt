@@ -9,7 +9,7 @@ use Rattle.disp_structs.specs.declared.EstType.the-variants.{Arrive, Clear, Fak
 use Rattle.free_path.specs.Base.{ok, no}
 use Rattle.update_definition.specs.State.{Round, Search, goOn, ends}
 use Rattle.update_definition.specs.Update.{searchStep, searchAt, roundAt, Given, givenOf, splitPoint, divPoint, savePoint}
-use Rattle.update_laws.specs.Build.{link, train, metres, est, node, dive, everything}
+use Rattle.update_laws.proofs.Build.{link, train, metres, est, node, dive, everything}
 
 free-above-in : Train
 free-above-in =

@@ -41,6 +41,7 @@ pub mod TopNever
 pub mod Tops
 pub mod TallyBounds
 pub mod Steps
+pub mod Build
 pub mod Examples
 pub mod PathReads
 pub mod BytesAccepted

@@ -12,7 +12,8 @@ use Rattle.disp_structs.specs.Values.{view, isBlocked}
 use Rattle.disp_structs.specs.declared.EstIdx.{EstIdx}
 use Rattle.disp_structs.specs.declared.DispNode.{DispNode}
 use Rattle.disp_structs.specs.declared.TrainIdxsView.{TrainIdxsView}
-use Rattle.est_times.proofs.Counting.{count, count-lt, clash}
+use Rattle.est_times.specs.Counts.{countBelow}
+use Rattle.est_times.proofs.Counting.{count-lt, clash}
 use Rattle.free_path.specs.Base.{ok, at, popped}
 use Rattle.update_definition.specs.State.{Round, Search, Turn, blocked}
 use Rattle.update_definition.specs.Look.{Here}
@@ -82,7 +83,7 @@ but : (ℕ → Bool) → ℕ → ℕ → Bool
 but f a x = f x && not (eqb x a)
 
 distinct-few : (e : ℕ) (f : ℕ → Bool) (xs : List DispNode) → ((i j : ℕ) (a b : DispNode) → i < j → at xs i ≡ ok a → at xs j ≡ ok b → estOf a ≡ estOf b → ⊥)
-    → ((i : ℕ) (a : DispNode) → at xs i ≡ ok a → (estOf a < e) × (f (estOf a) ≡ true)) → length xs ≤ count e f
+    → ((i : ℕ) (a : DispNode) → at xs i ≡ ok a → (estOf a < e) × (f (estOf a) ≡ true)) → length xs ≤ countBelow e f
 unfolding at but
 distinct-few e f [] d p = omega arith
 distinct-few e f (x ∷ xs) d p =
@@ -105,7 +106,7 @@ distinct-few e f (x ∷ xs) d p =
 
 module _ (links : ℕ) (r : Round) (g : Accepted links (r .train)) (s : Search) (k : StackGood r s) (o : StackOpen r s) where
   -- the stack is no longer than the ests that are not blocked
-  pub stack-open-few : s .«idx_split» + length (s .«disp_path_new») ≤ count (length (r .train .«est_times»)) (openAt (s .views))
+  pub stack-open-few : s .«idx_split» + length (s .«disp_path_new») ≤ countBelow (length (r .train .«est_times»)) (openAt (s .views))
   stack-open-few =
       let n = distinct-few (length (r .train .«est_times»)) (openAt (s .views)) (stack r s)
       (chain-distinct links (r .train .«est_times») (g .ests) (stack r s) (k .steps) (stack-first links r g s k))

@@ -1,4 +1,4 @@
--- What the asserts of the search loop rest on, beyond Good. Assumes nothing.
+-- What the asserts of the search loop need beyond Good. Assumes nothing.
 use Prim.Native.Nat.{ℕ, _-_, _≤_, _<_}
 use mathlib.Core.Path.{_≡_}
 use mathlib.Core.Bool.{true}

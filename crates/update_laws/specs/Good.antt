@@ -12,8 +12,7 @@ use Rattle.disp_structs.specs.declared.EstTime.{EstTime}
 use Rattle.disp_structs.specs.declared.DispNode.{DispNode}
 use Rattle.disp_structs.specs.declared.DivergeNode.{DivergeNode}
 use Rattle.disp_structs.specs.declared.TrainIdxsView.{TrainIdxsView}
-use Rattle.est_times.proofs.Counting.{count}
-use Rattle.est_times.proofs.Depth.{leftOf}
+use Rattle.est_times.specs.Counts.{countBelow, leftOf}
 use Rattle.free_path.specs.Base.{ok, at, before}
 use Rattle.free_path.specs.TrainIdxsView.{poolRoom}
 use Rattle.update_definition.specs.State.{Round, Search, blocked}
@@ -101,7 +100,7 @@ openAt views i = not (isBlocked (getD views i (view 0 0)))
 
 -- how many ests are not blocked
 abbrev pub opens : Round → Search → ℕ
-opens r s = count (length (r .train .«est_times»)) (openAt (s .views))
+opens r s = countBelow (length (r .train .«est_times»)) (openAt (s .views))
 
 -- how long the stack is: idx_join_new
 abbrev pub depth : Search → ℕ

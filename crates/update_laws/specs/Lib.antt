@@ -6,4 +6,3 @@ pub mod FitsGood
 pub mod Bounds
 pub mod Asserts
 pub mod Tops
-pub mod Build

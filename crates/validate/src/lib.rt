@@ -9,7 +9,6 @@ ghost use lib.ListN.{drop};
 ghost use Rattle.free_path.specs.Base.{count};
 ghost use Rattle.free_path.specs.Columns.{answer};
 ghost use Rattle.free_path.specs.Validate.{badPath, inConflict, validateFreePath};
-ghost use Rattle.disp_structs.specs.Values.{isArrive};
 ghost use Rattle.image.specs.Image.{estCount, nodeAt, estsOf, pathOf};
 use disp_structs::DispNode;
 use disp_structs::EstIdx;

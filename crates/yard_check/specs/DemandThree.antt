@@ -86,7 +86,7 @@ Each R (x ∷ xs) (y ∷ ys) = R x y × Each R xs ys
 
 -- ---- the premises over the first yard
 
--- a check that begins at slot 1, finds entry 0 of the occupancy empty, and reports no stray in any slot
+-- a check that begins at slot 1, finds entry 0 of the occupancy empty, and reports no stray in any slot; without one of these numbers can matter
 pub record Plain (yard occ : List ℕ) (a : CheckArgs) (report : List ℕ) : Type 0 where
   pub begin : a .begin ≡ 1
   pub zero-empty : getD occ 0 0 ≡ 0

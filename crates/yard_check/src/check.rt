@@ -109,7 +109,7 @@ fn wide_count(yard: &[u8], n: u32) -> u32
 }
 
 // Whether the records of the report are wide.
-pub(crate) fn wide_rows(yard: &[u8], w: Widths) -> bool
+fn wide_rows(yard: &[u8], w: Widths) -> bool
     ensures { λ r. ⌜ r ≡ Check.wideRows w (now (yard .entry)) ⌝ }
 {
     match w {

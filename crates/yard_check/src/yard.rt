@@ -66,7 +66,7 @@ pub fn part(yard: &[u8], t: TrainIdx) -> &[u8]
     &yard[a..e]
 }
 
-// None where the yard has no such slot.
+// Empty where the yard has no such slot.
 pub fn image_in(yard: &[u8], slot: TrainIdx) -> &[u8]
     ensures { λ r. ⌜ now r ≡ imageIn (now (yard .entry)) (slot .0) ⌝ }
 {

@@ -4,7 +4,7 @@ use denote.Ref.{now}
 use borrow.Author.Tests.{eq-eqb, ne-eqb}
 use Rattle.link_rules.specs.Octets.{leAt}
 use Rattle.yard_check.specs.Yard.{slotCount}
-use Rattle.carry.specs.Carry.{wideEnd, headerFits}
+use Rattle.carry.specs.Carry.{wideEnd, secondHeaderFits}
 use borrow.Author.Needs.{needs}
 use Rattle.carry.proofs.header_fits.Statement.{statement}
 use Rattle.carry.proofs.header_fits.Tie as tie
@@ -22,7 +22,7 @@ cast-if1 : tie.Need-cast-if1
 cast-if1 c = search needs
 
 returns : tie.Need-returns
-unfolding headerFits
+unfolding secondHeaderFits
 returns c =
     let a = c .before .before .before .before .before .before .args in
     let Y = now (a .yard) in
@@ -33,7 +33,7 @@ slot-count-requires-2 : tie.Need-slot-count-requires-2
 slot-count-requires-2 c κs = search needs
 
 returns-2 : tie.Need-returns-2
-unfolding headerFits
+unfolding secondHeaderFits
 returns-2 c =
     let a = c .before .before .before .before .before .before .before .before .args in
     let Y = now (a .yard) in
@@ -45,7 +45,7 @@ offsets-fit-requires : tie.Need-offsets-fit-requires
 offsets-fit-requires c κs = search needs
 
 returns-3 : tie.Need-returns-3
-unfolding headerFits
+unfolding secondHeaderFits
 returns-3 c =
     let a = c .before .before .before .before .before .before .before .before .before .args in
     let Y = now (a .yard) in

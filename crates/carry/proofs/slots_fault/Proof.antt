@@ -2,7 +2,7 @@ use mathlib.Core.Path.{ap, ap₂, _∙_}
 use mathlib.Core.Bool.{Bool}
 use Rattle.link_rules.specs.Refusals.{orElse, refusedUnless}
 use Rattle.link_rules.specs.declared.refusal.Refusal.{Refusal}
-use Rattle.carry.specs.Carry.{slotsFault}
+use Rattle.carry.specs.Carry.{restFault}
 use borrow.Author.Needs.{needs}
 use Rattle.carry.proofs.slots_fault.Statement.{statement}
 use Rattle.carry.proofs.slots_fault.Tie as tie
@@ -20,7 +20,7 @@ or-else-requires : tie.Need-or-else-requires
 or-else-requires c κs = search needs
 
 returns : tie.Need-returns
-unfolding slotsFault
+unfolding restFault
 returns c = c .or-else .ensures ∙ ap₂ (λ (x y : Refusal). orElse x y) (c .before .before .before .images-fault .ensures) (c .before .refused-unless .ensures ∙ ap (λ (b : Bool). refusedUnless b 24) (c .before .before .second-fits .ensures))
 
 pub slots-fault-spec : {M : Type 1} → statement M
