@@ -1,4 +1,4 @@
--- One pass over an image: 6 to 9 and 22 asked of a record together, by its numbers. Where all pass there is no refusal; where not, ImageFault says which comes
+-- One pass over an image: 6, 7, 9 and 22 asked of a record together, by its numbers, and 8. Where all pass there is no refusal; where not, ImageFault says which comes
 -- first. Assumes nothing.
 use Prim.Native.Nat.{ℕ, _+_}
 use mathlib.Core.Bool.{Bool, true, cond, not, _&&_}

@@ -1,5 +1,5 @@
-// One pass over an image, which says only whether all fits: each record is read once, and 6 to 9 are asked of it together.
-// The functions but all_fit are called at one place each, so that they are inlined there and one test of the length serves every field of a record.
+// One pass over an image, which says only whether all fits: 6, 7 and 9 are asked of a record together, of a wide diverge record 22 too, and 8 of
+// the est records where they do not all lead to later ones. The functions of a record are small, so that they are inlined and one test of the length serves every field of it.
 ghost use mathlib.Core.Path.{_≡_};
 ghost use mathlib.Core.Bool.{cond, true, not, _&&_};
 ghost use lib.Dec.{eqb};
@@ -8,6 +8,7 @@ ghost use Prim.Native.Nat.{_≤_};
 ghost use Rattle.link_rules.specs.Network.{allBelow};
 ghost use Rattle.disp_structs.specs.Values.{isArrive};
 ghost use Rattle.image.specs.Image.{estCount, pathCount, divergeCount, isWide, nodeAt};
+ghost use Rattle.image_fault.specs.CodeFacts.{leadsOn};
 ghost use Rattle.image_fault.specs.ImageFault.{divergeFits};
 ghost use Rattle.image_fault.specs.AllFit.{eventPasses, acyclic, estPasses, nodePasses, pathPasses, headPasses, widePasses, divergesPass, recordsPass, allFit};
 use crate::Widths;
@@ -62,19 +63,42 @@ fn est_passes(img: &[u8], e: u32, links: u32, i: u32) -> bool
     false
 }
 
-fn ests_pass(img: &[u8], e: u32, links: u32) -> bool
-    requires { ⌜ e ≡ estCount (now img) ⌝ }
-    ensures { λ r. ⌜ r ≡ allBelow e (estPasses (now (img .entry)) links) ⌝ }
+// Do all est records pass? Where they do: does each lead to later ones alone?
+pub struct Ests {
+    pub pass: bool,
+    pub ascend: bool,
+}
+
+fn still_ascends(ascend: bool, img: &[u8], i: u32) -> bool
+    ensures { λ r. ⌜ r ≡ (ascend && leadsOn (now (img .entry)) i) ⌝ }
 {
+    if ascend {
+        return crate::leads_on(img, i);
+    }
+    false
+}
+
+fn ests_pass(img: &[u8], e: u32, links: u32) -> Ests
+    requires { ⌜ e ≡ estCount (now img) ⌝ }
+    ensures { λ r. ⌜ (r .pass ≡ allBelow e (estPasses (now (img .entry)) links)) × (r .pass ≡ true → r .ascend ≡ allBelow e (leadsOn (now (img .entry)))) ⌝ }
+{
+    let mut ascend = true;
     let mut i: u32 = 0;
     while i < e {
         if est_passes(img, e, links, i) {
+            ascend = still_ascends(ascend, img, i);
             i += 1;
         } else {
-            return false;
+            return Ests {
+                pass: false,
+                ascend: false,
+            };
         }
     }
-    true
+    Ests {
+        pass: true,
+        ascend: ascend,
+    }
 }
 
 // ---- path records
@@ -259,11 +283,15 @@ fn head_passes(img: &[u8], w: Widths) -> bool
     false
 }
 
-fn is_acyclic(img: &[u8], e: u32) -> bool
-    requires { ⌜ (e ≡ estCount (now img)) × (e ≤ 512) ⌝ }
+// ascend: each est record leads to later ones alone, as in most images; only for the others are arrays filled and searched.
+fn is_acyclic(img: &[u8], e: u32, ascend: bool) -> bool
+    requires { ⌜ (e ≡ estCount (now img)) × (e ≤ 512) × (ascend ≡ allBelow e (leadsOn (now img))) ⌝ }
     ensures { λ r. ⌜ r ≡ acyclic (now (img .entry)) ⌝ }
 {
-    let f = crate::cycle_fault(img, e);
+    if ascend {
+        return true;
+    }
+    let f = crate::lowest_on_cycle(img, e);
     f.number == 0
 }
 
@@ -272,8 +300,9 @@ fn records_pass(img: &[u8], links: u32) -> bool
     ensures { λ r. ⌜ r ≡ recordsPass (now (img .entry)) links ⌝ }
 {
     let e = codec::est_count(img);
-    if ests_pass(img, e, links) {
-        if is_acyclic(img, e) {
+    let ests = ests_pass(img, e, links);
+    if ests.pass {
+        if is_acyclic(img, e, ests.ascend) {
             if path_passes(img, e, codec::path_count(img), links) {
                 return diverges_pass(img, codec::diverge_count(img));
             }
