@@ -10,7 +10,7 @@ use lib.Ieee.{Float, nan, inf, fin, isNan, eq, le}
 use mathlib.Core.Bool.{not}
 use lib.ListN.{length, getD, take, set, length-append}
 use lib.Seq.{take-append-le, take-all, getD-at, getD-set-same, getD-set-other}
-use borrow.Author.Tests.{ne-eqb, eq-eqb, eqb-true, eqb-false, lt-ltb, le-ltb, ltb-false}
+use borrow.Author.Tests.{ne-eqb, lt-ltb, le-ltb, ltb-false}
 use Rattle.link_rules.specs.declared.link_idx.TrainIdx.{TrainIdx}
 use Rattle.disp_structs.specs.Listed.{listed}
 use Rattle.disp_structs.proofs.ListedLaws.{listed-length, listed-same, listed-at, listed-take}
@@ -103,88 +103,68 @@ slot-other k i f q e = ⊎-elim (λ (h : k < 63). q (e ∙ slot-in k h)) (λ (h 
 -- ---- a node is written
 
 -- a node goes behind k nodes
-module _ (fresh : List ℕ) (k : ℕ) (n : DispNode) (l : nodePlace (estCount fresh) (k + 1) ≤ length fresh) (s : Sound n) where
-  abbrev longer-by : List ℕ
-  longer-by = putNode n (nodePlace (estCount fresh) k) fresh
+module _ (fresh fresh1 : List ℕ) (k : ℕ) (n : DispNode) (e : fresh1 ≡ putNode n (nodePlace (estCount fresh) k) fresh) where
+  -- what stands before the nodes stays
+  pub pushed-kept : Kept fresh1 fresh
+  pushed-kept = kept-eq fresh1 _ fresh e (put-kept n fresh k)
 
-  put-last : nodeAt longer-by k ≡ n
-  put-last = put-same n fresh k l s
+  -- the other nodes stay
+  put-aside : (i : ℕ) → (i ≡ k → ⊥) → nodeAt fresh1 i ≡ nodeAt fresh i
+  put-aside i q = ap (λ (bs : List ℕ). nodeAt bs i) e ∙ put-other n fresh k i q
 
-  put-all : listed (suc k) (nodeAt longer-by) ≡ listed k (nodeAt fresh) ++ (n ∷ [])
-  unfolding listed
-  put-all = ap₂ (λ (xs : List DispNode) (y : DispNode). xs ++ (y ∷ [])) (listed-same k (nodeAt fresh) (nodeAt longer-by) (λ i h. put-other n fresh k i (λ w. omega arith))) put-last
+  module _ (l : nodePlace (estCount fresh) (k + 1) ≤ length fresh) (s : Sound n) where
+    -- it is read back
+    put-last : nodeAt fresh1 k ≡ n
+    put-last = ap (λ (bs : List ℕ). nodeAt bs k) e ∙ put-same n fresh k l s
 
--- where it is one of the c nodes that count
-module _ (fresh fresh1 : List ℕ) (k : ℕ) (n : DispNode) (c : ℕ) (e : fresh1 ≡ cond (eqb c (k + 1)) (putNode n (nodePlace (estCount fresh) k) fresh) fresh) where
-  pub written-kept : Kept fresh1 fresh
-  written-kept = kept-eq fresh1 _ fresh e (go (eqb c (k + 1)))
-    where
-      go : (b : Bool) → Kept (cond b (putNode n (nodePlace (estCount fresh) k) fresh) fresh) fresh
-      go true = put-kept n fresh k
-      go false = record { size = refl; below = λ i h. refl }
+    -- and the new path is longer by it
+    put-all : listed (suc k) (nodeAt fresh1) ≡ listed k (nodeAt fresh) ++ (n ∷ [])
+    unfolding listed
+    put-all = ap₂ (λ (xs : List DispNode) (y : DispNode). xs ++ (y ∷ [])) (listed-same k (nodeAt fresh) (nodeAt fresh1) (λ i h. put-aside i (λ w. omega arith))) put-last
 
-  module _ (l : nodePlace (estCount fresh) (k + 1) ≤ length fresh) (s : c ≡ k + 1 → Sound n) where
-    pub written : c ≤ k + 1 → listed c (nodeAt fresh1) ≡ take c (listed k (nodeAt fresh) ++ (n ∷ []))
-    written h = ap (λ (bs : List ℕ). listed c (nodeAt bs)) e ∙ go (eqb c (k + 1)) refl
-      where
-        long : length (listed k (nodeAt fresh)) ≡ k
-        long = listed-length k (nodeAt fresh)
+    module _ (c : ℕ) (q : c ≡ k + 1) where
+      -- the first c nodes, where c counts it too
+      pub pushed : listed c (nodeAt fresh1) ≡ take c (listed k (nodeAt fresh) ++ (n ∷ []))
+      pushed =
+          let w : c ≡ suc k = omega (arith, q) in
+          rw w put-all ∙ sym (take-all c (listed k (nodeAt fresh) ++ (n ∷ [])) (omega (arith, q, length-append (listed k (nodeAt fresh)) (n ∷ []), listed-length k (nodeAt fresh))))
 
-        go : (b : Bool) → eqb c (k + 1) ≡ b → listed c (nodeAt (cond b (putNode n (nodePlace (estCount fresh) k) fresh) fresh)) ≡ take c (listed k (nodeAt fresh) ++ (n ∷ []))
-        go true q =
-            let w : c ≡ suc k = omega (arith, eqb-true c (k + 1) q) in
-            rw w (put-all fresh k n l (s (eqb-true c (k + 1) q))) ∙ sym (take-all c (listed k (nodeAt fresh) ++ (n ∷ [])) (omega (arith, length-append (listed k (nodeAt fresh)) (n ∷ []), long)))
-        go false q =
-            let w = eqb-false c (k + 1) q in
-            let m : c ≤ k = below-next w in
-            sym (take-append-le c (listed k (nodeAt fresh)) (n ∷ []) (omega (arith, long)) ∙ listed-take c k (nodeAt fresh) m)
-          where
-            below-next : (c ≡ k + 1 → ⊥) → c ≤ k
-            below-next w = ⊎-elim (λ (u : c < k + 1). omega arith) (λ (u : k + 1 ≤ c). absurd (w (omega arith))) (below-or-not c (k + 1))
+      -- it is the current node
+      pub pushed-current : (img : List ℕ) (split : ℕ) → n ≡ currentIn img fresh1 split c
+      pushed-current img split =
+          let o : c - 1 ≡ k = omega (arith, q) in
+          rw (ne-eqb c 0 (λ z. omega arith), o) (sym put-last)
 
-    -- it stands in the buffer where it counts
-    pub written-last : c ≡ k + 1 → nodeAt fresh1 k ≡ n
-    written-last v =
-        let u : fresh1 ≡ putNode n (nodePlace (estCount fresh) k) fresh = e ∙ ap (λ (b : Bool). cond b (putNode n (nodePlace (estCount fresh) k) fresh) fresh) (eq-eqb c (k + 1) v) in
-        rw u (put-last fresh k n l (s v))
+      -- and the array has the same first nodes
+      pub array-pushed : (new : List DispNode) (d : DispNode) → length new ≡ 64 → ((i : ℕ) → i < k → i < 63 → getD new i d ≡ nodeAt fresh i) → (i : ℕ) → i < c → i < 63 → getD (set new (slotOf k) n) i d ≡ nodeAt fresh1 i
+      array-pushed new d m h i j f = ⊎-elim
+          (λ (w : i ≡ k).
+          let o : slotOf k ≡ k = slot-in k (omega arith) in
+          rw (o, w) (getD-set-same new k n d (omega arith) ∙ sym put-last))
+          (λ (w : i ≡ k → ⊥). getD-set-other new (slotOf k) i n d (slot-other k i f w) ∙ h i (less w) f ∙ sym (put-aside i w))
+          (same-or-not i k)
+        where
+          less : (i ≡ k → ⊥) → i < k
+          less w = ⊎-elim (λ (u : i < k). u) (λ (u : k ≤ i). absurd (w (omega arith))) (below-or-not i k)
 
-    -- and the array has the same first nodes
-    pub array-next : (new : List DispNode) (d : DispNode) → length new ≡ 64 → ((i : ℕ) → i < k → i < 63 → getD new i d ≡ nodeAt fresh i) → (i : ℕ) → i < c → i < 63 → c ≤ k + 1 → getD (set new (slotOf k) n) i d ≡ nodeAt fresh1 i
-    array-next new d m h i j f w = ⊎-elim
-        (λ (q : i ≡ k).
-        let o : slotOf k ≡ k = slot-in k (omega arith) in
-        rw (o, q) (getD-set-same new k n d (omega arith) ∙ sym (written-last (omega arith))))
-        (λ (q : i ≡ k → ⊥). getD-set-other new (slotOf k) i n d (slot-other k i f q) ∙ h i (less q) f ∙ sym (ap (λ (bs : List ℕ). nodeAt bs i) e ∙ same (eqb c (k + 1)) q))
-        (same-or-not i k)
-      where
-        less : (i ≡ k → ⊥) → i < k
-        less q = ⊎-elim (λ (u : i < k). u) (λ (u : k ≤ i). absurd (q (omega arith))) (below-or-not i k)
+-- where none is pushed, no more nodes count than there were
+pub not-more : (c k : ℕ) → c ≤ k + 1 → (c ≡ k + 1 → ⊥) → c ≤ k
+not-more c k h w = ⊎-elim (λ (u : c < k + 1). omega arith) (λ (u : k + 1 ≤ c). absurd (w (omega arith))) (below-or-not c (k + 1))
 
-        same : (b : Bool) → (i ≡ k → ⊥) → nodeAt (cond b (putNode n (nodePlace (estCount fresh) k) fresh) fresh) i ≡ nodeAt fresh i
-        same true q = put-other n fresh k i q
-        same false q = refl
+-- and the first c of them stay
+pub not-pushed : (fresh : List ℕ) (k : ℕ) (n : DispNode) (c : ℕ) → c ≤ k → listed c (nodeAt fresh) ≡ take c (listed k (nodeAt fresh) ++ (n ∷ []))
+not-pushed fresh k n c m = sym (take-append-le c (listed k (nodeAt fresh)) (n ∷ []) (omega (arith, listed-length k (nodeAt fresh))) ∙ listed-take c k (nodeAt fresh) m)
 
--- the current node as it is read: the one that was pushed behind k others, top, or a record that lies within its image
-pub current-in : (img fresh : List ℕ) (split k c : ℕ) (n top : DispNode) → (c ≡ k + 1 → nodeAt fresh k ≡ n) → wholeNode img (split - 1) ≡ nodeAt img (split - 1)
+-- the current node as it is read then: top, or a record that lies within its image
+pub current-in : (img fresh : List ℕ) (split c : ℕ) (top : DispNode) → wholeNode img (split - 1) ≡ nodeAt img (split - 1)
     → (0 < c → wholeNode fresh (c - 1) ≡ nodeAt fresh (c - 1)) → (0 < c → c ≤ 63 → top ≡ nodeAt fresh (c - 1))
-    → cond (eqb c (k + 1)) n (cond (eqb c 0) (wholeNode img (split - 1)) (cond (ltb 63 c) (wholeNode fresh (c - 1)) top)) ≡ currentIn img fresh split c
-current-in img fresh split k c n top p w f t = go (eqb c (k + 1)) refl
+    → cond (eqb c 0) (wholeNode img (split - 1)) (cond (ltb 63 c) (wholeNode fresh (c - 1)) top) ≡ currentIn img fresh split c
+current-in img fresh split zero top w f t = w
+current-in img fresh split (suc m) top w f t = ap₂ (cond (eqb (suc m) 0)) w (behind (ltb 63 (suc m)) refl)
   where
-    other : (m : ℕ) → (0 < m → wholeNode fresh (m - 1) ≡ nodeAt fresh (m - 1)) → (0 < m → m ≤ 63 → top ≡ nodeAt fresh (m - 1))
-        → cond (eqb m 0) (wholeNode img (split - 1)) (cond (ltb 63 m) (wholeNode fresh (m - 1)) top) ≡ currentIn img fresh split m
-    other zero f₀ t₀ = w
-    other (suc m) f₀ t₀ = ap₂ (cond (eqb (suc m) 0)) w (behind (ltb 63 (suc m)) refl)
-      where
-        behind : (b : Bool) → ltb 63 (suc m) ≡ b → cond b (wholeNode fresh (suc m - 1)) top ≡ nodeAt fresh (suc m - 1)
-        behind true q = f₀ (omega arith)
-        behind false q = t₀ (omega arith) (ltb-false 63 (suc m) q)
-
-    go : (b : Bool) → eqb c (k + 1) ≡ b → cond b n (cond (eqb c 0) (wholeNode img (split - 1)) (cond (ltb 63 c) (wholeNode fresh (c - 1)) top)) ≡ currentIn img fresh split c
-    go true q =
-        let e = eqb-true c (k + 1) q in
-        let o : c - 1 ≡ k = omega arith in
-        rw (ne-eqb c 0 (λ z. omega arith), o) (sym (p e))
-    go false q = other c f t
+    behind : (b : Bool) → ltb 63 (suc m) ≡ b → cond b (wholeNode fresh (suc m - 1)) top ≡ nodeAt fresh (suc m - 1)
+    behind true q = f (omega arith)
+    behind false q = t (omega arith) (ltb-false 63 (suc m) q)
 
 -- ---- after a turn
 

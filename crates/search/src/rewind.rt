@@ -31,7 +31,7 @@ ghost use Rattle.search.specs.Effects.{Sized, SavesAt, RewindsView, Give
 
 // ---- the save node
 
-// Back from i to the last node that is no Fake.
+// Back from `from` to the last node before it that is no Fake.
 fn walk_back(img: &[u8], n: usize, from: usize) -> Index
     requires { ⌜ n ≤ 512 ⌝ }
     ensures { λ x. ⌜ (answer (x .code) (x .index) ≡ walkBack notFake (pathOf (now (img .entry)) n) from) × (x .index ≤ 512) ⌝ }
@@ -185,9 +185,10 @@ fn give_up(h: Here, holder: TrainIdx, p: Place) -> Moved
     }
 }
 
-fn one_back(r: Round, h: Here, holder: TrainIdx, p: Place) -> Moved
+// The holder is that of the view v, which was made over the first len trains of the pool.
+fn one_back(r: Round, h: Here, pool: &[u32], len: usize, v: TrainIdxsView, p: Place) -> Moved
     requires { ⌜ Small p ⌝ }
-    ensures { λ x. ⌜ Keeping r p x ((t : Train) (occ img dt dn : List ℕ) → CountedMoveIs (λ R H s. oneBack R H holder s) (roundOf t occ img dt dn r) h p x) ⌝ }
+    ensures { λ x. ⌜ Keeping r p x ((t : Train) (occ img dt dn : List ℕ) → CountedMoveIs (λ R H s. oneBack R H (holderOf (record { pool = take len (trains (now (pool .entry))); made = v })) s) (roundOf t occ img dt dn r) h p x) ⌝ }
 {
     if p.new_count != 0 {
         return Moved {
@@ -197,7 +198,7 @@ fn one_back(r: Round, h: Here, holder: TrainIdx, p: Place) -> Moved
     }
     let cur = h.disp_node_curr;
     if p.idx_split <= 1 {
-        return give_up(h, holder, p);
+        return give_up(h, holder_of(pool, len, v), p);
     }
     if r.offset_cancel.0 < cur.offset.0 {
         let mut q = p;
@@ -207,7 +208,7 @@ fn one_back(r: Round, h: Here, holder: TrainIdx, p: Place) -> Moved
             place: q,
         };
     }
-    give_up(h, holder, p)
+    give_up(h, holder_of(pool, len, v), p)
 }
 
 pub(crate) fn rewind(
@@ -247,11 +248,10 @@ pub(crate) fn rewind(
     }
     let cur = h.disp_node_curr;
     let v = u.view;
-    let holder = holder_of(pool, u.len, v);
     views::put_view(begins, ends, r.est_count, cur.est_idx, v);
     let mut q = p;
     q.idx_save = save.index;
     q.pool_count = u.len;
     q.div_count = k.index;
-    one_back(r, h, holder, q)
+    one_back(r, h, pool, u.len, v, q)
 }

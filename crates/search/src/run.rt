@@ -14,7 +14,7 @@ ghost use mathlib.Core.Path.{_≡_};
 ghost use mathlib.Core.Bool.{true, false, cond};
 ghost use Prim.Native.Nat.{_+_, _-_, _≤_, _<_};
 ghost use lib.Dec.{eqb, ltb};
-ghost use Rattle.image.specs.Image.{estCount, nodePlace, wholeNode, putNode};
+ghost use Rattle.image.specs.Image.{wholeNode};
 ghost use Rattle.search.specs.Read.{arrays};
 ghost use Rattle.splice.specs.Read.{Kept};
 ghost use Rattle.search.specs.Runs.{slotOf, Follows, FollowsTurn, Ready, counted, Searches};
@@ -56,19 +56,16 @@ fn slot_of(k: usize) -> usize
     63
 }
 
-// The node that was pushed behind k others; else disp_path_new.last(), which is top or stands behind the array; else disp_path[idx_split - 1].
-fn current(img: &[u8], fresh: &[u8], split: usize, k: usize, a: Next, top: DispNode) -> DispNode
-    requires { ⌜ (split ≤ 512) × (k < 512) × (a .count ≤ k + 1) ⌝ }
-    ensures { λ r. ⌜ r ≡ cond (eqb (a .count) (k + 1)) (a .node) (cond (eqb (a .count) 0) (wholeNode (now (img .entry)) (split - 1)) (cond (ltb 63 (a .count)) (wholeNode (now (fresh .entry)) (a .count - 1)) top)) ⌝ }
+// The current node where none was pushed: disp_path_new.last(), which is top or stands behind the array, else disp_path[idx_split - 1].
+fn current(img: &[u8], fresh: &[u8], split: usize, count: usize, top: DispNode) -> DispNode
+    requires { ⌜ (split ≤ 512) × (count ≤ 512) ⌝ }
+    ensures { λ r. ⌜ r ≡ cond (eqb count 0) (wholeNode (now (img .entry)) (split - 1)) (cond (ltb 63 count) (wholeNode (now (fresh .entry)) (count - 1)) top) ⌝ }
 {
-    if a.count == k + 1 {
-        return a.node;
-    }
-    if a.count == 0 {
+    if count == 0 {
         return codec::whole_node(img, one_less(split) as u32);
     }
-    if 63 < a.count {
-        return codec::whole_node(fresh, one_less(a.count) as u32);
+    if 63 < count {
+        return codec::whole_node(fresh, one_less(count) as u32);
     }
     top
 }
@@ -115,17 +112,6 @@ fn after(go: Move, effect: Effect, curr: DispNode, k: usize) -> Next
         return stops(curr);
     }
     next_of(effect, curr, k)
-}
-
-// A node that is one more goes behind the k nodes of the new path.
-fn put_new(fresh: &mut [u8], k: usize, a: Next)
-    requires { ⌜ k < 512 ⌝ }
-    ensures { λ _. ⌜ now (fresh .exit) ≡ cond (eqb (a .count) (k + 1)) (putNode (a .node) (nodePlace (estCount (now (fresh .entry))) k) (now (fresh .entry))) (now (fresh .entry)) ⌝ }
-{
-    if a.count == k + 1 {
-        codec::put_node(fresh, k as u32, a.node);
-        return;
-    }
 }
 
 fn at_count(p: Place, k: usize) -> Place
@@ -198,14 +184,18 @@ pub fn run(
                 steps: steps,
             };
         }
-        let n = a.node;
-        let at = slot_of(k);
-        new[at] = n;
-        put_new(fresh, k, a);
         p = at_count(place, a.count);
-        let top = slot_of(one_less(a.count));
-        curr = current(img, fresh, p.idx_split, k, a, new[top]);
         left -= 1;
+        if a.count == k + 1 {
+            let n = a.node;
+            let at = slot_of(k);
+            new[at] = n;
+            codec::put_node(fresh, k as u32, n);
+            curr = n;
+        } else {
+            let top = slot_of(one_less(a.count));
+            curr = current(img, fresh, p.idx_split, a.count, new[top]);
+        }
     }
     out_of_turns(curr, p, steps)
 }

@@ -3,7 +3,7 @@ use mathlib.Core.Path.{_≡_, refl, sym, ap, _∙_}
 use native.Mathlib.Omega.{arith}
 use lib.ListN.{take}
 use Rattle.free_path.specs.Columns.{trains, divAt}
-use Rattle.free_path.specs.TrainIdxsView.{Pooled}
+use Rattle.update_definition.specs.Moves.{holderOf}
 use Rattle.disp_structs.proofs.ListedLaws.{listed-length}
 use Rattle.search.specs.Read.{roundOf, hereOf, searchIn, arrays, divsOf, viewsOf}
 use Rattle.search.proofs.RewindLaws as L
@@ -81,20 +81,16 @@ returns-3 c =
     let k = (c .before .before .rewind-divs) in
     ((λ t occ dt dn nt new l. L.rewind-divs (roundOf t occ (now (a .img)) dt dn (a .r)) (hereOf (a .h)) (searchIn (a .r .«est_count») (a .p) new (divsOf (a .p .«div_count») nt (now (a .nn))) (arrays (now (a .pool)) (now (a .begins)) (now (a .ends)))) (v .result .code) (v .result .index) (v .ensures .0 t occ dt dn new (divsOf (a .p .«div_count») nt (now (a .nn))) (take (a .p .«pool_count») (trains (now (a .pool)))) (viewsOf (a .r .«est_count») (now (a .begins)) (now (a .ends)))) (c .before .before .before .before .before .before .before .before .before .before .before .before .if1 .left) (u .result .code) (record { pool = take (u .result .len) (trains (u .last .1 .1 .1 .1 .0)); made = u .result .view }) (u .ensures .0) (c .before .before .before .if2 .left) (k .result .code) (divsOf (k .result .index) nt (now (a .nn))) (k .ensures .0 nt) (c .if3 .taken)), record { split = omega arith; divSplit = s .0 .divSplit; save = s .0 .save; divs = s .0 .divs; pool = s .0 .pool; free = λ b x y. omega (arith, x) })
 
--- src/rewind.rt:238:5
-holder-of-requires : tie.Need-holder-of-requires
-holder-of-requires c κs = search needs
-
 put-view-requires : tie.Need-put-view-requires
 put-view-requires c κs =
-    let s = (c .before .before .before .before .before .before .before .before .before .before .before .before .before .before .before .before .before .before .before .before .before .before .before .before .before .before .pre) in
+    let s = (c .before .before .before .before .before .before .before .before .before .before .before .before .before .before .before .before .before .before .before .before .before .before .before .before .pre) in
     (omega (arith, s .2 .est, s .2 .first), omega (arith, s .2 .est, s .2 .last))
 
 -- src/rewind.rt:243:5
 one-back-requires : tie.Need-one-back-requires
 one-back-requires c κs =
-    let s = (c .before .before .before .before .before .before .before .before .before .before .before .before .before .before .before .before .before .before .before .before .before .before .before .before .before .before .before .before .before .before .before .pre) in
-    record { split = s .0 .split; divSplit = s .0 .divSplit; save = c .before .before .before .before .before .before .before .before .before .before .before .before .before .before .before .before .before .before .before .before .before .before .before .before .before .save-of .ensures .1; free = omega (arith, s .0 .free, s .0 .split); new = s .0 .new; divs = omega (arith, c .before .before .before .before .before .before .before .before .before .before .before .before .before .rewind-divs .ensures .1, s .0 .divs); pool = c .before .before .before .before .before .before .before .before .before .before .before .before .before .before .before .before .before .before .rewind-view .ensures .1 }
+    let s = (c .before .before .before .before .before .before .before .before .before .before .before .before .before .before .before .before .before .before .before .before .before .before .before .before .before .before .before .before .before .before .pre) in
+    record { split = s .0 .split; divSplit = s .0 .divSplit; save = c .before .before .before .before .before .before .before .before .before .before .before .before .before .before .before .before .before .before .before .before .before .before .before .before .save-of .ensures .1; free = omega (arith, s .0 .free, s .0 .split); new = s .0 .new; divs = omega (arith, c .before .before .before .before .before .before .before .before .before .before .before .before .rewind-divs .ensures .1, s .0 .divs); pool = c .before .before .before .before .before .before .before .before .before .before .before .before .before .before .before .before .before .rewind-view .ensures .1 }
 
 -- src/rewind.rt:201:1
 same-length-7 : tie.Need-same-length-7
@@ -111,15 +107,14 @@ same-length-9 c = search needs
 -- src/rewind.rt:201:1
 returns-4 : tie.Need-returns-4
 returns-4 c =
-    let a = (c .before .before .before .before .before .before .before .before .before .before .before .before .before .before .before .before .before .before .before .before .before .before .before .before .before .before .before .before .before .before .before .before .args) in
-    let s = (c .before .before .before .before .before .before .before .before .before .before .before .before .before .before .before .before .before .before .before .before .before .before .before .before .before .before .before .before .before .before .before .before .pre) in
-    let v = (c .before .before .before .before .before .before .before .before .before .before .before .before .before .before .before .before .before .before .before .before .before .before .before .before .before .before .save-of) in
-    let u = (c .before .before .before .before .before .before .before .before .before .before .before .before .before .before .before .before .before .before .before .rewind-view) in
-    let k = (c .before .before .before .before .before .before .before .before .before .before .before .before .before .before .rewind-divs) in
-    let b = (c .before .before .before .before .before .before .before .before .holder-of) in
+    let a = (c .before .before .before .before .before .before .before .before .before .before .before .before .before .before .before .before .before .before .before .before .before .before .before .before .before .before .before .before .before .before .before .args) in
+    let s = (c .before .before .before .before .before .before .before .before .before .before .before .before .before .before .before .before .before .before .before .before .before .before .before .before .before .before .before .before .before .before .before .pre) in
+    let v = (c .before .before .before .before .before .before .before .before .before .before .before .before .before .before .before .before .before .before .before .before .before .before .before .before .before .save-of) in
+    let u = (c .before .before .before .before .before .before .before .before .before .before .before .before .before .before .before .before .before .before .rewind-view) in
+    let k = (c .before .before .before .before .before .before .before .before .before .before .before .before .before .rewind-divs) in
     let o = (c .one-back) in
     let g = o .ensures .1 in
-    ((λ t occ dt dn nt new l. rw (o .ensures .2, o .ensures .3) (o .ensures .0 t occ (now (a .img)) dt dn new (divsOf (k .result .index) nt (now (a .nn))) (take (u .result .len) (trains (u .last .1 .1 .1 .1 .0))) (viewsOf (a .r .«est_count») (c .before .before .before .before .before .put-view .last .0) (c .before .before .before .before .before .put-view .last .1 .0)) l (listed-length (k .result .index) (divAt nt (now (a .nn)))) ∙ L.rewind-go (roundOf t occ (now (a .img)) dt dn (a .r)) (hereOf (a .h)) (searchIn (a .r .«est_count») (a .p) new (divsOf (a .p .«div_count») nt (now (a .nn))) (arrays (now (a .pool)) (now (a .begins)) (now (a .ends)))) (v .result .code) (v .result .index) (v .ensures .0 t occ dt dn new (divsOf (a .p .«div_count») nt (now (a .nn))) (take (a .p .«pool_count») (trains (now (a .pool)))) (viewsOf (a .r .«est_count») (now (a .begins)) (now (a .ends)))) (c .before .before .before .before .before .before .before .before .before .before .before .before .before .before .before .before .before .before .before .before .before .before .before .before .if1 .left) (u .result .code) (record { pool = take (u .result .len) (trains (u .last .1 .1 .1 .1 .0)); made = u .result .view }) (u .ensures .0) (c .before .before .before .before .before .before .before .before .before .before .before .before .before .before .before .if2 .left) (k .result .code) (divsOf (k .result .index) nt (now (a .nn))) (k .ensures .0 nt) (c .before .before .before .before .before .before .before .before .before .before .before .before .if3 .left) (b .result) (b .ensures) (viewsOf (a .r .«est_count») (c .before .before .before .before .before .put-view .last .0) (c .before .before .before .before .before .put-view .last .1 .0)) (c .before .before .before .before .before .put-view .ensures))), record { split = g .split; divSplit = g .divSplit; save = g .save; divs = g .divs; pool = g .pool; free = g .free })
+    ((λ t occ dt dn nt new l. rw (o .ensures .2, o .ensures .3) (o .ensures .0 t occ (now (a .img)) dt dn new (divsOf (k .result .index) nt (now (a .nn))) (take (u .result .len) (trains (u .last .1 .1 .1 .1 .0))) (viewsOf (a .r .«est_count») (c .before .before .before .before .before .before .put-view .last .0) (c .before .before .before .before .before .before .put-view .last .1 .0)) l (listed-length (k .result .index) (divAt nt (now (a .nn)))) ∙ L.rewind-go (roundOf t occ (now (a .img)) dt dn (a .r)) (hereOf (a .h)) (searchIn (a .r .«est_count») (a .p) new (divsOf (a .p .«div_count») nt (now (a .nn))) (arrays (now (a .pool)) (now (a .begins)) (now (a .ends)))) (v .result .code) (v .result .index) (v .ensures .0 t occ dt dn new (divsOf (a .p .«div_count») nt (now (a .nn))) (take (a .p .«pool_count») (trains (now (a .pool)))) (viewsOf (a .r .«est_count») (now (a .begins)) (now (a .ends)))) (c .before .before .before .before .before .before .before .before .before .before .before .before .before .before .before .before .before .before .before .before .before .before .before .if1 .left) (u .result .code) (record { pool = take (u .result .len) (trains (u .last .1 .1 .1 .1 .0)); made = u .result .view }) (u .ensures .0) (c .before .before .before .before .before .before .before .before .before .before .before .before .before .before .if2 .left) (k .result .code) (divsOf (k .result .index) nt (now (a .nn))) (k .ensures .0 nt) (c .before .before .before .before .before .before .before .before .before .before .before .if3 .left) (holderOf (record { pool = take (u .result .len) (trains (u .last .1 .1 .1 .1 .0)); made = u .result .view })) refl (viewsOf (a .r .«est_count») (c .before .before .before .before .before .before .put-view .last .0) (c .before .before .before .before .before .before .put-view .last .1 .0)) (c .before .before .before .before .before .before .put-view .ensures))), record { split = g .split; divSplit = g .divSplit; save = g .save; divs = g .divs; pool = g .pool; free = g .free })
 
 pub rewind-spec : {M : Type 1} → statement M
 rewind-spec =
@@ -137,7 +132,6 @@ rewind-spec =
     same-length-5
     same-length-6
     returns-3
-    holder-of-requires
     put-view-requires
     one-back-requires
     same-length-7

@@ -1,18 +1,11 @@
 use denote.Ref.{now}
 use mathlib.Core.Path.{ap, _∙_}
-use Prim.Native.Nat.{_+_}
 use native.Mathlib.Omega.{arith}
 use borrow.Author.Tests.{eq-eqb, ne-eqb, lt-ltb, le-ltb}
 use Rattle.image.specs.Image.{wholeNode}
 use borrow.Author.Needs.{needs}
 use Rattle.search.proofs.run.current.Statement.{statement}
 use Rattle.search.proofs.run.current.Tie as tie
-
-add-if1 : tie.Need-add-if1
-add-if1 c = search needs
-
-returns : tie.Need-returns
-returns c = let a = c .before .before .before .before .before .args in rw (eq-eqb (a .a .count) (a .k + 1) (c .before .if1 .taken))
 
 one-less-requires : tie.Need-one-less-requires
 one-less-requires c κs = search needs
@@ -23,8 +16,8 @@ cast-whole-node c = search needs
 whole-node-requires : tie.Need-whole-node-requires
 whole-node-requires c κs = search needs
 
-returns-2 : tie.Need-returns-2
-returns-2 c = let a = c .before .before .before .before .before .before .before .before .args in rw (ne-eqb (a .a .count) (a .k + 1) (c .before .before .before .before .if1 .left), eq-eqb (a .a .count) 0 (c .before .before .if2 .taken)) (c .whole-node .ensures ∙ ap (wholeNode (now (a .img))) (c .before .one-less .ensures))
+returns : tie.Need-returns
+returns c = let a = c .before .before .before .before .before .args in rw (eq-eqb (a .count) 0 (c .before .before .if1 .taken)) (c .whole-node .ensures ∙ ap (wholeNode (now (a .img))) (c .before .one-less .ensures))
 
 one-less-requires-2 : tie.Need-one-less-requires-2
 one-less-requires-2 c κs = search needs
@@ -35,24 +28,22 @@ cast-whole-node-2 c = search needs
 whole-node-requires-2 : tie.Need-whole-node-requires-2
 whole-node-requires-2 c κs = search needs
 
-returns-3 : tie.Need-returns-3
-returns-3 c = let a = c .before .before .before .before .before .before .before .before .before .before .args in rw (ne-eqb (a .a .count) (a .k + 1) (c .before .before .before .before .before .before .if1 .left), ne-eqb (a .a .count) 0 (c .before .before .before .before .if2 .left), lt-ltb 63 (a .a .count) (omega (arith, c .before .before .if3 .taken))) (c .whole-node2 .ensures ∙ ap (wholeNode (now (a .fresh))) (c .before .one-less2 .ensures))
+returns-2 : tie.Need-returns-2
+returns-2 c = let a = c .before .before .before .before .before .before .args in rw (ne-eqb (a .count) 0 (c .before .before .before .if1 .left), lt-ltb 63 (a .count) (omega (arith, c .before .before .if2 .taken))) (c .whole-node2 .ensures ∙ ap (wholeNode (now (a .fresh))) (c .before .one-less2 .ensures))
 
-returns-4 : tie.Need-returns-4
-returns-4 c = let a = c .before .before .before .before .before .before .before .before .args in rw (ne-eqb (a .a .count) (a .k + 1) (c .before .before .before .before .if1 .left), ne-eqb (a .a .count) 0 (c .before .before .if2 .left), le-ltb 63 (a .a .count) (omega (arith, c .if3 .left)))
+returns-3 : tie.Need-returns-3
+returns-3 c = let a = c .before .before .before .before .args in rw (ne-eqb (a .count) 0 (c .before .if1 .left), le-ltb 63 (a .count) (omega (arith, c .if2 .left)))
 
 pub current-spec : {M : Type 1} → statement M
 current-spec =
     tie.close
     (tie.spec
-    add-if1
-    returns
     one-less-requires
     cast-whole-node
     whole-node-requires
-    returns-2
+    returns
     one-less-requires-2
     cast-whole-node-2
     whole-node-requires-2
-    returns-3
-    returns-4)
+    returns-2
+    returns-3)
