@@ -1,5 +1,5 @@
 -- Records written one after another leave the header's numbers, and together they are what is stored. Assumes nothing.
-use mathlib.Core.Path.{_≡_, sym, ap, ap₂, _∙_}
+use mathlib.Core.Path.{_≡_, refl, sym, ap, ap₂, _∙_}
 use mathlib.Core.Logic.{inl}
 use mathlib.Core.Bool.{Bool}
 use mathlib.Core.List.{List}
@@ -9,20 +9,25 @@ use native.Mathlib.Numerals.{add-one}
 use lib.Dec.{eqb}
 use lib.ListN.{length}
 use Rattle.link_rules.specs.Octets.{leAt}
+use Rattle.link_rules.specs.Refusals.{noRefusal}
+use Rattle.link_rules.proofs.OctetLaws.{Bytes}
 use Rattle.disp_structs.specs.Listed.{listed}
 use Rattle.disp_structs.proofs.ListedLaws.{listed-length}
 use Rattle.disp_structs.specs.declared.DispNode.{DispNode}
 use Rattle.disp_structs.specs.declared.DivergeNode.{DivergeNode}
 use Rattle.free_path.specs.Columns.{divAt}
 use Rattle.image.specs.Fields.{divergeWords, divergeSize}
-use Rattle.image.specs.Image.{estCount, divergeRoom, isWide, estAt, nodeAt, nodePlace, divergePlace, putNode, putDiverge, zeroWords, clearNodes, clearDiverges, putPathHeader}
+use Rattle.image.specs.Image.{estCount, pathCount, divergeRoom, isWide, estAt, nodeAt, pathOf, nodePlace, divergePlace, putNode, putDiverge, zeroWords, clearNodes, clearDiverges, putPathHeader}
 use Rattle.image.specs.Codec.{putEach, putRecords, putChanges, storedInto}
 use Rattle.image.specs.declared.codec.PathHeader.{PathHeader}
 use Rattle.image.proofs.Writers.{Writes, le-outside, each-writes, zero-writes}
-use Rattle.image.proofs.RecordLaws.{node-writes, diverge-writes}
-use Rattle.image.proofs.EachLaws.{each-more}
+use Rattle.image.proofs.RecordLaws.{node-writes, node-back, diverge-writes}
+use Rattle.image.proofs.EachLaws.{each-more, each-back, zero-back}
+use Rattle.image_fault.specs.ImageFault.{faultWith}
+use Rattle.image_fault.specs.declared.Widths.{Widths}
+use Rattle.image_fault.proofs.AcceptLaws.{good-image, accepted-in}
 use Rattle.update_definition.specs.ImageTrain.{trainOf}
-use Rattle.image_store.specs.Stored.{changedTrain}
+use Rattle.image_store.specs.Stored.{divergesInto, storedDiverges, PathStands, changedTrain}
 
 -- a write from 64 on leaves a number of the header
 header-stays : {a b : ℕ} {f : List ℕ → List ℕ} → Writes a b f → (v j : ℕ) (bs : List ℕ) → j + v ≤ 64 → 64 ≤ a → leAt v (f bs) j ≡ leAt v bs j
@@ -157,5 +162,37 @@ module _ (img dt dn : List ℕ) (h : PathHeader) where
     is4 : b4 ≡ zeroWords (divergeWords (isWide bs) * (divergeRoom bs - m)) (divergePlace (isWide bs) (estCount bs) m) b3
     is4 = p4 ∙ clear-diverges m (isWide bs) (estCount bs) (divergeRoom bs) b3 wide3 (same3 4 4 (omega arith)) (same3 4 16 (omega arith))
 
-    pub stored-is : putPathHeader h b4 ≡ storedInto (changedTrain img dt dn h bs) bs
+    stored-is : putPathHeader h b4 ≡ storedInto (changedTrain img dt dn h bs) bs
     stored-is = rw (is4, is3, is2, p1) (sym (changed-is bs))
+
+  -- the diverge nodes and the header's numbers behind the path
+  pub stored-behind : (bs b1 b2 b3 : List ℕ) → b1 ≡ putEach putNode 32 (listed n (nodeAt img)) (nodePlace (estCount bs) 0) bs → b2 ≡ clearNodes n b1 → b3 ≡ storedDiverges dt dn h b2 → b3 ≡ storedInto (changedTrain img dt dn h bs) bs
+  unfolding storedDiverges
+  stored-behind bs b1 b2 b3 p1 p2 p3 = p3 ∙ stored-is bs b1 b2 (divergesInto (isWide b2) (listed m (divAt dt dn)) b2) (clearDiverges m (divergesInto (isWide b2) (listed m (divAt dt dn)) b2)) p1 p2 refl refl
+
+  -- where the path stands in the image they are all that is stored
+  pub stored-standing : (bs : List ℕ) → PathStands img n bs → storedDiverges dt dn h bs ≡ storedInto (changedTrain img dt dn h bs) bs
+  stored-standing bs p = stored-behind bs bs bs (storedDiverges dt dn h bs) (sym (p .nodes)) (sym (p .unused)) refl
+
+-- ---- an accepted image with the path of another
+
+-- its path stands in it
+own-stands : (w : Widths) (l : ℕ) (bs : List ℕ) → Bytes bs → faultWith w noRefusal bs l .number ≡ 0 → PathStands bs (pathCount bs) bs
+unfolding clearNodes
+own-stands w l bs b f =
+    let a = accepted-in w bs l f in
+    let g = good-image bs (a .fits) l (a .values) b in
+    let at : nodePlace (estCount bs) 0 ≡ 64 + 32 * estCount bs = omega arith in
+    record {
+      nodes = rw at (each-back putNode 32 (pathCount bs) (nodeAt bs) (64 + 32 * estCount bs) bs (λ i k. node-back bs (nodePlace (estCount bs) i) b (g .node i k)));
+      unused = zero-back (8 * (estCount bs - pathCount bs)) (nodePlace (estCount bs) (pathCount bs)) bs b (g .no-node);
+    }
+
+pub path-stands : (w : Widths) (l : ℕ) (bs img : List ℕ) (n : ℕ) → Bytes bs → faultWith w noRefusal bs l .number ≡ 0 → pathOf img n ≡ pathOf bs (pathCount bs) → PathStands img n bs
+path-stands w l bs img n b f q =
+    let o = own-stands w l bs b f in
+    let k : n ≡ pathCount bs = sym (listed-length n (nodeAt img)) ∙ ap length q ∙ listed-length (pathCount bs) (nodeAt bs) in
+    record {
+      nodes = ap (λ (xs : List DispNode). putEach putNode 32 xs (nodePlace (estCount bs) 0) bs) q ∙ o .nodes;
+      unused = ap (λ (i : ℕ). clearNodes i bs) k ∙ o .unused;
+    }

@@ -1,5 +1,6 @@
 -- What goes back to the caller's image. Assumes nothing.
 use Prim.Native.Nat.{ℕ, _+_}
+use mathlib.Core.Path.{_≡_}
 use mathlib.Core.Bool.{Bool}
 use mathlib.Core.List.{List}
 use Rattle.link_rules.specs.Octets.{leAt, putLe}
@@ -8,7 +9,7 @@ use Rattle.disp_structs.specs.Train.{Train}
 use Rattle.free_path.specs.Columns.{divAt}
 use Rattle.disp_structs.specs.declared.DivergeNode.{DivergeNode}
 use Rattle.image.specs.Fields.{divergeSize}
-use Rattle.image.specs.Image.{estCount, divergeRoom, trainIdx, distDispPathSearch, distFixedMax, divergePlace, estAt, nodeAt, putDiverge}
+use Rattle.image.specs.Image.{estCount, divergeRoom, trainIdx, distDispPathSearch, distFixedMax, isWide, nodePlace, divergePlace, estAt, nodeAt, pathOf, putNode, putDiverge, clearNodes, clearDiverges, putPathHeader}
 use Rattle.image.specs.Codec.{putEach}
 use Rattle.image.specs.declared.codec.PathHeader.{PathHeader}
 
@@ -23,6 +24,15 @@ wordsInto img p q bs =
 -- bs with diverge nodes in its first records
 abbrev pub divergesInto : (wide : Bool) (ds : List DivergeNode) (bs : List ℕ) → List ℕ
 divergesInto wide ds bs = putEach (putDiverge wide) (divergeSize wide) ds (divergePlace wide (estCount bs) 0) bs
+
+-- bs with the diverge nodes of columns dt and dn, their unused records zero, and the numbers of h
+unfoldable pub storedDiverges : (dt dn : List ℕ) (h : PathHeader) (bs : List ℕ) → List ℕ
+storedDiverges dt dn h bs = putPathHeader h (clearDiverges (h .«diverge_count») (divergesInto (isWide bs) (listed (h .«diverge_count») (divAt dt dn)) bs))
+
+-- the n path nodes of img stand in bs and the records behind them are zero, so that writing them leaves bs
+pub record PathStands (img : List ℕ) (n : ℕ) (bs : List ℕ) : Type 0 where
+  pub nodes : putEach putNode 32 (pathOf img n) (nodePlace (estCount bs) 0) bs ≡ bs
+  pub unused : clearNodes n bs ≡ bs
 
 -- the train of the caller's image bs, with the path of img, the diverge nodes of columns dt and dn, and the numbers of h
 unfoldable pub changedTrain : (img dt dn : List ℕ) (h : PathHeader) (bs : List ℕ) → Train

@@ -7,7 +7,7 @@ ghost use Rattle.free_path.specs.Columns.{divAt};
 ghost use Rattle.image.specs.Image.{estCount, isWide, nodePlace, nodeAt, putNode};
 ghost use Rattle.image.specs.Codec.{putEach, storedInto};
 ghost use Rattle.image_store.specs.Plain.{plainNode};
-ghost use Rattle.image_store.specs.Stored.{wordsInto, divergesInto, changedTrain};
+ghost use Rattle.image_store.specs.Stored.{wordsInto, divergesInto, storedDiverges, changedTrain};
 use disp_structs::DivergeNode;
 use free_path::columns;
 use image::codec;
@@ -96,13 +96,20 @@ fn put_diverges(image: &mut [u8], dt: &[u32], dn: &[u32], m: u32)
     }
 }
 
+// The diverge nodes with their unused records, and the header's numbers, go to the image.
+pub fn store_diverges(image: &mut [u8], h: PathHeader, dt: &[u32], dn: &[u32])
+    ensures { λ _. ⌜ now (image .exit) ≡ storedDiverges (now (dt .entry)) (now (dn .entry)) h (now (image .entry)) ⌝ }
+{
+    put_diverges(image, dt, dn, h.diverge_count);
+    codec::clear_diverges(image, h.diverge_count);
+    codec::put_path_header(image, h);
+}
+
 // What an update changes goes to the image: the path and the diverge nodes with their unused records, and the header's numbers.
 pub fn store(image: &mut [u8], img: &[u8], h: PathHeader, dt: &[u32], dn: &[u32])
     ensures { λ _. ⌜ now (image .exit) ≡ storedInto (changedTrain (now (img .entry)) (now (dt .entry)) (now (dn .entry)) h (now (image .entry))) (now (image .entry)) ⌝ }
 {
     put_nodes(image, img, h.path_count);
     codec::clear_nodes(image, h.path_count);
-    put_diverges(image, dt, dn, h.diverge_count);
-    codec::clear_diverges(image, h.diverge_count);
-    codec::put_path_header(image, h);
+    store_diverges(image, h, dt, dn);
 }

@@ -1,17 +1,21 @@
 -- The public call: its refusals before the first round, and the copy on which it runs. Assumes nothing.
 use mathlib.Core.Path.{_≡_, refl, sym, ap, subst, _∙_}
+use mathlib.Core.Bool.{Bool, true}
 use mathlib.Core.List.{List}
 use Prim.Native.Nat.{ℕ, zero, suc, _≤_, _<_}
 use native.Mathlib.Omega.{arith}
 use lib.ListN.{length}
 use Rattle.disp_structs.specs.Listed.{listed}
 use Rattle.disp_structs.specs.declared.DispNode.{DispNode}
-use Rattle.image.specs.Image.{estCount, divergeRoom, nodeAt, pathHeader}
+use Rattle.image.specs.Image.{estCount, pathCount, divergeRoom, nodeAt, pathHeader, pathOf}
 use Rattle.image.specs.Codec.{decoded}
 use Rattle.image.specs.declared.codec.PathHeader.{PathHeader}
 use Rattle.image_fault.specs.declared.Widths.{Widths}
+use Rattle.image_fault.specs.declared.Widths.the-variants.{Either}
+use Rattle.image_store.proofs.StoreLaws.{path-stands}
 use Rattle.link_rules.specs.Refusals.{refused}
 use Rattle.link_rules.specs.declared.refusal.Refusal.{Refusal}
+use Rattle.link_rules.proofs.OctetLaws.{Bytes}
 use Rattle.image_fault.proofs.AcceptLaws.{either-accepted}
 use Rattle.free_path.specs.Base.{Res, at}
 use Rattle.free_path.proofs.ColumnLaws.{listed-out}
@@ -21,12 +25,19 @@ use Rattle.update_laws.proofs.UpdateClean.{UpdateClean, update-clean}
 use Rattle.update_free_path.proofs.FaultLaws.{call-links}
 use Rattle.splice.specs.Read.{Kept}
 use Rattle.splice.proofs.NodeLaws.{kept-count, kept-le}
-use Rattle.update_free_path.specs.Updates.{UpdateBegins, updateOf, Judged}
+use Rattle.update_free_path.specs.Updates.{StoreFits, UpdateBegins, updateOf, Judged}
 use Rattle.update_free_path.specs.declared.start.Args.{Args}
 
--- what a store asks of the image and the copy
-pub kept-sizes : (img was image : List ℕ) → was ≡ image → Kept img was → (estCount image ≡ estCount img) × (divergeRoom image ≡ divergeRoom img)
+-- the counts of the image and of the copy
+kept-sizes : (img was image : List ℕ) → was ≡ image → Kept img was → (estCount image ≡ estCount img) × (divergeRoom image ≡ divergeRoom img)
 kept-sizes img was image e k = (ap estCount (sym e) ∙ sym (kept-count img was k), ap divergeRoom (sym e) ∙ sym (kept-le img was k 4 16 (omega arith)))
+
+-- what a store asks of the image and of the copy, which was the image and has the numbers of g
+pub store-fits : (image occ : List ℕ) (h : PathHeader) → UpdateBegins image occ h → Bytes image → (img was : List ℕ) → was ≡ image → Kept img was → (g : PathHeader) (same : Bool)
+    → (same ≡ true → pathOf img (g .«path_count») ≡ pathOf was (pathCount was)) → StoreFits image img g same
+store-fits image occ h b bytes img was e k g same f =
+    let s = kept-sizes img was image e k in
+    (s .0, s .1, λ q. path-stands Either (length occ) image img (g .«path_count») bytes (b .fault) (f q ∙ ap (λ (bs : List ℕ). pathOf bs (pathCount bs)) e))
 
 module _ (w : Widths) (img occ blocking : List ℕ) (o : Args) (f : Refusal) (e : f ≡ updateFaultIn w img occ blocking (o .moved .0) (o .limit)) where
   abbrev whole : UpdatedImage

@@ -8,15 +8,17 @@ use native.Mathlib.Numerals.{add-one}
 use lib.Dec.{eqb}
 use lib.ListN.{length, getD, set, replicate}
 use lib.Seq.{getD-set-same, getD-set-other}
-use borrow.Author.Tests.{eqb-true, eqb-false}
+use borrow.Author.Tests.{eqb-true, eqb-false, ne-eqb}
 use Rattle.link_rules.specs.LinkIdx.{noLink}
+use Rattle.link_rules.specs.Octets.{leAt}
 use Rattle.disp_structs.specs.Listed.{listed}
 use Rattle.disp_structs.specs.Values.{sameEst, isArrive, arriving}
 use Rattle.disp_structs.specs.declared.EstIdx.{EstIdx}
+use Rattle.disp_structs.specs.declared.EstType.the-variants.{Arrive, Clear, Fake}
 use Rattle.disp_structs.specs.declared.LinkEvent.{LinkEvent}
 use Rattle.disp_structs.specs.declared.DispNode.{DispNode}
 use Rattle.disp_structs.proofs.ListedLaws.{listed-same, listed-map}
-use Rattle.image.specs.Image.{nodeAt, pathOf}
+use Rattle.image.specs.Image.{estCount, nodePlace, typeOf, nodeFrom, nodeAt, pathOf}
 use Rattle.free_path.specs.Base.{any}
 use Rattle.free_path.specs.Columns.{link, linkAt}
 use Rattle.free_path.specs.LinkOptType.{linkIdxPath}
@@ -48,6 +50,34 @@ module _ (n : DispNode) (e : LinkEvent) (q : e ≡ n .«link_event») where
 
   pub arriving-none : isArrive (e .«est_type») ≡ false → noLink ≡ arriving n
   arriving-none h = ap (λ (t : Bool). cond t (e .«link_idx») noLink) (sym h) ∙ event
+
+-- a number of one octet
+byte-one : (bs : List ℕ) (at : ℕ) → leAt 1 bs at ≡ getD bs at 0
+unfolding leAt
+byte-one bs at = omega arith
+
+-- 0 alone is Arrive
+arrive-is : (n : ℕ) → isArrive (typeOf n) ≡ eqb n 0
+unfolding typeOf
+arrive-is n = go (eqb n 0) (eqb n 1)
+  where
+    go : (a b : Bool) → isArrive (cond a Arrive (cond b Clear Fake)) ≡ a
+    go true b = refl
+    go false true = refl
+    go false false = refl
+
+-- node i by its octets, the record beginning at at
+module _ (img : List ℕ) (i at : ℕ) (q : at ≡ nodePlace (estCount img) i) where
+  type-octet : isArrive (nodeAt img i .«link_event» .«est_type») ≡ eqb (getD img (at + 26) 0) 0
+  unfolding nodeFrom
+  type-octet = rw (q, arrive-is, byte-one)
+
+  pub octet-arrives : (l : ℕ) → getD img (at + 26) 0 ≡ 0 → l ≡ leAt 4 img (at + 16) → link l ≡ arriving (nodeAt img i)
+  unfolding nodeFrom
+  octet-arrives l h e = ap link (e ∙ ap (λ (a : ℕ). leAt 4 img (a + 16)) q) ∙ arriving-some (nodeAt img i) (nodeAt img i .«link_event») refl (type-octet ∙ ap (λ (k : ℕ). eqb k 0) h)
+
+  pub octet-other : (getD img (at + 26) 0 ≡ 0 → ⊥) → noLink ≡ arriving (nodeAt img i)
+  octet-other h = arriving-none (nodeAt img i) (nodeAt img i .«link_event») refl (type-octet ∙ ne-eqb (getD img (at + 26) 0) 0 h)
 
 pub column-links : (img : List ℕ) (n : ℕ) (col : List ℕ) → Filled n (λ j. arriving (nodeAt img j) .0) col → listed n (linkAt col) ≡ linkIdxPath (pathOf img n)
 column-links img n col g = listed-same n (λ i. arriving (nodeAt img i)) (linkAt col) (λ i h. ap link (g i h)) ∙ sym (listed-map arriving n (nodeAt img))

@@ -11,6 +11,7 @@ use Rattle.link_rules.specs.declared.link_idx.LinkIdx.{LinkIdx}
 use Rattle.link_rules.specs.declared.link_idx.TrainIdx.{TrainIdx}
 use Rattle.disp_structs.specs.Listed.{listed}
 use Rattle.disp_structs.specs.Train.{Train}
+use Rattle.disp_structs.specs.declared.DispNode.{DispNode}
 use Rattle.disp_structs.proofs.ListedLaws.{listed-length}
 use Rattle.link_rules.proofs.TableLaws.{both}
 use Rattle.image.specs.Image.{nodeAt, estCount, estAt, pathOf}
@@ -30,6 +31,7 @@ use Rattle.update_definition.specs.Fits.{Fits}
 use Rattle.update_laws.proofs.Rounds.{round-good}
 use Rattle.update_laws.specs.FitsGood.{TrainFits}
 use Rattle.update_laws.proofs.Updates.{round-fits}
+use Rattle.update_laws.proofs.BlockedPath.{round-path}
 use Rattle.update_laws.proofs.Steps.{round-few, round-answers}
 use Rattle.update_laws.specs.AfterRound.{StaysAccepted, NextRound}
 use Rattle.search.specs.Read.{Marked}
@@ -40,13 +42,14 @@ use Rattle.update_laws.proofs.TallyBounds.{count-few}
 use Rattle.round_start.proofs.StrayLaws.{linked-accepted, count-strays}
 use Rattle.round.specs.Rounds as Rounds
 use Rattle.round.specs.Rounds.{givenOf, endBy, endedOf, isAtEnd}
-use Rattle.update_free_path.specs.Updates.{errorsOf, ranBy, betweenOf, dueAt, isLast, ranOf, stoppedBy, keptMet, nextOf, closedAt, stopRefused, Known, Top, roundsAt, metFrom, Going, RoundsEnded}
+use Rattle.update_free_path.specs.Updates.{errorsOf, ranBy, betweenOf, dueAt, isLast, ranOf, isFirst, straysBy, stoppedBy, keptMet, nextOf, closedAt, stopRefused, Known, Top, roundsAt, metFrom, Going, RoundsEnded}
 use Rattle.round.specs.declared.Given.{Given}
 use Rattle.round.specs.declared.End.{End}
 use Rattle.round.specs.declared.End.the-variants as Ends
 use Rattle.round.specs.declared.RoundEnd.{RoundEnd}
 use Rattle.update_free_path.specs.declared.rounds.Between.{Between}
 use Rattle.update_free_path.specs.declared.rounds.Ran.{Ran}
+use Rattle.update_free_path.specs.declared.rounds.Stop.{Stop}
 use Rattle.update_free_path.specs.declared.rounds.Stop.the-variants as Stops
 
 -- ---- over trains
@@ -76,7 +79,7 @@ module _ (g : Update.Given) (was : Train) (w : Update.Between) where
         ∙ entered
 
     -- no other follows
-    stops-at : (e : End) (u : Train) (h : PathHeader) (i j s : ℕ) (x : TrainIdx) → isLast e ≡ true → endBy e u i j ≡ rounded → (isAtEnd e ≡ true → u ≡ w .train) → s ≡ Update.straysOf g (w .train)
+    stops-at : (e : End) (u : Train) (h : PathHeader) (i j s : ℕ) (x : TrainIdx) → isLast e ≡ true → endBy e u i j ≡ rounded → (isAtEnd e ≡ true → u ≡ w .train) → s ≡ straysBy e (Update.straysOf g (w .train))
         → ranIn g was (stoppedBy e h (w .tally) took s x) u ≡ Update.roundsFrom (suc k) g was w
     unfolding Update.afterRound
     stops-at (Ends.Refused c) u h i j s x a e l q = ap (λ x. Update.afterRound x (λ y. Update.roundsFrom k g was y) g was (Update.searched g w)) e ∙ entered
@@ -88,7 +91,7 @@ module _ (g : Update.Given) (was : Train) (w : Update.Between) where
     stops-at (Ends.Blocked holder) u h i j s x a e l q = ap (λ x. Update.afterRound x (λ y. Update.roundsFrom k g was y) g was (Update.searched g w)) e ∙ entered
     stops-at Ends.Again u h i j s x a e l q = absurd (false≢true a)
 
-    rounds-stop : (e : End) (u : Train) (h : PathHeader) (i j n s : ℕ) (x : TrainIdx) → isLast e ≡ true → endBy e u i j ≡ rounded → (isAtEnd e ≡ true → u ≡ w .train) → n ≡ took → s ≡ Update.straysOf g (w .train)
+    rounds-stop : (e : End) (u : Train) (h : PathHeader) (i j n s : ℕ) (x : TrainIdx) → isLast e ≡ true → endBy e u i j ≡ rounded → (isAtEnd e ≡ true → u ≡ w .train) → n ≡ took → s ≡ straysBy e (Update.straysOf g (w .train))
         → ranIn g was (stoppedBy e h (w .tally) n s x) u ≡ Update.roundsFrom (suc k) g was w
     rounds-stop e u h i j n s x a q l p z = ap (λ (m : ℕ). ranIn g was (stoppedBy e h (w .tally) m s x) u) p ∙ stops-at e u h i j s x a q l z
 
@@ -124,6 +127,13 @@ module _ (occ img dt dn : List ℕ) (h : PathHeader) (a : Accepted (length occ) 
 
   pub strays-low : (col flags : List ℕ) (s : ℕ) → s ≡ count (strayLink occ (flagged flags)) (drop (h .free) (listed (h .«path_count») (linkAt col))) → s ≤ 512
   strays-low col flags s e = omega (arith, path-few, strays-few (strayLink occ (flagged flags)) (h .«path_count») (linkAt col) (h .free))
+
+  -- those of a last round
+  pub last-low : (e : End) (col flags : List ℕ) (s : ℕ) → s ≡ straysBy e (count (strayLink occ (flagged flags)) (drop (h .free) (listed (h .«path_count») (linkAt col)))) → s ≤ 512
+  last-low (Ends.Refused c) col flags s e = omega (arith, e)
+  last-low Ends.AtEnd col flags s e = strays-low col flags s e
+  last-low (Ends.Blocked holder) col flags s e = omega (arith, e)
+  last-low Ends.Again col flags s e = omega (arith, e)
 
   pub strays-are : length occ ≤ 4000 → (col flags : List ℕ) → listed (h .«path_count») (linkAt col) ≡ linkIdxPath (pathOf img (h .«path_count»))
       → (g : Given) (blocking start : List LinkIdx) → Known flags blocking start
@@ -181,6 +191,18 @@ stop-met (Ends.Refused c) h n m s x = refl
 stop-met Ends.AtEnd h n m s x = refl
 stop-met (Ends.Blocked holder) h n m s x = refl
 stop-met Ends.Again h n m s x = refl
+
+-- with an equal tally, train met and flag
+pub ran-same : (stop : Stop) (h : PathHeader) {t u : Tally} {x y : TrainIdx} {b d : Bool} → t ≡ u → x ≡ y → b ≡ d → ranOf stop h t x b ≡ ranOf stop h u y d
+ran-same stop h {u = u} {y = y} {b = b} p q r = ap₂ (λ (n : Tally) (z : TrainIdx). ranOf stop h n z b) p q ∙ ap (ranOf stop h u y) r
+
+-- where the path of h is xs unless the round is refused, so is that of what the loop ends with
+stop-path : (img : List ℕ) (xs : List DispNode) (e : End) (h : PathHeader) (n : Tally) (m s : ℕ) (x : TrainIdx) → (Rounds.endRefused e ≡ false → isFirst n ≡ true → pathOf img (h .«path_count») ≡ xs)
+    → stopRefused (stoppedBy e h n m s x .stop) ≡ false → stoppedBy e h n m s x .«same_path» ≡ true → pathOf img (stoppedBy e h n m s x .header .«path_count») ≡ xs
+stop-path img xs (Ends.Refused c) h n m s x f u q = absurd (false≢true (sym u))
+stop-path img xs Ends.AtEnd h n m s x f u q = f refl q
+stop-path img xs (Ends.Blocked holder) h n m s x f u q = f refl q
+stop-path img xs Ends.Again h n m s x f u q = f refl q
 
 -- a round has run, or none is due
 later-met : (b t : Bool) (x y : TrainIdx) → b ≡ false → cond (b && t) x y ≡ y
@@ -251,13 +273,24 @@ module _ (occ img col on dt dn flags : List ℕ) (g : Given) (w : Between) (t : 
           rounds-again (given blocking start) was (betweenOf img dt dn w) (limit - (w .tally .rounds + 1)) (due-same img dt dn w ∙ d) train′ (x .split) (x .«div_split») (x .steps) s (sym (goes blocking start)) (o blocking start) q
           ∙ ap (λ (z : ℕ). Update.roundsFrom z (given blocking start) was (betweenOf img dt dn w)) (sym n)
 
-    stop-same : isLast (x .end) ≡ true → (isAtEnd (x .end) ≡ true → train′ ≡ train) → (limit : ℕ) → w .tally .rounds < limit → dueAt w ≡ true → (blocking start : List LinkIdx) (was : Train) (s : ℕ) → s ≡ Update.straysOf (given blocking start) train
+    stop-same : isLast (x .end) ≡ true → (isAtEnd (x .end) ≡ true → train′ ≡ train) → (limit : ℕ) → w .tally .rounds < limit → dueAt w ≡ true → (blocking start : List LinkIdx) (was : Train) (s : ℕ) → s ≡ straysBy (x .end) (Update.straysOf (given blocking start) train)
         → ran-at occ img′ dt′ dn′ was (stoppedBy (x .end) (x .header) (w .tally) (x .steps) s (keptMet w x)) ≡ roundsAt occ g blocking start limit img dt dn was w
     stop-same a l limit r d blocking start was s q =
         let n : limit - w .tally .rounds ≡ suc (limit - (w .tally .rounds + 1)) = omega arith in
         stopped-at occ img′ dt′ dn′ g blocking start was (x .end) (x .header) (w .tally) (x .steps) s (keptMet w x)
         ∙ rounds-stop (given blocking start) was (betweenOf img dt dn w) (limit - (w .tally .rounds + 1)) (due-same img dt dn w ∙ d) (x .end) train′ (x .header) (x .split) (x .«div_split») (x .steps) s (keptMet w x) a (e blocking start) l (o blocking start) q
         ∙ ap (λ (z : ℕ). Update.roundsFrom z (given blocking start) was (betweenOf img dt dn w)) (sym n)
+
+    -- a round that no other follows leaves the path
+    last-path : isLast (x .end) ≡ true → (isAtEnd (x .end) ≡ true → train′ ≡ train) → Rounds.endRefused (x .end) ≡ false → pathOf img′ (x .header .«path_count») ≡ pathOf img (w .header .«path_count»)
+    unfolding trainOf
+    last-path a l u = go (x .end) (e [] []) a l u
+      where
+        go : (y : End) → endBy y train′ (x .split) (x .«div_split») ≡ Update.roundOf (given [] []) train (w .split) (w .«div_split») → isLast y ≡ true → (isAtEnd y ≡ true → train′ ≡ train) → Rounds.endRefused y ≡ false → train′ .«disp_path» ≡ train .«disp_path»
+        go (Ends.Refused c) q a l u = absurd (false≢true (sym u))
+        go Ends.AtEnd q a l u = ap (λ (z : Train). z .«disp_path») (l refl)
+        go (Ends.Blocked holder) q a l u = round-path (length occ) (given [] []) train (w .split) (w .«div_split») (State.blockedAt train′ holder) (t .held .accepted) (t .split-low) (t .div-low) (sym q)
+        go Ends.Again q a l u = absurd (false≢true a)
 
     -- ---- what the loop keeps and answers
 
@@ -280,22 +313,24 @@ module _ (occ img col on dt dn flags : List ℕ) (g : Given) (w : Between) (t : 
                 next-same a limit r d blocking start was s (c ∙ strays-are occ img′ dt′ dn′ (x .header) (next-accepted a) (t .held .links) col′ flags q g blocking start f) ∙ v .same blocking start f was;
             met = λ blocking start.
                 later-met (eqb (w .tally .rounds + 1) 0) (dueAt (nextOf w x s)) _ (keptMet w x) (ne-eqb (w .tally .rounds + 1) 0 (λ z. omega arith)) ∙ kept-met blocking start ∙ v .met blocking start;
+            path = λ z. absurd (false≢true (sym (ne-eqb (w .tally .rounds + 1) 0 (λ z. omega arith)) ∙ z));
           }
 
       pub ended-stopped : isLast (x .end) ≡ true → (isAtEnd (x .end) ≡ true → train′ ≡ train) → (Rounds.endRefused (x .end) ≡ false → Kept img′ img)
-          → (s : ℕ) → s ≡ count (strayLink occ (flagged flags)) (drop (w .header .free) (listed (w .header .«path_count») (linkAt col)))
+          → (s : ℕ) → s ≡ straysBy (x .end) (count (strayLink occ (flagged flags)) (drop (w .header .free) (listed (w .header .«path_count») (linkAt col))))
           → RoundsEnded occ flags g limit img₀ dt₀ dn₀ w₀ img′ dt′ dn′ (stoppedBy (x .end) (x .header) (w .tally) (x .steps) s (keptMet w x))
       ended-stopped a l k s c =
           record {
             kept = λ q. kept-then img′ img img₀ (k (stop-refused (x .end) (x .header) (w .tally) (x .steps) s (keptMet w x) q)) (v .kept);
             faultless = stop-faultless (x .end) (x .header) (w .tally) (x .steps) s (keptMet w x) (t .faultless);
             is = λ blocking start f was.
-                stop-same a l limit r d blocking start was s (c ∙ strays-are occ img dt dn (w .header) (t .held .accepted) (t .held .links) col flags (t .column) g blocking start f) ∙ v .same blocking start f was;
+                stop-same a l limit r d blocking start was s (c ∙ ap (straysBy (x .end)) (strays-are occ img dt dn (w .header) (t .held .accepted) (t .held .links) col flags (t .column) g blocking start f)) ∙ v .same blocking start f was;
             met = λ _ blocking start. stop-met (x .end) (x .header) (w .tally) (x .steps) s (keptMet w x) ∙ kept-met blocking start ∙ v .met blocking start;
+            path = stop-path img′ (pathOf img₀ (w₀ .header .«path_count»)) (x .end) (x .header) (w .tally) (x .steps) s (keptMet w x) (λ u q. last-path a l u ∙ v .path q);
           }
 
 pub going-start : (occ flags : List ℕ) (g : Given) (limit : ℕ) (img dt dn : List ℕ) (w : Between) → Going occ flags g limit img dt dn w img dt dn w
-going-start occ flags g limit img dt dn w = record { kept = record { size = refl; below = λ i h. refl }; same = λ blocking start f was. refl; met = λ blocking start. refl }
+going-start occ flags g limit img dt dn w = record { kept = record { size = refl; below = λ i h. refl }; same = λ blocking start f was. refl; met = λ blocking start. refl; path = λ _. refl }
 
 first-false : (b : Bool) → (b && true) ≡ false → b ≡ false
 first-false true e = absurd (false≢true (sym e))
@@ -306,19 +341,27 @@ pub ended-closed : (occ flags : List ℕ) (g : Given) (limit : ℕ) (img₀ dt�
     → Going occ flags g limit img₀ dt₀ dn₀ w₀ img dt dn w → w .tally .faults ≡ 0 → (ltb (w .tally .rounds) limit && dueAt w) ≡ false → RoundsEnded occ flags g limit img₀ dt₀ dn₀ w₀ img dt dn (closedAt w)
 unfolding trainOf
 ended-closed occ flags g limit img₀ dt₀ dn₀ w₀ img dt dn w v none q =
-    record { kept = λ _. v .kept; faultless = faultless-by (dueAt w); is = λ blocking start f was. go (dueAt w) refl blocking start was ∙ v .same blocking start f was; met = λ u blocking start. kept-by (dueAt w) refl u blocking start ∙ v .met blocking start }
+    record { kept = λ _. v .kept; faultless = faultless-by (dueAt w); is = λ blocking start f was. go (dueAt w) refl blocking start was ∙ v .same blocking start f was; met = λ u blocking start. kept-by (dueAt w) refl u blocking start ∙ v .met blocking start; path = path-by (dueAt w) }
   where
-    faultless-by : (b : Bool) → cond b (ranOf (Stops.Refused 12) (w .header) (w .tally) (w .met)) (ranOf Stops.Ended (w .header) (w .tally) (w .met)) .tally .faults ≡ 0
+    -- b: another round is due
+    ended : Bool → Ran
+    ended b = cond b (ranOf (Stops.Refused 12) (w .header) (w .tally) (w .met) (isFirst (w .tally))) (ranOf Stops.Ended (w .header) (w .tally) (w .met) (isFirst (w .tally)))
+
+    faultless-by : (b : Bool) → ended b .tally .faults ≡ 0
     faultless-by true = none
     faultless-by false = none
 
-    kept-by : (b : Bool) → dueAt w ≡ b → stopRefused (cond b (ranOf (Stops.Refused 12) (w .header) (w .tally) (w .met)) (ranOf Stops.Ended (w .header) (w .tally) (w .met)) .stop) ≡ false
-        → (blocking start : List LinkIdx) → cond b (ranOf (Stops.Refused 12) (w .header) (w .tally) (w .met)) (ranOf Stops.Ended (w .header) (w .tally) (w .met)) .met ≡ metFrom occ g blocking start img dt dn w
+    kept-by : (b : Bool) → dueAt w ≡ b → stopRefused (ended b .stop) ≡ false
+        → (blocking start : List LinkIdx) → ended b .met ≡ metFrom occ g blocking start img dt dn w
     kept-by true d u blocking start = absurd (false≢true (sym u))
     kept-by false d u blocking start = sym (none-due (eqb (w .tally .rounds) 0) (dueAt w) _ (w .met) d)
 
+    path-by : (b : Bool) → stopRefused (ended b .stop) ≡ false → ended b .«same_path» ≡ true → pathOf img (ended b .header .«path_count») ≡ pathOf img₀ (w₀ .header .«path_count»)
+    path-by true u z = absurd (false≢true (sym u))
+    path-by false u z = v .path z
+
     go : (b : Bool) → dueAt w ≡ b → (blocking start : List LinkIdx) (was : Train)
-        → ran-at occ img dt dn was (cond b (ranOf (Stops.Refused 12) (w .header) (w .tally) (w .met)) (ranOf Stops.Ended (w .header) (w .tally) (w .met))) ≡ roundsAt occ g blocking start limit img dt dn was w
+        → ran-at occ img dt dn was (ended b) ≡ roundsAt occ g blocking start limit img dt dn was w
     go true d blocking start was =
         let m = ltb-false (w .tally .rounds) limit (first-false (ltb (w .tally .rounds) limit) (ap (λ (t : Bool). ltb (w .tally .rounds) limit && t) (sym d) ∙ q)) in
         let z : limit - w .tally .rounds ≡ 0 = omega arith in

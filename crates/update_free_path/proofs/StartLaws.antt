@@ -12,7 +12,7 @@ use Rattle.link_rules.proofs.OctetLaws.{Bytes}
 use Rattle.disp_structs.specs.Listed.{listed}
 use Rattle.disp_structs.specs.Train.{Train}
 use Rattle.disp_structs.specs.declared.DispNode.{DispNode}
-use Rattle.image.specs.Image.{largestOf, largestTrain, isWide, divergeCount, divergeAt, nodeAt, pathHeader, divergeRoom, estCount, pathOf}
+use Rattle.image.specs.Image.{largestOf, largestTrain, isWide, pathCount, divergeCount, divergeAt, nodeAt, pathHeader, divergeRoom, estCount, pathOf}
 use Rattle.image.proofs.WidthLaws.{words-twice}
 use Rattle.image_fault.specs.declared.Widths.the-variants.{Either}
 use Rattle.image_fault.proofs.AcceptLaws as Clean
@@ -95,6 +95,11 @@ module _ (img occ : List ℕ) (h : PathHeader) (b : UpdateBegins img occ h) (byt
   path-is : pathOf img (h .«path_count») ≡ decoded img .«disp_path»
   unfolding decoded pathHeader
   path-is = ap (λ (x : PathHeader). listed (x .«path_count») (nodeAt img)) (b .header)
+
+  -- with the count of the image
+  path-own : pathOf img (h .«path_count») ≡ pathOf img (pathCount img)
+  unfolding pathHeader
+  path-own = ap (λ (x : PathHeader). pathOf img (x .«path_count»)) (b .header)
 
   free-is : h .free ≡ decoded img .«disp_node_idx_free»
   unfolding decoded pathHeader
@@ -199,4 +204,5 @@ module _ (img occ : List ℕ) (h : PathHeader) (b : UpdateBegins img occ h) (byt
                     ∙ by-rounds;
                 named = λ f y.
                     omega (arith, refused-number (o .limit - 0) (givenOf begun occ (linkIdxs blocking) first) (decoded img) (betweenOf img dt dn (startAt h s)) f (ap (λ (u : Update.Updated). u .answer .status) (sym r) ∙ status-ran (x .stop) (errorsOf img′ occ (x .header)) (x .tally) (decoded img) (trainOf img′ dt′ dn′ (x .header)) ∙ y) .0);
+                path = λ u q. v .path u q ∙ path-own;
               }

@@ -11,7 +11,7 @@ use Rattle.link_rules.specs.declared.link_idx.TrainIdx.{TrainIdx}
 use Rattle.disp_structs.specs.Listed.{listed}
 use Rattle.disp_structs.specs.Train.{Train}
 use Rattle.disp_structs.specs.Values.{minus}
-use Rattle.image.specs.Image.{estCount, divergeRoom, nodeAt, distFixedMax, pathHeader, estsOf, pathOf}
+use Rattle.image.specs.Image.{estCount, pathCount, divergeRoom, nodeAt, distFixedMax, pathHeader, estsOf, pathOf}
 use Rattle.image.specs.Codec.{decoded}
 use Rattle.image_fault.specs.ImageFault.{faultWith}
 use Rattle.image_fault.specs.declared.Widths.{Widths}
@@ -26,6 +26,7 @@ use Rattle.free_path.specs.Validate.{known, validateFreePath}
 use Rattle.update_definition.specs.Update as Update
 use Rattle.update_definition.specs.UpdateImage.{UpdatedImage, linkIdxs, updatedImageIn, storedAnswer, refusedAnswer}
 use Rattle.splice.specs.Read.{Kept}
+use Rattle.image_store.specs.Stored.{PathStands}
 use Rattle.update_definition.specs.ImageTrain.{trainOf}
 use Rattle.round.specs.Rounds.{Held, givenOf}
 use Rattle.round.specs.declared.Given.{Given}
@@ -95,12 +96,16 @@ stopRefused Stops.Ended = false
 abbrev pub Named : Stop → Res ℕ → Type 0
 Named s f = (r : Refusal) → statusBy s f ≡ Update.Refused r → r .number < 65536
 
--- the rounds have ended with r: a refusal has room in its field, no fault is counted, and unless it is refused the image has the counts of its copy
+-- the image has the counts of its copy img, and where same the path of h
+abbrev pub StoreFits : (image img : List ℕ) (h : PathHeader) (same : Bool) → Type 0
+StoreFits image img h same = (estCount image ≡ estCount img) × (divergeRoom image ≡ divergeRoom img) × (same ≡ true → PathStands img (h .«path_count») image)
+
+-- the rounds have ended with r: a refusal has room in its field, no fault is counted, and unless it is refused the train can be stored
 abbrev pub AnswerFits : (image img occ : List ℕ) (r : Ran) → Type 0
 AnswerFits image img occ r =
     Named (r .stop) (errorsOf img occ (r .header))
     × (r .tally .faults ≡ 0)
-    × (stopRefused (r .stop) ≡ false → (estCount image ≡ estCount img) × (divergeRoom image ≡ divergeRoom img))
+    × (stopRefused (r .stop) ≡ false → StoreFits image img (r .header) (r .«same_path»))
 
 -- x and the image that is left are the update's, was being the train before it
 abbrev pub Answers : (image img occ dt dn : List ℕ) (r : Ran) (x : Updated) (image₁ : List ℕ) → Type 0
@@ -122,19 +127,31 @@ isLast Ends.AtEnd = true
 isLast (Ends.Blocked holder) = true
 isLast Ends.Again = false
 
-abbrev pub ranOf : Stop → PathHeader → Tally → TrainIdx → Ran
-ranOf stop h tally met = record { stop = stop; header = h; tally = tally; met = met }
+-- first: no round was counted before the last one
+abbrev pub ranOf : Stop → PathHeader → Tally → TrainIdx → Bool → Ran
+ranOf stop h tally met first = record { stop = stop; header = h; tally = tally; met = met; «same_path» = first }
+
+-- no round is counted yet
+abbrev pub isFirst : Tally → Bool
+isFirst t = eqb (t .rounds) 0
+
+-- the strays that are counted where the last round ends so, s being those of its path
+abbrev pub straysBy : End → ℕ → ℕ
+straysBy (Ends.Refused c) s = 0
+straysBy Ends.AtEnd s = s
+straysBy (Ends.Blocked holder) s = 0
+straysBy Ends.Again s = 0
 
 -- by the end of the last round, before which the tally was t, n being its steps and s the strays of its path; met is the train met
 abbrev pub stoppedBy : End → PathHeader → Tally → ℕ → ℕ → TrainIdx → Ran
-stoppedBy (Ends.Refused c) h t n s met = ranOf (Stops.Refused c) h (counted (stepped t n) 0) met
-stoppedBy Ends.AtEnd h t n s met = ranOf Stops.Ended h (counted (stepped t n) s) met
-stoppedBy (Ends.Blocked holder) h t n s met = ranOf (Stops.Blocked holder) h (counted (stepped t n) 0) met
-stoppedBy Ends.Again h t n s met = ranOf Stops.Ended h (counted (stepped t n) 0) met
+stoppedBy (Ends.Refused c) h t n s met = ranOf (Stops.Refused c) h (counted (stepped t n) 0) met (isFirst t)
+stoppedBy Ends.AtEnd h t n s met = ranOf Stops.Ended h (counted (stepped t n) s) met (isFirst t)
+stoppedBy (Ends.Blocked holder) h t n s met = ranOf (Stops.Blocked holder) h (counted (stepped t n) 0) met (isFirst t)
+stoppedBy Ends.Again h t n s met = ranOf Stops.Ended h (counted (stepped t n) 0) met (isFirst t)
 
 -- the train met that is kept after a round: that of the first one
 abbrev pub keptMet : Between → RoundEnd → TrainIdx
-keptMet w x = cond (eqb (w .tally .rounds) 0) (x .met) (w .met)
+keptMet w x = cond (isFirst (w .tally)) (x .met) (w .met)
 
 -- after a round that another may follow, s being the strays of the path that it left
 abbrev pub nextOf : Between → RoundEnd → ℕ → Between
@@ -142,7 +159,7 @@ nextOf w x s = record { header = x .header; split = x .split; «div_split» = x 
 
 -- no round follows
 abbrev pub closedAt : Between → Ran
-closedAt w = cond (dueAt w) (ranOf (Stops.Refused 12) (w .header) (w .tally) (w .met)) (ranOf Stops.Ended (w .header) (w .tally) (w .met))
+closedAt w = cond (dueAt w) (ranOf (Stops.Refused 12) (w .header) (w .tally) (w .met) (isFirst (w .tally))) (ranOf Stops.Ended (w .header) (w .tally) (w .met) (isFirst (w .tally)))
 
 -- one more round, its n steps and s strays fit the tally, in which no fault is counted before the rounds have ended
 pub record Counting (t : Tally) (n s : ℕ) : Type 0 where
@@ -193,6 +210,8 @@ pub record Going (occ flags : List ℕ) (g : Given) (limit : ℕ) (img₀ dt₀ 
   pub kept : Kept img img₀
   pub same : (blocking start : List LinkIdx) → Known flags blocking start → (was : Train) → roundsAt occ g blocking start limit img dt dn was w ≡ roundsAt occ g blocking start limit img₀ dt₀ dn₀ was w₀
   pub met : (blocking start : List LinkIdx) → metFrom occ g blocking start img dt dn w ≡ metFrom occ g blocking start img₀ dt₀ dn₀ w₀
+  -- the first round finds the path of the start
+  pub path : isFirst (w .tally) ≡ true → pathOf img (w .header .«path_count») ≡ pathOf img₀ (w₀ .header .«path_count»)
 
 -- the loop has ended with x: the answer, and an image in which a train can be stored
 pub record RoundsEnded (occ flags : List ℕ) (g : Given) (limit : ℕ) (img₀ dt₀ dn₀ : List ℕ) (w₀ : Between) (img dt dn : List ℕ) (x : Ran) : Type 0 where
@@ -202,6 +221,8 @@ pub record RoundsEnded (occ flags : List ℕ) (g : Given) (limit : ℕ) (img₀ 
       → ranBy (x .stop) (errorsOf img occ (x .header)) (x .tally) was (trainOf img dt dn (x .header)) ≡ roundsAt occ g blocking start limit img₀ dt₀ dn₀ was w₀
   -- of a refused update it is any
   pub met : stopRefused (x .stop) ≡ false → (blocking start : List LinkIdx) → x .met ≡ metFrom occ g blocking start img₀ dt₀ dn₀ w₀
+  -- where it says so, the path is that of the start
+  pub path : stopRefused (x .stop) ≡ false → x .«same_path» ≡ true → pathOf img (x .header .«path_count») ≡ pathOf img₀ (w₀ .header .«path_count»)
 
 -- ---- the first round
 
@@ -256,3 +277,4 @@ pub record Finished (img₀ occ blocking : List ℕ) (o : Args) (img dt dn : Lis
   pub faultless : x .tally .faults ≡ 0
   pub is : Update.meets (x .met) (ranBy (x .stop) (errorsOf img occ (x .header)) (x .tally) (decoded img₀) (trainOf img dt dn (x .header))) ≡ updateOf img₀ occ blocking o
   pub named : Named (x .stop) (errorsOf img occ (x .header))
+  pub path : stopRefused (x .stop) ≡ false → x .«same_path» ≡ true → pathOf img (x .header .«path_count») ≡ pathOf img₀ (pathCount img₀)

@@ -13,14 +13,13 @@ ghost use mathlib.Core.Path.{_≡_};
 ghost use mathlib.Core.Bool.{false};
 ghost use mathlib.Core.List.{List};
 ghost use Prim.Native.Nat.{ℕ, _<_};
-ghost use Rattle.image.specs.Image.{estCount, divergeRoom};
 ghost use Rattle.free_path.specs.Columns as Columns;
 ghost use Rattle.link_rules.specs.Refusals as Refusals;
 ghost use Rattle.link_rules.specs.declared.refusal.Refusal.{Refusal};
 ghost use Rattle.update_definition.specs.Update as Update;
 ghost use Rattle.update_definition.specs.UpdateImage.{leftImage, refusedAnswer};
 ghost use Rattle.update_definition.specs.ImageTrain.{trainOf};
-ghost use Rattle.update_free_path.specs.Updates.{statusOf, updatedOf, isRefusal, errorsOf, judgedBy, statusBy, Named, AnswerFits, Answers};
+ghost use Rattle.update_free_path.specs.Updates.{statusOf, updatedOf, isRefusal, errorsOf, judgedBy, statusBy, Named, StoreFits, AnswerFits, Answers};
 
 pub enum Status {
     Success,
@@ -118,12 +117,16 @@ fn met_in(s: Status, met: TrainIdx) -> TrainIdx
     }
 }
 
-// The train goes to the image unless the update is refused.
-fn leave(image: &mut [u8], img: &[u8], s: Status, h: PathHeader, dt: &[u32], dn: &[u32])
-    requires { ⌜ (isRefusal s ≡ false → (estCount (now image) ≡ estCount (now img)) × (divergeRoom (now image) ≡ divergeRoom (now img))) ⌝ }
+// The train goes to the image unless the update is refused, without its path where the image has that.
+fn leave(image: &mut [u8], img: &[u8], s: Status, h: PathHeader, same: bool, dt: &[u32], dn: &[u32])
+    requires { ⌜ (isRefusal s ≡ false → StoreFits (now image) (now img) h same) ⌝ }
     ensures { λ _. ⌜ now (image .exit) ≡ leftImage (statusOf s) (trainOf (now (img .entry)) (now (dt .entry)) (now (dn .entry)) h) (now (image .entry)) ⌝ }
 {
     if is_refusal(s) {
+        return;
+    }
+    if same {
+        image_store::store_diverges(image, h, dt, dn);
         return;
     }
     image_store::store(image, img, h, dt, dn);
@@ -145,7 +148,7 @@ pub(crate) fn answered(
     let h = r.header;
     let s = status_by(img, occ, stop, h);
     let t = r.tally;
-    leave(image, img, s, h, dt, dn);
+    leave(image, img, s, h, r.same_path, dt, dn);
     Updated {
         status: s,
         tally: tally::counted_faults(t, faults_in(s)),

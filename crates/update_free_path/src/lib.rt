@@ -1,4 +1,4 @@
-// update_free_path (free_path.rs 252-638) on the bytes of one image, proved equal to updatedImage of update_definition.
+// update_free_path (free_path.rs 252-638) on the bytes of one image, proved equal to updatedImage and updatedImageWide of update_definition.
 // Every function here is proved, the crate assumes nothing of its own, and no public function has a `requires`.
 pub mod answer;
 pub mod call;

@@ -1,4 +1,4 @@
-// The loop over rounds (free_path.rs 278-635).
+// The loop over rounds (free_path.rs 278-634).
 use crate::path;
 use free_path::strays;
 use image::codec::PathHeader;
@@ -22,7 +22,7 @@ ghost use Rattle.free_path.specs.LinkOptType.{linkIdxPath};
 ghost use Rattle.free_path.specs.Validate.{strayLink};
 ghost use Rattle.search.specs.Read.{Marked};
 ghost use Rattle.tally.specs.Tally.{counted, stepped};
-ghost use Rattle.update_free_path.specs.Updates.{dueAt, isLast, ranOf, keptMet, stoppedBy, nextOf, closedAt, Counting, Sizes, Top, RoundsEnded};
+ghost use Rattle.update_free_path.specs.Updates.{dueAt, isLast, ranOf, isFirst, keptMet, straysBy, stoppedBy, nextOf, closedAt, Counting, Sizes, Top, RoundsEnded};
 
 // Between two rounds: the header's numbers, idx_split and div_idx_split, document 01's tally, and the train met in the first round.
 pub struct Between {
@@ -40,11 +40,13 @@ pub enum Stop {
     Ended,
 }
 
+// same_path: no round handed on a path, so that it is that of the start unless the loop is refused.
 pub struct Ran {
     pub stop: Stop,
     pub header: PathHeader,
     pub tally: Tally,
     pub met: TrainIdx,
+    pub same_path: bool,
 }
 
 // Is another round due?
@@ -75,22 +77,30 @@ fn is_last(end: End) -> bool
     }
 }
 
-fn ran_with(stop: Stop, h: PathHeader, t: Tally, met: TrainIdx) -> Ran
-    ensures { λ r. ⌜ r ≡ ranOf stop h t met ⌝ }
+fn ran_with(stop: Stop, h: PathHeader, t: Tally, met: TrainIdx, first: bool) -> Ran
+    ensures { λ r. ⌜ r ≡ ranOf stop h t met first ⌝ }
 {
     Ran {
         stop: stop,
         header: h,
         tally: t,
         met: met,
+        same_path: first,
     }
+}
+
+// Is no round counted yet?
+fn is_first(w: Between) -> bool
+    ensures { λ r. ⌜ r ≡ isFirst (w .tally) ⌝ }
+{
+    w.tally.rounds == 0
 }
 
 // The train met that is kept once a round has ended: that of the first round.
 fn kept_met(w: Between, x: RoundEnd) -> TrainIdx
     ensures { λ r. ⌜ r ≡ keptMet w x ⌝ }
 {
-    if w.tally.rounds == 0 {
+    if is_first(w) {
         return x.met;
     }
     w.met
@@ -112,12 +122,19 @@ fn stopped(w: Between, x: RoundEnd, strays: usize) -> Ran
     let t = w.tally;
     let h = x.header;
     let met = kept_met(w, x);
+    let first = is_first(w);
     let end = x.end;
     match end {
-        End::Refused(c) => ran_with(Stop::Refused(c), h, tallied(t, x.steps, 0), met),
-        End::AtEnd => ran_with(Stop::Ended, h, tallied(t, x.steps, strays), met),
-        End::Blocked(holder) => ran_with(Stop::Blocked(holder), h, tallied(t, x.steps, 0), met),
-        End::Again => ran_with(Stop::Ended, h, tallied(t, x.steps, 0), met),
+        End::Refused(c) => ran_with(Stop::Refused(c), h, tallied(t, x.steps, 0), met, first),
+        End::AtEnd => ran_with(Stop::Ended, h, tallied(t, x.steps, strays), met, first),
+        End::Blocked(holder) => ran_with(
+            Stop::Blocked(holder),
+            h,
+            tallied(t, x.steps, 0),
+            met,
+            first,
+        ),
+        End::Again => ran_with(Stop::Ended, h, tallied(t, x.steps, 0), met, first),
     }
 }
 
@@ -144,10 +161,11 @@ fn closed(w: Between) -> Ran
     let h = w.header;
     let t = w.tally;
     let met = w.met;
+    let first = is_first(w);
     if is_due(w) {
-        return ran_with(Stop::Refused(12), h, t, met);
+        return ran_with(Stop::Refused(12), h, t, met, first);
     }
-    ran_with(Stop::Ended, h, t, met)
+    ran_with(Stop::Ended, h, t, met, first)
 }
 
 // The strays of the path of which col is link_idx_path.
@@ -155,6 +173,18 @@ pub(crate) fn strays_of(col: &[u32], h: PathHeader, occ: &[u32], known: &[u8]) -
     ensures { λ r. ⌜ r ≡ count (strayLink (now (occ .entry)) (flagged (now (known .entry)))) (drop (h .free) (listed (h .«path_count») (linkAt (now (col .entry))))) ⌝ }
 {
     strays::strays(col, h.path_count as usize, h.free as usize, occ, known)
+}
+
+// Those that are counted where the last round ends so: only at AtEnd are they looked for.
+fn strays_at(end: End, col: &[u32], h: PathHeader, occ: &[u32], known: &[u8]) -> usize
+    ensures { λ r. ⌜ r ≡ straysBy end (count (strayLink (now (occ .entry)) (flagged (now (known .entry)))) (drop (h .free) (listed (h .«path_count») (linkAt (now (col .entry)))))) ⌝ }
+{
+    match end {
+        End::Refused(c) => 0,
+        End::AtEnd => strays_of(col, h, occ, known),
+        End::Blocked(holder) => 0,
+        End::Again => 0,
+    }
 }
 
 // link_idx_path and is_on_path of the n nodes of the path.
@@ -188,7 +218,7 @@ pub(crate) fn rounds(
         let end = x.end;
         let h = x.header;
         if is_last(end) {
-            return stopped(w, x, strays_of(col, w.header, occ, known));
+            return stopped(w, x, strays_at(end, col, w.header, occ, known));
         }
         derive(img, h.path_count, col, on);
         w = next(w, x, strays_of(col, h, occ, known));

@@ -35,6 +35,7 @@ pub mod Joins
 pub mod Joining
 pub mod Rounds
 pub mod Holders
+pub mod BlockedPath
 pub mod Fitting
 pub mod Updates
 pub mod TopNever

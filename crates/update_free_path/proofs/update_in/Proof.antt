@@ -1,13 +1,15 @@
 use mathlib.Core.Path.{sym, ap, subst, _∙_}
 use mathlib.Core.List.{List}
-use Prim.Native.Nat.{ℕ}
+use Prim.Native.Nat.{ℕ, _<_}
+use native.Mathlib.Omega.{arith}
+use lib.ListN.{getD}
 use denote.Ref.{now}
 use Rattle.link_rules.proofs.OctetLaws.{put-all}
 use Rattle.image.specs.Codec.{decoded}
 use Rattle.update_definition.specs.Update.{Updated}
 use Rattle.update_definition.specs.UpdateImage.{storedAnswer}
 use Rattle.update_free_path.specs.Updates.{UpdateBegins, Space, updateOf}
-use Rattle.update_free_path.proofs.CallLaws.{kept-sizes}
+use Rattle.update_free_path.proofs.CallLaws.{store-fits}
 use borrow.Author.Needs.{needs}
 use Rattle.update_free_path.proofs.update_in.Statement.{statement}
 use Rattle.update_free_path.proofs.update_in.Tie as tie
@@ -29,7 +31,8 @@ answered-requires c κs =
     let k = c .before .before .before .before .before .before .before .before .before .before .before .before .before .before .before .before .before .before .before .before .before .before .before .before .before .before .before .before .put-bytes in
     let copied = k .ensures ∙ put-all (now (a .image)) (now (a .scratch)) (sym (c .before .before .before .before .before .before .before .before .before .before .before .before .before .before .before .before .before .before .before .before .before .before .before .before .before .before .before .before .before .before .before .before .before .before .before .before .before .before .before .before .before .pre .1)) in
     let r = c .before .before .before .before .before .before .before .before .before .before .before .before .before .before .before .before .before .before .run in
-    (r .ensures .named, r .ensures .faultless, λ q. kept-sizes (r .last .0) (k .last .0) (now (a .image)) copied (r .ensures .kept q))
+    let bytes : ((i : ℕ) → getD (now (a .image)) i 0 < 256) = λ i. omega (arith, c .before .before .before .before .before .before .before .before .before .before .before .before .before .before .before .before .before .before .before .before .before .before .before .before .before .before .before .before .before .before .before .before .before .before .before .before .before .before .before .before .slice-known .given i) in
+    (r .ensures .named, r .ensures .faultless, λ q. store-fits (now (a .image)) (now (a .occ)) (a .h) (c .before .before .before .before .before .before .before .before .before .before .before .before .before .before .before .before .before .before .before .before .before .before .before .before .before .before .before .before .before .before .before .before .before .before .before .before .before .before .before .before .before .pre .0) bytes (r .last .0) (k .last .0) copied (r .ensures .kept q) (r .result .header) (r .result .«same_path») (r .ensures .path q))
 
 same-length : tie.Need-same-length
 same-length c = search needs

@@ -1,29 +1,57 @@
-use mathlib.Core.Path.{sym, _∙_}
+use mathlib.Core.Path.{ap, _∙_}
 use denote.Ref.{now}
-use Rattle.image.specs.Image.{nodeAt}
-use Rattle.update_free_path.proofs.PathLaws.{arriving-some, arriving-none}
+use Prim.Native.Nat.{ℕ}
+use Rattle.image.specs.Image.{nodePlace}
+use Rattle.update_free_path.proofs.PathLaws.{octet-arrives, octet-other}
 use borrow.Author.Needs.{needs}
 use Rattle.update_free_path.proofs.path.arrive_link.Statement.{statement}
 use Rattle.update_free_path.proofs.path.arrive_link.Tie as tie
 
-node-link-event-requires : tie.Need-node-link-event-requires
-node-link-event-requires c κs = search needs
+node-place-requires : tie.Need-node-place-requires
+node-place-requires c κs = search needs
 
-is-arrive-requires : tie.Need-is-arrive-requires
-is-arrive-requires c κs = search needs
+add-if1 : tie.Need-add-if1
+add-if1 c = search needs
+
+arrive-past-requires : tie.Need-arrive-past-requires
+arrive-past-requires c κs = search needs
 
 returns : tie.Need-returns
-returns c =
-    let a = c .before .before .before .before .before .args in
-    let e = c .before .before .before .node-link-event in
-    arriving-some (nodeAt (now (a .img)) (a .i)) (e .result) (e .ensures) (sym (c .before .before .is-arrive .ensures) ∙ c .before .if1 .taken)
+returns c = search needs
+
+add-if2 : tie.Need-add-if2
+add-if2 c = search needs
+
+shared-slice-read-if2 : tie.Need-shared-slice-read-if2
+shared-slice-read-if2 c = search needs
+
+add-u32-at : tie.Need-add-u32-at
+add-u32-at c = search needs
+
+u32-at-requires : tie.Need-u32-at-requires
+u32-at-requires c κs = search needs
 
 returns-2 : tie.Need-returns-2
 returns-2 c =
-    let a = c .before .before .before .before .args in
-    let e = c .before .before .node-link-event in
-    arriving-none (nodeAt (now (a .img)) (a .i)) (e .result) (e .ensures) (sym (c .before .is-arrive .ensures) ∙ c .if1 .left)
+    let o = c .before .before .before .before .before .before in
+    octet-arrives (now (o .args .img)) (o .args .i) (c .before .before .before .before .node-place .result) (c .before .before .before .before .node-place .ensures ∙ ap (λ (e : ℕ). nodePlace e (o .args .i)) (o .pre)) (c .u32-at .result) (c .before .if2 .taken) (c .u32-at .ensures)
+
+returns-3 : tie.Need-returns-3
+returns-3 c =
+    let o = c .before .before .before .before .before in
+    octet-other (now (o .args .img)) (o .args .i) (c .before .before .before .node-place .result) (c .before .before .before .node-place .ensures ∙ ap (λ (e : ℕ). nodePlace e (o .args .i)) (o .pre)) (c .if2 .left)
 
 pub arrive-link-spec : {M : Type 1} → statement M
 arrive-link-spec =
-    tie.close (tie.spec node-link-event-requires is-arrive-requires returns returns-2)
+    tie.close
+    (tie.spec
+    node-place-requires
+    add-if1
+    arrive-past-requires
+    returns
+    add-if2
+    shared-slice-read-if2
+    add-u32-at
+    u32-at-requires
+    returns-2
+    returns-3)

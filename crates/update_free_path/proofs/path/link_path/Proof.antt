@@ -12,10 +12,13 @@ use Rattle.update_free_path.proofs.path.link_path.Statement.{statement}
 use Rattle.update_free_path.proofs.path.link_path.Tie as tie
 
 abbrev Inv-loop : tie.InvT-loop
-Inv-loop img n col₀ i₀ col i = (length col ≡ length col₀) × (i ≤ n) × Filled i (λ j. arriving (nodeAt img j) .0) col
+Inv-loop img n col₀ e i₀ col i = (length col ≡ length col₀) × (i ≤ n) × Filled i (λ j. arriving (nodeAt img j) .0) col
 
 abbrev μ-loop : tie.MeasureT-loop
-μ-loop img n col₀ i₀ col i = n - i
+μ-loop img n col₀ e i₀ col i = n - i
+
+est-count-requires : tie.Need-est-count-requires Inv-loop μ-loop
+est-count-requires c κs = search needs
 
 loop-holds : tie.Need-loop-holds Inv-loop μ-loop
 loop-holds c = (refl, omega arith, λ j h. absurd (omega arith))
@@ -41,7 +44,7 @@ loop-less c = search needs
 loop-again : tie.Need-loop-again Inv-loop μ-loop
 loop-again c =
     let l = c .before .before .loop in
-    let a = c .before .before .before .before .before .args in
+    let a = c .before .before .before .before .before .before .args in
     (search needs, search needs, fill-turn (λ j. arriving (nodeAt (now (a .img)) j) .0) (l .col) (l .i) (c .arrive-link .result .0) (omega arith) (ap (λ (x : LinkIdx). x .0) (c .arrive-link .ensures)) (l .inv .2))
 
 same-length : tie.Need-same-length Inv-loop μ-loop
@@ -49,7 +52,7 @@ same-length c = search needs
 
 returns : tie.Need-returns Inv-loop μ-loop
 returns c =
-    let a = c .before .before .before .before .args in
+    let a = c .before .before .before .before .before .args in
     let l = c .before .loop in
     column-links (now (a .img)) (a .n) (l .col) (λ j h. l .inv .2 j (omega arith))
 
@@ -59,6 +62,7 @@ link-path-spec =
     (tie.spec
     Inv-loop
     μ-loop
+    est-count-requires
     loop-holds
     arrive-link-requires
     cast-col

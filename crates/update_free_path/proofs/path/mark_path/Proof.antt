@@ -12,32 +12,35 @@ use Rattle.update_free_path.proofs.path.mark_path.Statement.{statement}
 use Rattle.update_free_path.proofs.path.mark_path.Tie as tie
 
 abbrev Inv-loop : tie.InvT-loop
-Inv-loop img n on₀ i₀ on i = (length on ≡ length on₀) × (i ≤ n) × Marked on (pathOf img i)
+Inv-loop img n on₀ e i₀ on i = (length on ≡ length on₀) × (i ≤ n) × Marked on (pathOf img i)
 
 abbrev μ-loop : tie.MeasureT-loop
-μ-loop img n on₀ i₀ on i = n - i
+μ-loop img n on₀ e i₀ on i = n - i
 
 zero-all-requires : tie.Need-zero-all-requires Inv-loop μ-loop
 zero-all-requires c κs = search needs
 
+est-count-requires : tie.Need-est-count-requires Inv-loop μ-loop
+est-count-requires c κs = search needs
+
 loop-holds : tie.Need-loop-holds Inv-loop μ-loop
 loop-holds c =
-    let a = c .before .before .before .before .before .before .args in
-    (refl, omega arith, mark-none (now (a .img)) (c .before .before .zero-all .last .0) (length (now (a .on))) (c .before .before .zero-all .ensures))
+    let a = c .before .before .before .before .before .before .before .args in
+    (refl, omega arith, mark-none (now (a .img)) (c .before .before .before .zero-all .last .0) (length (now (a .on))) (c .before .before .before .zero-all .ensures))
 
-node-est-idx-requires : tie.Need-node-est-idx-requires Inv-loop μ-loop
-node-est-idx-requires c κs = search needs
+est-of-requires : tie.Need-est-of-requires Inv-loop μ-loop
+est-of-requires c κs = search needs
 
 cast-on : tie.Need-cast-on Inv-loop μ-loop
 cast-on c = search needs
 
 slice-write-on : tie.Need-slice-write-on Inv-loop μ-loop
 slice-write-on c =
-    let a = c .before .before .before .before .before .before .before .before .before .before .args in
+    let a = c .before .before .before .before .before .before .before .before .before .before .before .args in
     let l = c .before .before .before .loop in
-    let e = ap (λ (x : EstIdx). x .0) (c .before .node-est-idx .ensures) in
-    let size = ap length (c .before .before .before .before .before .before .zero-all .ensures) ∙ length-replicate {A = ℕ} (length (now (a .on))) 0 in
-    let inside = c .before .before .before .before .before .before .before .before .before .before .pre (l .i) (omega arith) in
+    let e = ap (λ (x : EstIdx). x .0) (c .before .est-of .ensures) in
+    let size = ap length (c .before .before .before .before .before .before .before .zero-all .ensures) ∙ length-replicate {A = ℕ} (length (now (a .on))) 0 in
+    let inside = c .before .before .before .before .before .before .before .before .before .before .before .pre (l .i) (omega arith) in
     omega (arith, e, size, inside)
 
 add-i : tie.Need-add-i Inv-loop μ-loop
@@ -48,19 +51,19 @@ loop-less c = search needs
 
 loop-again : tie.Need-loop-again Inv-loop μ-loop
 loop-again c =
-    let a = c .before .before .before .before .before .before .before .before .before .before .args in
+    let a = c .before .before .before .before .before .before .before .before .before .before .before .args in
     let l = c .before .before .before .loop in
-    let e = ap (λ (x : EstIdx). x .0) (c .before .node-est-idx .ensures) in
-    let size = ap length (c .before .before .before .before .before .before .zero-all .ensures) ∙ length-replicate {A = ℕ} (length (now (a .on))) 0 in
-    let inside = c .before .before .before .before .before .before .before .before .before .before .pre (l .i) (omega arith) in
-    (search needs, search needs, mark-turn (now (a .img)) (l .on) (l .i) (c .before .node-est-idx .result .0) e (omega (arith, e, size, inside)) (l .inv .2))
+    let e = ap (λ (x : EstIdx). x .0) (c .before .est-of .ensures) in
+    let size = ap length (c .before .before .before .before .before .before .before .zero-all .ensures) ∙ length-replicate {A = ℕ} (length (now (a .on))) 0 in
+    let inside = c .before .before .before .before .before .before .before .before .before .before .before .pre (l .i) (omega arith) in
+    (search needs, search needs, mark-turn (now (a .img)) (l .on) (l .i) (c .before .est-of .result .0) e (omega (arith, e, size, inside)) (l .inv .2))
 
 same-length : tie.Need-same-length Inv-loop μ-loop
 same-length c = search needs
 
 returns : tie.Need-returns Inv-loop μ-loop
 returns c =
-    let a = c .before .before .before .before .before .before .before .before .args in
+    let a = c .before .before .before .before .before .before .before .before .before .args in
     let l = c .before .loop in
     let e : l .i ≡ a .n = omega arith in
     subst (λ (k : ℕ). Marked (l .on) (pathOf (now (a .img)) k)) e (l .inv .2)
@@ -72,8 +75,9 @@ mark-path-spec =
     Inv-loop
     μ-loop
     zero-all-requires
+    est-count-requires
     loop-holds
-    node-est-idx-requires
+    est-of-requires
     cast-on
     slice-write-on
     add-i

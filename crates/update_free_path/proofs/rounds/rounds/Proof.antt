@@ -4,7 +4,7 @@ use denote.Ref.{now}
 use Rattle.update_free_path.specs.Updates.{RoundsEnded}
 use Rattle.update_free_path.specs.declared.rounds.Between.{Between}
 use Rattle.update_free_path.specs.declared.rounds.Ran.{Ran}
-use Rattle.update_free_path.proofs.RoundsLaws.{path-within, path-ests, strays-low, steps-few, due-turn, kept-goes, next-accepted, next-top, going-start, going-next, ended-stopped, ended-closed}
+use Rattle.update_free_path.proofs.RoundsLaws.{path-within, path-ests, strays-low, last-low, steps-few, due-turn, kept-goes, next-accepted, next-top, going-start, going-next, ended-stopped, ended-closed}
 use Prim.Native.Nat.{_-_}
 use Rattle.update_free_path.specs.Updates.{SameSizes, Top, Going}
 use Rattle.image.specs.Image.{estCount, divergeRoom}
@@ -48,8 +48,8 @@ is-last-requires : tie.Need-is-last-requires Inv-loop μ-loop
 is-last-requires c κs = search needs
 
 -- src/rounds.rt:179:39
-strays-of-requires : tie.Need-strays-of-requires Inv-loop μ-loop
-strays-of-requires c κs = search needs
+strays-at-requires : tie.Need-strays-at-requires Inv-loop μ-loop
+strays-at-requires c κs = search needs
 
 -- src/rounds.rt:179:13
 stopped-requires : tie.Need-stopped-requires Inv-loop μ-loop
@@ -59,7 +59,7 @@ stopped-requires c κs =
     let l = c .before .before .before .before .before .before .before .before .before .before .before .before .before .before .before .before .before .before .before .loop in
     let x = c .before .before .before .before .before .before .before .before .before .before .before .round in
     let d = due-turn (l .w) (a .limit) (sym (c .before .before .before .before .before .before .before .before .before .before .before .before .before .before .before .before .before .before .goes-on .ensures) ∙ c .before .before .before .before .before .before .before .before .before .before .before .before .before .before .before .before .before .if1 .taken) in
-    let s = strays-low (now (a .occ)) (l .img) (l .dt) (l .dn) (l .w .header) (l .inv .1 .held .accepted) (l .col) (now (a .known)) (c .strays-of .result) (c .strays-of .ensures) in
+    let s = last-low (now (a .occ)) (l .img) (l .dt) (l .dn) (l .w .header) (l .inv .1 .held .accepted) (x .result .end) (l .col) (now (a .known)) (c .strays-at .result) (c .strays-at .ensures) in
     record { steps = omega (arith, d .0, c .before .before .before .before .before .before .before .before .before .before .before .before .before .before .before .before .before .before .before .before .before .before .before .before .before .before .before .fits, l .inv .1 .paced, steps-few (now (a .occ)) (l .img) (l .col) (l .on) (l .dt) (l .dn) (now (a .known)) (a .g) (l .w) (l .inv .1) (x .result .steps) (x .ensures .3)); rounds = omega (arith, d .0, c .before .before .before .before .before .before .before .before .before .before .before .before .before .before .before .before .before .before .before .before .before .before .before .before .before .before .before .fits); strays = omega (arith, d .0, c .before .before .before .before .before .before .before .before .before .before .before .before .before .before .before .before .before .before .before .before .before .before .before .before .before .before .before .fits, l .inv .1 .few, s); faultless = l .inv .1 .faultless }
 
 -- src/rounds.rt:179:13
@@ -120,7 +120,7 @@ returns c =
     let l = c .before .before .before .before .before .before .before .before .before .before .before .before .before .before .before .before .before .before .before .before .loop in
     let x = c .before .before .before .before .before .before .before .before .before .before .before .before .round in
     let d = due-turn (l .w) (a .limit) (sym (c .before .before .before .before .before .before .before .before .before .before .before .before .before .before .before .before .before .before .before .goes-on .ensures) ∙ c .before .before .before .before .before .before .before .before .before .before .before .before .before .before .before .before .before .before .if1 .taken) in
-    let s = c .before .strays-of in
+    let s = c .before .strays-at in
     subst (λ (r : Ran). RoundsEnded (now (a .occ)) (now (a .known)) (a .g) (a .limit) (now (a .img)) (now (a .dt)) (now (a .dn)) (a .start) (x .last .0) (x .last .1 .1 .1 .1 .1 .1 .1 .1 .0) (x .last .1 .1 .1 .1 .1 .1 .1 .1 .1 .0) r) (sym (c .stopped .ensures))
     (ended-stopped (now (a .occ)) (l .img) (l .col) (l .on) (l .dt) (l .dn) (now (a .known)) (a .g) (l .w) (l .inv .1) (x .last .0) (x .last .1 .1 .1 .1 .1 .1 .1 .1 .0) (x .last .1 .1 .1 .1 .1 .1 .1 .1 .1 .0) (x .result) (x .ensures .0) (x .ensures .3) (a .limit) (now (a .img)) (now (a .dt)) (now (a .dn)) (a .start) (l .inv .2) (d .0) (d .1) (x .ensures .4)
     (sym (c .before .before .before .before .is-last .ensures) ∙ c .before .before .before .if2 .taken) (x .ensures .2) (x .ensures .1) (s .result) (s .ensures))
@@ -140,8 +140,8 @@ derive-requires c κs =
     )
 
 -- src/rounds.rt:182:24
-strays-of-requires-2 : tie.Need-strays-of-requires-2 Inv-loop μ-loop
-strays-of-requires-2 c κs = search needs
+strays-of-requires : tie.Need-strays-of-requires Inv-loop μ-loop
+strays-of-requires c κs = search needs
 
 -- src/rounds.rt:182:9
 next-requires : tie.Need-next-requires Inv-loop μ-loop
@@ -152,7 +152,7 @@ next-requires c κs =
     let x = c .before .before .before .before .before .before .before .before .before .before .before .before .before .before .before .before .before .before .before .round in
     let d = due-turn (l .w) (a .limit) (sym (c .before .before .before .before .before .before .before .before .before .before .before .before .before .before .before .before .before .before .before .before .before .before .before .before .before .before .goes-on .ensures) ∙ c .before .before .before .before .before .before .before .before .before .before .before .before .before .before .before .before .before .before .before .before .before .before .before .before .before .if1 .taken) in
     let t = next-accepted (now (a .occ)) (l .img) (l .col) (l .on) (l .dt) (l .dn) (now (a .known)) (a .g) (l .w) (l .inv .1) (x .last .0) (x .last .1 .1 .1 .1 .1 .1 .1 .1 .0) (x .last .1 .1 .1 .1 .1 .1 .1 .1 .1 .0) (x .result) (x .ensures .0) (x .ensures .3) (sym (c .before .before .before .before .before .before .before .before .before .before .before .is-last .ensures) ∙ c .before .before .before .before .before .before .before .before .before .before .if2 .left) in
-    let s = strays-low (now (a .occ)) (x .last .0) (x .last .1 .1 .1 .1 .1 .1 .1 .1 .0) (x .last .1 .1 .1 .1 .1 .1 .1 .1 .1 .0) (x .result .header) t (c .before .before .before .before .before .before .derive .last .1 .1 .0) (now (a .known)) (c .strays-of2 .result) (c .strays-of2 .ensures) in
+    let s = strays-low (now (a .occ)) (x .last .0) (x .last .1 .1 .1 .1 .1 .1 .1 .1 .0) (x .last .1 .1 .1 .1 .1 .1 .1 .1 .1 .0) (x .result .header) t (c .before .before .before .before .before .before .derive .last .1 .1 .0) (now (a .known)) (c .strays-of .result) (c .strays-of .ensures) in
     record { steps = omega (arith, d .0, c .before .before .before .before .before .before .before .before .before .before .before .before .before .before .before .before .before .before .before .before .before .before .before .before .before .before .before .before .before .before .before .before .before .before .before .fits, l .inv .1 .paced, steps-few (now (a .occ)) (l .img) (l .col) (l .on) (l .dt) (l .dn) (now (a .known)) (a .g) (l .w) (l .inv .1) (x .result .steps) (x .ensures .3)); rounds = omega (arith, d .0, c .before .before .before .before .before .before .before .before .before .before .before .before .before .before .before .before .before .before .before .before .before .before .before .before .before .before .before .before .before .before .before .before .before .before .before .fits); strays = omega (arith, d .0, c .before .before .before .before .before .before .before .before .before .before .before .before .before .before .before .before .before .before .before .before .before .before .before .before .before .before .before .before .before .before .before .before .before .before .before .fits, l .inv .1 .few, s); faultless = l .inv .1 .faultless }
 
 -- src/rounds.rt:174:5
@@ -176,7 +176,7 @@ loop-again c =
     let again = sym (c .before .before .before .before .before .before .before .before .before .before .before .before .is-last .ensures) ∙ c .before .before .before .before .before .before .before .before .before .before .before .if2 .left in
     let t = next-accepted (now (a .occ)) (l .img) (l .col) (l .on) (l .dt) (l .dn) (now (a .known)) (a .g) (l .w) (l .inv .1) (x .last .0) (x .last .1 .1 .1 .1 .1 .1 .1 .1 .0) (x .last .1 .1 .1 .1 .1 .1 .1 .1 .1 .0) (x .result) (x .ensures .0) (x .ensures .3) again in
     let v = c .before .before .before .before .before .before .before .derive in
-    let s = c .before .strays-of2 in
+    let s = c .before .strays-of in
     let k = x .ensures .1 (kept-goes (x .result .end) again) in
     let low = strays-low (now (a .occ)) (x .last .0) (x .last .1 .1 .1 .1 .1 .1 .1 .1 .0) (x .last .1 .1 .1 .1 .1 .1 .1 .1 .1 .0) (x .result .header) t (v .last .1 .1 .0) (now (a .known)) (s .result) (s .ensures) in (
       record { column = c .before .before .before .before .before .before .col .given ∙ l .inv .0 .column; flags = c .before .before .before .before .on .given ∙ l .inv .0 .flags; trains = c .before .before .before .before .before .before .before .before .before .before .before .before .before .before .before .before .before .dt .given ∙ l .inv .0 .trains; nodes = c .before .before .before .before .before .before .before .before .before .before .before .before .before .before .before .dn .given ∙ l .inv .0 .nodes },
@@ -228,7 +228,7 @@ rounds-spec =
     goes-on-requires
     round-requires
     is-last-requires
-    strays-of-requires
+    strays-at-requires
     stopped-requires
     same-length
     same-length-2
@@ -237,7 +237,7 @@ rounds-spec =
     same-length-5
     returns
     derive-requires
-    strays-of-requires-2
+    strays-of-requires
     next-requires
     loop-less
     loop-again

@@ -1,13 +1,17 @@
 -- `stopped` meets its contract. Assumes nothing.
-use mathlib.Core.Path.{sym, ap, ap₂, _∙_}
+use mathlib.Core.Path.{sym, ap, _∙_}
 use borrow.Author.Needs.{needs}
 use Rattle.round.specs.declared.End.{End}
-use Rattle.update_free_path.specs.Updates.{ranOf, keptMet, stoppedBy}
+use Rattle.update_free_path.specs.Updates.{keptMet, stoppedBy}
+use Rattle.update_free_path.proofs.RoundsLaws.{ran-same}
 use Rattle.update_free_path.proofs.rounds.stopped.Statement.{statement}
 use Rattle.update_free_path.proofs.rounds.stopped.Tie as tie
 
 kept-met-requires : tie.Need-kept-met-requires
 kept-met-requires c κs = search needs
+
+is-first-requires : tie.Need-is-first-requires
+is-first-requires c κs = search needs
 
 enum-known-end : tie.Need-enum-known-end
 enum-known-end c = search needs
@@ -47,30 +51,30 @@ ran-with-requires-4 c κs = search needs
 
 returns : tie.Need-returns
 returns c =
-    let a = c .before .before .before .before .before .before .before .before .args in
+    let a = c .before .before .before .before .before .before .before .before .before .args in
     c .ran-with .ensures
-    ∙ ap₂ (ranOf _ (a .x .header)) (c .before .tallied .ensures) (c .before .before .before .before .before .kept-met .ensures)
+    ∙ ran-same _ (a .x .header) (c .before .tallied .ensures) (c .before .before .before .before .before .before .kept-met .ensures) (c .before .before .before .before .before .is-first .ensures)
     ∙ sym (ap (λ (e : End). stoppedBy e (a .x .header) (a .w .tally) (a .x .steps) (a .strays) (keptMet (a .w) (a .x))) (c .before .before .before .end .given .1))
 
 returns-2 : tie.Need-returns-2
 returns-2 c =
-    let a = c .before .before .before .before .before .before .before .args in
+    let a = c .before .before .before .before .before .before .before .before .args in
     c .ran-with2 .ensures
-    ∙ ap₂ (ranOf _ (a .x .header)) (c .before .tallied2 .ensures) (c .before .before .before .before .kept-met .ensures)
+    ∙ ran-same _ (a .x .header) (c .before .tallied2 .ensures) (c .before .before .before .before .before .kept-met .ensures) (c .before .before .before .before .is-first .ensures)
     ∙ sym (ap (λ (e : End). stoppedBy e (a .x .header) (a .w .tally) (a .x .steps) (a .strays) (keptMet (a .w) (a .x))) (c .before .before .enum-told .given .1))
 
 returns-3 : tie.Need-returns-3
 returns-3 c =
-    let a = c .before .before .before .before .before .before .before .before .args in
+    let a = c .before .before .before .before .before .before .before .before .before .args in
     c .ran-with3 .ensures
-    ∙ ap₂ (ranOf _ (a .x .header)) (c .before .tallied3 .ensures) (c .before .before .before .before .before .kept-met .ensures)
+    ∙ ran-same _ (a .x .header) (c .before .tallied3 .ensures) (c .before .before .before .before .before .before .kept-met .ensures) (c .before .before .before .before .before .is-first .ensures)
     ∙ sym (ap (λ (e : End). stoppedBy e (a .x .header) (a .w .tally) (a .x .steps) (a .strays) (keptMet (a .w) (a .x))) (c .before .before .before .end2 .given .1))
 
 returns-4 : tie.Need-returns-4
 returns-4 c =
-    let a = c .before .before .before .before .before .before .before .args in
+    let a = c .before .before .before .before .before .before .before .before .args in
     c .ran-with4 .ensures
-    ∙ ap₂ (ranOf _ (a .x .header)) (c .before .tallied4 .ensures) (c .before .before .before .before .kept-met .ensures)
+    ∙ ran-same _ (a .x .header) (c .before .tallied4 .ensures) (c .before .before .before .before .before .kept-met .ensures) (c .before .before .before .before .is-first .ensures)
     ∙ sym (ap (λ (e : End). stoppedBy e (a .x .header) (a .w .tally) (a .x .steps) (a .strays) (keptMet (a .w) (a .x))) (c .before .before .enum-told2 .given .1))
 
 pub stopped-spec : {M : Type 1} → statement M
@@ -78,6 +82,7 @@ stopped-spec =
     tie.close
     (tie.spec
     kept-met-requires
+    is-first-requires
     enum-known-end
     tallied-requires
     ran-with-requires
