@@ -6,8 +6,8 @@
  * refused check leaves `answer` as it was.
  *
  * No call keeps anything, allocates, prints or locks: any thread may call at any time. Bytes may lie at any address, numbers at
- * one that fits their type. A sheet takes 320 KB of stack at most, a game 192 KB, a check beside an index 176 KB, a replay 160 KB, any other call 128 KB; README.md
- * beside this file has each. Text has no byte 0 at its end.
+ * one that fits their type. A sheet takes 320 KB of stack at most, a game 192 KB, a check beside an index 176 KB,
+ * a replay 160 KB, any other call 128 KB; README.md beside this file has each. Text has no byte 0 at its end.
  *
  * A refusal is a number with its place in the upper 16 bits; 0 is none. The bytes of every buffer are in docs/LAYOUTS.md, the
  * numbers in docs/REFUSALS.md. */
@@ -75,7 +75,7 @@ typedef struct { uint16_t train, node; } lavtoeu_diverge;
 typedef struct {
     uint32_t size, ests, nodes, diverges, room, ests_at, nodes_at, diverges_at;
     uint16_t train, fixed, free, front, back;
-    uint8_t spare[6];
+    uint8_t width, spare[5];
     double search, fixed_max;
 } lavtoeu_image_header;
 typedef struct { uint16_t code, place, rounds, holder; uint32_t strays, faults, met; } lavtoeu_row;
@@ -159,6 +159,7 @@ uint32_t lavtoeu_replay(const uint8_t *recording, size_t recording_len, const ui
  * or moved above 65,535, with a wide image above 999,999), 7, 22 (a train of a diverge record above 999,999), 8, 9, 10; then by 28: a
  * link twice, 0 or at least occupancy_len, too many links or turns. A refused call leaves `answer` as it was. */
 uint32_t lavtoeu_closer_can_force(const uint8_t *image, size_t image_len, const uint32_t *occupancy, size_t occupancy_len, uint32_t moved, uint32_t local, uint16_t limit, const uint32_t *links, size_t links_len, uint32_t turns, uint64_t *answer, size_t answer_len);
+
 /* Shows the candidate of a slot one record of its train's path: as many of the 32 bytes as `record` has room for, and to answer[0] 1
  * where it is an Arrive whose link is taken, be it by that train, else 0. The slot's image may be narrow or wide. Refused by 1, 2, 22,
  * 14, 26, 27; a refused call leaves `record` and `answer` as they were. */
@@ -188,7 +189,8 @@ uint32_t lavtoeu_undo(uint8_t *yard, size_t yard_len, const uint8_t *record, siz
 /* Trains of six digits: the calls over an occupancy of u32 trains, for images of either width. A wide image has 1 in the header's byte
  * 42 and diverge records of 8 bytes. Trains are at most 65,535 where an image of the call is narrow, in a check any of the yard's, and
  * 999,999 otherwise; a larger one is refused by 22. The calls over u16 trains, the sheet and the replay refuse a wide image by 6; those
- * without an occupancy (lavtoeu_image_fault, the page, the ceilings, the profile) take both widths, and 22 stands behind 7 in them. */
+ * without an occupancy (lavtoeu_image_fault, the page, the ceilings, the profile, the index) take both widths, and
+ * 22 stands behind 7 in them. */
 
 /* lavtoeu_mark over u32 trains. Refused by 1, 2, 3, then by 22: the train or one of the occupancy is above 999,999. */
 uint32_t lavtoeu_mark_wide(const uint8_t *table, size_t table_len, uint32_t *occupancy, size_t occupancy_len, uint32_t link, uint32_t train);

@@ -42,7 +42,7 @@ WORDS = {
     1: "finished: no part of its path is free, and it stays as it is",
     2: "moved: it is the train that moved, and it stays as it is",
     3: "success: the train has a way",
-    4: "blocked: the train has no way round the moved train",
+    4: "blocked: the train has no way",
     5: "faulty: the path that the update leaves has errors",
 }
 

@@ -273,7 +273,7 @@ pub enum Slot {
     Finished,
     Moved,
     Success,
-    /// It has no way round the moved train. The number is the report's holder column: the train that holds it, which may be another.
+    /// It has no way. The number is the report's holder column: the train that holds it, which may be another.
     Blocked(u16),
     /// With this many errors of the free path.
     Faulty(u32),

@@ -1,4 +1,5 @@
-//! Every call at the ends of its arguments: lengths of 0, cut short and one too long, the largest numbers, and the largest
+//! Every call with null pointers of length 0, and those of 0.1.0, the page and the ceilings at the ends of their
+//! arguments: lengths of 0, cut short and one too long, the largest numbers, and the largest
 //! table, image and lists. A refusal leaves every buffer.
 
 mod yards;
@@ -235,6 +236,27 @@ fn a_pointer_with_length_0_may_be_null() {
         assert_eq!(raw::lavtoeu_yard_ceiling(null(), 0, 1, null_mut(), 0), 14);
         assert_eq!(raw::lavtoeu_view(null(), 0, null(), 0, null(), 0, 1, 0, null_mut(), 0, null_mut(), 0), 1);
         assert_eq!(raw::lavtoeu_act(null(), 0, null_mut(), 0, null(), 0, 1, 1, 1), 1);
+    }
+}
+
+#[test]
+fn a_null_record_index_or_second_yard_is_refused() {
+    use std::ptr::{null, null_mut};
+    // SAFETY: with length 0 no pointer is read.
+    unsafe {
+        let (y, o, w, b, r, x, a) = (null_mut(), null(), null(), null(), null_mut(), null_mut(), null_mut());
+        assert_eq!(raw::lavtoeu_check_recorded(y, 0, o, 0, b, 0, 1, 1, 0, 1, r, 0, r, 0, a, 0), 20);
+        assert_eq!(raw::lavtoeu_check_recorded_wide(y, 0, w, 0, b, 0, 1, 1, 0, 1, r, 0, r, 0, a, 0), 20);
+        assert_eq!(raw::lavtoeu_undo(y, 0, null(), 0), 21);
+        assert_eq!(raw::lavtoeu_index(null(), 0, x, 0), 25);
+        assert_eq!(raw::lavtoeu_check_indexed(y, 0, o, 0, b, 0, 1, 1, 0, 1, r, 0, x, 0, a, 0), 2);
+        assert_eq!(raw::lavtoeu_check_indexed_wide(y, 0, w, 0, b, 0, 1, 1, 0, 1, r, 0, x, 0, a, 0), 2);
+        assert_eq!(raw::lavtoeu_check_recorded_indexed(y, 0, o, 0, b, 0, 1, 1, 0, 1, r, 0, r, 0, x, 0, a, 0), 20);
+        assert_eq!(raw::lavtoeu_check_recorded_indexed_wide(y, 0, w, 0, b, 0, 1, 1, 0, 1, r, 0, r, 0, x, 0, a, 0), 20);
+        assert_eq!(raw::lavtoeu_lay_out_indexed(null(), 0, 1, 0.0, 0.0, 2, 2, null_mut(), 0, x, 0), 6);
+        assert_eq!(raw::lavtoeu_undo_indexed(y, 0, null(), 0, x, 0), 25);
+        assert_eq!(raw::lavtoeu_carry(null(), 0, o, 0, 0, y, 0, null_mut(), 0), 2);
+        assert_eq!(raw::lavtoeu_check_half(y, 0, y, 0, 1, w, 0, b, 0, 1, 1, 0, 1, r, 0, a, 0), 2);
     }
 }
 
