@@ -77,11 +77,13 @@ fn stack_of<T>(mut call: impl FnMut() -> T) -> (T, usize) {
     (answer.unwrap(), used.saturating_sub(idle))
 }
 
-/// The siding's train with the most est records and the most room: all others lead nowhere.
+/// The siding's train with the most est records and the most room: the others lead nowhere, but the last leads back, so that refusal 8
+/// takes its arrays.
 fn large(train: u16) -> Vec<u8> {
     let mut est = siding();
     est.resize(EST_RECORD * MAX_ESTS, 0);
     est[siding().len()..].chunks_exact_mut(EST_RECORD).for_each(|record| record[28] = 2);
+    est[EST_RECORD * (MAX_ESTS - 1) + 8] = 1;
     let mut image = vec![0; image_size(MAX_ESTS, MAX_ROOM)];
     let o = Order { room: MAX_ROOM as u32, links: MAX_LINKS as u32, ..order(train, 4) };
     assert_eq!(lay_out(&est, o, &mut image), Ok(()));
