@@ -1,5 +1,6 @@
 // One pass over an image, which says only whether all fits: 6, 7 and 9 are asked of a record together, of a wide diverge record 22 too, and 8 of
-// the est records where they do not all lead to later ones. The functions of a record are small, so that they are inlined and one test of the length serves every field of it.
+// the est records where they do not all lead to later ones. The functions of a record are small, so that they are inlined and one test of the length
+// serves every field of it.
 ghost use mathlib.Core.Path.{_≡_};
 ghost use mathlib.Core.Bool.{cond, true, not, _&&_};
 ghost use lib.Dec.{eqb};

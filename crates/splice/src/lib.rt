@@ -1,6 +1,7 @@
 // The end of a round of update_free_path: a change of diverge nodes (free_path.rs 502-532), and the join of the new path with the old one (576-746).
 // The old path stands in the bytes of an image, the new one in a buffer of the same layout, and diverge nodes in two columns: dt and dn are the trains
-// and nodes of div_nodes, nt and nn those of div_nodes_new. Of the public functions join::join and change::change_diverge have a `requires`: JoinFits, ChangeFits.
+// and nodes of div_nodes, nt and nn those of div_nodes_new.
+// Of the public functions join::join and change::change_diverge have a `requires`: JoinFits, ChangeFits.
 pub mod change;
 pub mod copies;
 pub mod diverge;
