@@ -1,5 +1,7 @@
 // Reads a bundle on standard input, checks its yard, and writes the bundle that the check leaves and behind it the check's report; or `refused` and the number.
 // At most 65,537 bytes are read: a longer input is refused by 17 as those are.
+#![tactic(auto)]
+
 ghost use Rattle.std.specs.Prelude.{◌≡◌, length};
 
 use libc::{STDERR_FILENO, STDIN_FILENO, STDOUT_FILENO};

@@ -1,6 +1,8 @@
 // Prints the answer of each call that stands in the files which the arguments name: a sheet, a page, or a call's words (README, Draw a yard).
 // A file is a row of cases (tools/oracle/README.md): `tools/yard/yard case` writes one from a yard that is drawn as text, the oracle records many.
 // Behind the argument `--sums` each case has a line of its own, with a checksum of each buffer that its call left: what the oracle prints of the same cases.
+#![tactic(auto)]
+
 ghost use Rattle.std.specs.Prelude.{◌≡◌, length};
 
 mod act;
@@ -38,7 +40,7 @@ fn main() {
 }
 
 // How an argument leaves the run: are checksums asked for, and was all written?
-#[derive(Drop)]
+#[derive(Clone, Copy)]
 struct Run {
     sums: bool,
     written: bool,
@@ -89,7 +91,7 @@ fn answer_file(name: &[u8], sums: bool) -> bool {
 }
 
 // What stands next in a file: a case, whose answer was written or not, or nothing more that can be read.
-#[derive(Drop)]
+#[derive(Clone, Copy)]
 struct Next {
     written: bool,
     ended: bool,

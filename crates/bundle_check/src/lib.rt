@@ -1,5 +1,7 @@
 // The check of a bundle's yard in the bundle, for those who want to see what a check did: the bundle's yard becomes the one that the check leaves, so that
 // the bundle can be drawn or checked again. Assumes nothing; no public function has a `requires`.
+#![tactic(auto)]
+
 ghost use Rattle.std.specs.Prelude.{◌≡◌, true, ◌≤◌, length, take};
 ghost use Rattle.sheet_text.specs.Sheet.{bundle_fits};
 ghost use Rattle.bundle_check.specs.BundleCheck.{Lends, report_length, numbers_of, checked_from, leaves, checked_in_bundle, bundle_checked, bundle_of};
@@ -12,7 +14,7 @@ use yard_check::check;
 use yard_check::check::Answer;
 
 // The numbers of a check.
-#[derive(Drop)]
+#[derive(Clone, Copy)]
 pub struct Numbers {
     pub moved: NarrowTrainIdx,
     pub begin: u16,

@@ -1,6 +1,8 @@
 // Examiner and candidate (change request Q-11): a candidate runs the train of one slot. They see its path, a record at a time, and of each Arrive link on it
 // whether it is taken; they mark or release those links for that train and learn whether it was done.
 // Every function here is proved, the crate assumes nothing of its own, and no public function has a `requires`.
+#![tactic(auto)]
+
 ghost use Rattle.std.specs.Prelude.{◌≡◌, ◌||◌, min};
 ghost use Rattle.link_rules.specs.AdvanceRewind.{marked};
 ghost use Rattle.image.specs.Image.{path_count_of, node_at};
@@ -19,7 +21,7 @@ use wide_occupancy::{advance_rewind, trains};
 use yard_check::yard;
 
 // Refused, or number 0 and whether the record's link is taken.
-#[derive(Drop)]
+#[derive(Clone, Copy)]
 pub struct Viewed {
     pub fault: Refusal,
     pub taken: bool,

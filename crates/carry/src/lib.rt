@@ -1,6 +1,8 @@
 // Carrying a sitting over (document 02, Q-7): a step carries the next image into a second yard of the all-wide size. The image is written by
 // conversion::widen, of which only the promise is used.
 // Every function here is proved, the crate assumes nothing of its own, and no public function has a `requires`.
+#![tactic(auto)]
+
 pub mod half;
 
 ghost use Rattle.std.specs.Prelude.{◌≡◌, suc, ◌+◌, ◌*◌, ◌-◌, ◌≤◌, ◌<◌, length, get_or};

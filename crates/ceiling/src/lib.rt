@@ -1,5 +1,7 @@
 // The ceiling of search steps before a run (change request Q-9): of a round from the image alone, of a yard with its round limit.
 // Every function here is proved, the crate assumes nothing of its own, and no public function has a `requires`.
+#![tactic(auto)]
+
 ghost use Rattle.std.specs.Prelude.{◌≡◌, ◌*◌, ◌≤◌};
 ghost use Rattle.yard_check.specs.Yard.{part_of};
 ghost use Rattle.ceiling.specs.Ceiling.{round_ceiling, ceiling_of, slots_ceiling, ceiling_fault, yard_ceiling_of};
@@ -12,7 +14,7 @@ use link_rules::refusal::Refusal;
 use yard_check::yard;
 
 // Refused, or number 0 and so many steps.
-#[derive(Drop)]
+#[derive(Clone, Copy)]
 pub struct StepCeiling {
     pub fault: Refusal,
     pub steps: u64,

@@ -1,5 +1,7 @@
 // Going wide and going narrow (document 02, Q-6): an image is read, and written in the other width.
 // Every function here is proved, the crate assumes nothing of its own, and no public function has a `requires`.
+#![tactic(auto)]
+
 ghost use Rattle.std.specs.Prelude.{◌≡◌, true, false, ℕ, ◌≤◌, ◌<◌, length, get_or};
 ghost use Rattle.link_rules.specs.Network.{all_below};
 ghost use Rattle.link_rules.specs.Refusals.{no_refusal};

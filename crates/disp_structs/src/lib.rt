@@ -1,34 +1,36 @@
 // The values of one train's path (disp_structs.rs, EstTime of est_times/mod.rs), and distances in binary64.
 // Every function here is proved, the crate assumes nothing of its own, and no public function has a `requires`.
+#![tactic(auto)]
+
 pub mod events;
 pub mod floats;
 
 use link_rules::link_idx::{LinkIdx, TrainIdx};
 
 // Metres, seconds and est numbers are kinds of their own, as links and trains are. Est 0 as a link is none.
-#[derive(Drop)]
+#[derive(Clone, Copy)]
 pub struct Metres(pub f64);
 
-#[derive(Drop)]
+#[derive(Clone, Copy)]
 pub struct Seconds(pub f64);
 
-#[derive(Drop)]
+#[derive(Clone, Copy)]
 pub struct EstIdx(pub u32);
 
-#[derive(Drop)]
+#[derive(Clone, Copy)]
 pub enum EstType {
     Arrive,
     Clear,
     Fake,
 }
 
-#[derive(Drop)]
+#[derive(Clone, Copy)]
 pub struct LinkEvent {
     pub link_idx: LinkIdx,
     pub est_type: EstType,
 }
 
-#[derive(Drop)]
+#[derive(Clone, Copy)]
 pub struct EstTime {
     pub dist_to_next: Metres,
     pub idx_next: EstIdx,
@@ -39,7 +41,7 @@ pub struct EstTime {
 }
 
 // A path node. disp_auth_idx_entry is document 01's auth.
-#[derive(Drop)]
+#[derive(Clone, Copy)]
 pub struct DispNode {
     pub offset: Metres,
     pub time_pass: Seconds,
@@ -48,14 +50,14 @@ pub struct DispNode {
     pub disp_auth_idx_entry: u16,
 }
 
-#[derive(Drop)]
+#[derive(Clone, Copy)]
 pub struct DivergeNode {
     pub train_idx: TrainIdx,
     pub disp_node_idx: u32,
 }
 
 // A view (0, 0) is free; (1, 1) is blocked by nobody.
-#[derive(Drop)]
+#[derive(Clone, Copy)]
 pub struct TrainIdxsView {
     pub idx_begin: u32,
     pub idx_end: u32,

@@ -1,10 +1,12 @@
 // Refusal 8: the lowest est record on a cycle of next and alt (idx_next, idx_next_alt of est_times/mod.rs).
 // Every function here is proved, and the crate assumes nothing of its own. The public function has no `requires`.
+#![tactic(auto)]
+
 ghost use Rattle.std.specs.Prelude.{◌≡◌, ◌+◌, ◌<◌, ◌≤◌, min, true, not, ◌&&◌, ◌||◌, ◌⊎◌, ◌==◌, ◌≢◌, nat_lt, slice_index, slice_set};
 ghost use Rattle.est_times.specs.Cycles.{follow, on_cycle, first_on_cycle};
 
 // Whether there is a cycle, and the lowest record on one.
-#[derive(Drop)]
+#[derive(Clone, Copy)]
 pub enum Cycle {
     None,
     At(usize),

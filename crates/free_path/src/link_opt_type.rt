@@ -11,7 +11,7 @@ use crate::columns;
 use link_rules::link_idx::{LinkIdx, TrainIdx};
 
 // Range holds the smallest link number and the span.
-#[derive(Drop)]
+#[derive(Clone, Copy)]
 pub enum LinkOptType {
     None,
     Single(LinkIdx),
@@ -101,7 +101,7 @@ impl LinkOptType {
 }
 
 // A refusal's number, or 0; idx_sentinel, and div_idx_sentinel.
-#[derive(Drop)]
+#[derive(Clone, Copy)]
 pub struct IdxSentinels {
     pub code: u32,
     pub node: usize,
@@ -247,7 +247,7 @@ fn intersect_from(
 }
 
 // A refusal's number, or 0; the index, and the train met there.
-#[derive(Drop)]
+#[derive(Clone, Copy)]
 pub struct Intersection {
     pub code: u32,
     pub idx: usize,

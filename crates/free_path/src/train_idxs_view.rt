@@ -9,14 +9,14 @@ ghost use Rattle.free_path.specs.Columns.{tr, trains, answer, Grows, Makes, conc
 use disp_structs::TrainIdxsView;
 
 // A refusal's number, or 0; and the count.
-#[derive(Drop)]
+#[derive(Clone, Copy)]
 pub struct Grown {
     pub code: u32,
     pub len: usize,
 }
 
 // A refusal's number, or 0; the view of the union, and the count.
-#[derive(Drop)]
+#[derive(Clone, Copy)]
 pub struct Union {
     pub code: u32,
     pub view: TrainIdxsView,

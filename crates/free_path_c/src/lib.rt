@@ -1,5 +1,7 @@
 // The calls for C and Rust. A function named `lavtoeu_` and so on is exported under that name, takes numbers and slices (a pointer
 // and a length), is total for every argument, and, but lavtoeu_version, calls one proved function of another crate; the others serve these.
+#![tactic(auto)]
+
 pub mod carried;
 pub mod index;
 pub mod recorded;

@@ -1,5 +1,7 @@
 // Closer against dispatcher (change request Q-12): whether the closer can force the final update of a train to end Blocked.
 // Every function here is proved, the crate assumes nothing of its own, and no public function has a `requires`.
+#![tactic(auto)]
+
 mod faults;
 mod final_update;
 mod sets;
@@ -15,7 +17,7 @@ use update_free_path::start::Args;
 use yard_check::bytes;
 
 // Refused, or number 0 and whether the closer can force it; no where the call is refused.
-#[derive(Drop)]
+#[derive(Clone, Copy)]
 pub struct Verdict {
     pub fault: Refusal,
     pub can_force: bool,

@@ -11,7 +11,7 @@ use link_rules::link_idx::{LinkIdx, TrainIdx};
 use link_rules::octets;
 
 // The header's numbers that an update changes.
-#[derive(Drop)]
+#[derive(Clone, Copy)]
 pub struct PathHeader {
     pub path_count: u32,
     pub diverge_count: u32,

@@ -1,5 +1,7 @@
 // Refusals 6 to 9 of an image with their places (document 01), and 22 of its diverge records (document 02, Q-6), read straight from its bytes.
 // Every function here is proved, the crate assumes nothing of its own, and no public function has a `requires`.
+#![tactic(auto)]
+
 mod pass;
 
 ghost use Rattle.std.specs.Prelude.{◌≡◌, cond, not, ◌&&◌, eqb, length, replicate, ℕ, ◌+◌, ◌-◌, ◌*◌, ◌^◌, ◌≤◌, ◌<◌};
@@ -17,7 +19,7 @@ use link_rules::refusal::Refusal;
 use link_rules::{octets, refusal};
 
 // The widths of the images that a call takes (document 02, Q-6).
-#[derive(Drop)]
+#[derive(Clone, Copy)]
 pub enum Widths {
     Narrow,
     Either,

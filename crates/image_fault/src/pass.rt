@@ -62,7 +62,7 @@ fn est_passes(img: &[u8], e: u32, links: u32, i: u32) -> bool
 }
 
 // Do all est records pass? Where they do: does each lead to later ones alone?
-#[derive(Drop)]
+#[derive(Clone, Copy)]
 pub struct Ests {
     pub pass: bool,
     pub ascend: bool,

@@ -1,6 +1,8 @@
 // A reader over one lent image (document 01): the slice and the index of a path node, and thin functions over those of `image`.
 // The functions over a Reader are proved by walks of their MIR, by hand; whoever calls `free_of` or `node_of`, which take a plain slice, needs none.
 // The crate assumes nothing of its own, and no public function has a `requires`.
+#![tactic(auto)]
+
 ghost use Rattle.std.specs.Prelude.{◌≡◌};
 ghost use Rattle.image.specs.Image.{node_at};
 ghost use Rattle.image_reader.specs.Reader.{free_of};
@@ -9,7 +11,7 @@ use disp_structs::DispNode;
 use image::codec;
 use link_rules::octets;
 
-#[derive(Drop)]
+#[derive(Clone, Copy)]
 pub struct Reader<'a> {
     pub image: &'a [u8],
     pub at: u32,

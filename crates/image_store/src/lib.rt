@@ -1,5 +1,7 @@
 // An updated train goes back to the caller's image.
 // Every function here is proved, the crate assumes nothing of its own, and no public function has a `requires`.
+#![tactic(auto)]
+
 ghost use Rattle.std.specs.Prelude.{◌≡◌, ◌^◌, ◌<◌};
 ghost use Rattle.disp_structs.specs.Listed.{listed};
 ghost use Rattle.free_path.specs.Columns.{div_at};

@@ -1,6 +1,8 @@
 // Which trains run over a link (change request Q-10): beside a yard goes an index with one u64 for each link, whose bit t is set exactly if slot t's path has an
 // Arrive on it. It is built from a yard; a check, a layout and an undo beside it keep it.
 // Every function here is proved, the crate assumes nothing of its own, and no public function has a `requires`.
+#![tactic(auto)]
+
 mod bits;
 pub mod checks;
 pub mod layout;

@@ -1,13 +1,13 @@
 // The numbers of links and of trains, distinct kinds. 0 is none in both.
 
 // link_idx.rs: LinkIdx
-#[derive(Drop)]
+#[derive(Clone, Copy)]
 pub struct LinkIdx(pub u32);
 
 // disp_structs.rs: TrainIdx, whose None is 0
-#[derive(Drop)]
+#[derive(Clone, Copy)]
 pub struct TrainIdx(pub u32);
 
 // A train of an occupancy of u16 entries.
-#[derive(Drop)]
+#[derive(Clone, Copy)]
 pub struct NarrowTrainIdx(pub u16);

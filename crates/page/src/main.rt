@@ -1,5 +1,7 @@
 // Reads an image on standard input and prints the page of its path (requests Q-1 and Q-8), or `refused` and the number.
 // The largest image, a wide one, has 41,024 bytes. One more is read, so that a longer input is refused by 6.
+#![tactic(auto)]
+
 ghost use Rattle.std.specs.Prelude.{◌≡◌, length};
 
 use image::codec;

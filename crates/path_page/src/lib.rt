@@ -1,5 +1,7 @@
 // The page of a path (requests Q-1, Q-8 and Q-6): a line of 40 bytes for each node, read through the image's reader, its offset in whole metres from the bits.
 // Every function here is proved, and the crate assumes nothing of its own. No public function has a `requires`.
+#![tactic(auto)]
+
 ghost use Rattle.std.specs.Prelude.{◌≡◌, true, ◌++◌, ℕ, ◌<◌};
 ghost use Rattle.disp_structs.specs.Floats.{in_reach};
 ghost use Rattle.text.specs.Text.{text_of, Put};

@@ -7,14 +7,14 @@ ghost use Rattle.path_page.specs.Metres.{nearest_to, metres_of, whole_metres};
 use disp_structs::floats;
 
 // Where an exact half goes.
-#[derive(Drop)]
+#[derive(Clone, Copy)]
 pub enum Ties {
     Away,
     Even,
 }
 
 // A whole number of metres; minus stands only where it is not 0.
-#[derive(Drop)]
+#[derive(Clone, Copy)]
 pub struct WholeMetres {
     pub minus: bool,
     pub metres: u64,

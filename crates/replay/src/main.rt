@@ -1,6 +1,8 @@
 // Reads a sitting on standard input (docs/LAYOUTS.md), plays its recording over its yard and occupancy, and prints the refusal of each step (0 if there is none), then
 // each slot with its free node and the number of its path nodes, then each occupied link with its train; or `refused 19` for a malformed sitting or recording.
 // At most 262,145 bytes are read: a longer input is refused by 19 as those are.
+#![tactic(auto)]
+
 ghost use Rattle.std.specs.Prelude.{◌≡◌, length};
 
 use image::codec;

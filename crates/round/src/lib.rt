@@ -2,6 +2,8 @@
 // The train stands in the bytes of an image, two columns of diverge nodes and a header's numbers; everything else is lent room.
 // dt and dn are the trains and nodes of div_nodes, nt and nn those of div_nodes_new. Of the public functions splitting::round alone has a `requires`.
 // The crate assumes nothing of its own.
+#![tactic(auto)]
+
 pub mod ending;
 pub mod searching;
 pub mod splitting;
@@ -12,7 +14,7 @@ use image::codec::PathHeader;
 use link_rules::link_idx::TrainIdx;
 
 // What an update does not change.
-#[derive(Drop)]
+#[derive(Clone, Copy)]
 pub struct Given {
     pub train_idx_moved: TrainIdx,
     pub is_local: bool,
@@ -20,7 +22,7 @@ pub struct Given {
     pub offset_lowest: Metres,
 }
 
-#[derive(Drop)]
+#[derive(Clone, Copy)]
 pub enum End {
     Refused(u32),
     AtEnd,
@@ -30,7 +32,7 @@ pub enum End {
 
 // How a round ends; the header's numbers that are left, the next idx_split and div_idx_split, how often the loop of its search was entered,
 // and the train that it met, which is known before the search.
-#[derive(Drop)]
+#[derive(Clone, Copy)]
 pub struct RoundEnd {
     pub end: End,
     pub header: PathHeader,

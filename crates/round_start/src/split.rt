@@ -14,7 +14,7 @@ use free_path::link_opt_type::LinkOptType;
 use link_rules::link_idx::TrainIdx;
 
 // A refusal's number, or 0; idx_split, and the train met there.
-#[derive(Drop)]
+#[derive(Clone, Copy)]
 pub struct Split {
     pub code: u32,
     pub index: usize,

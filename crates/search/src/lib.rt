@@ -3,6 +3,8 @@
 // est_times and disp_path are read from the image; diverge nodes, views, the pool of blocking trains and is_on_path are
 // columns of numbers that the caller lends. What stands past a column's end reads as 0. dt and dn are the trains and
 // nodes of div_nodes, nt and nn those of div_nodes_new. Of the public functions run::run alone has a `requires`: Ready. The crate assumes nothing of its own.
+#![tactic(auto)]
+
 pub mod fakes;
 pub mod look;
 pub mod moves;
@@ -15,7 +17,7 @@ use disp_structs::{DispNode, Metres};
 use link_rules::link_idx::TrainIdx;
 
 // What the search of a round does not change, with the counts of the train's lists and document 01's Q.
-#[derive(Drop)]
+#[derive(Clone, Copy)]
 pub struct Round {
     pub est_count: usize,
     pub path_count: usize,
@@ -28,7 +30,7 @@ pub struct Round {
 }
 
 // What it changes, with the counts of disp_path_new, div_nodes_new and train_idxs_blocking.
-#[derive(Drop)]
+#[derive(Clone, Copy)]
 pub struct Place {
     pub idx_split: usize,
     pub div_idx_split: usize,
@@ -40,14 +42,14 @@ pub struct Place {
 }
 
 // A refusal's number, or 0; and an index.
-#[derive(Drop)]
+#[derive(Clone, Copy)]
 pub struct Index {
     pub code: u32,
     pub index: usize,
 }
 
 // What a move does: it is refused, it changes the new path or leaves it as it is, or it ends the round, blocked by a train.
-#[derive(Drop)]
+#[derive(Clone, Copy)]
 pub enum Effect {
     Refused(u32),
     Push(DispNode),
@@ -56,7 +58,7 @@ pub enum Effect {
     GiveUp(TrainIdx),
 }
 
-#[derive(Drop)]
+#[derive(Clone, Copy)]
 pub struct Moved {
     pub effect: Effect,
     pub place: Place,

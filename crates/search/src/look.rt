@@ -17,7 +17,7 @@ use link_rules::link_idx::TrainIdx;
 use update_definition::Move;
 
 // A refusal's number, or 0; idx_join_new, disp_node_curr, est_curr, and the est record of its idx_next.
-#[derive(Drop)]
+#[derive(Clone, Copy)]
 pub struct Here {
     pub code: u32,
     pub idx_join_new: usize,
@@ -27,7 +27,7 @@ pub struct Here {
 }
 
 // A refusal's number, or 0; the div_idx_split that the walk over stored trains leaves, and whether it met the moved train.
-#[derive(Drop)]
+#[derive(Clone, Copy)]
 pub struct Stored {
     pub code: u32,
     pub div_idx_split: usize,
@@ -35,7 +35,7 @@ pub struct Stored {
 }
 
 // A refusal's number, or 0; and where the search stands.
-#[derive(Drop)]
+#[derive(Clone, Copy)]
 pub struct Placed {
     pub code: u32,
     pub place: Place,
@@ -381,7 +381,7 @@ pub(crate) fn occupied_next(
 // ---- which move
 
 // A refusal's number, or 0; and the move.
-#[derive(Drop)]
+#[derive(Clone, Copy)]
 pub struct Chosen {
     pub code: u32,
     pub go: Move,

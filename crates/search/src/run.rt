@@ -14,7 +14,7 @@ use image::codec;
 use update_definition::Move;
 
 // How the search ended: the move that is left to do or its effect, where it stood and stands, how many nodes the new path has, and how often the loop was entered.
-#[derive(Drop)]
+#[derive(Clone, Copy)]
 pub struct Searched {
     pub go: Move,
     pub effect: Effect,
@@ -26,7 +26,7 @@ pub struct Searched {
 
 // Does the search go on? Then the node that is written behind the new path, and how many nodes of it count.
 // The node stands first, so that copies of it are aligned.
-#[derive(Drop)]
+#[derive(Clone, Copy)]
 pub struct Next {
     pub node: DispNode,
     pub count: usize,

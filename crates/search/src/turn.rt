@@ -11,7 +11,7 @@ use update_definition::Move;
 
 // The move, its effect (Stay where the caller has to do the move), where the search stood, and where it stands. A turn that is refused before its
 // move has Advance and the refusal.
-#[derive(Drop)]
+#[derive(Clone, Copy)]
 pub struct Turned {
     pub go: Move,
     pub effect: Effect,

@@ -1,5 +1,7 @@
 // Reads a bundle on standard input and prints its sheet (document 01, Program sheet).
 // At most 65,537 bytes are read: a longer input is refused by 17 as those are.
+#![tactic(auto)]
+
 ghost use Rattle.std.specs.Prelude.{◌≡◌, length};
 
 use libc::{STDERR_FILENO, STDIN_FILENO, STDOUT_FILENO};

@@ -1,5 +1,7 @@
 // Replay of a sitting (change request Q-2): the recorded marks, releases and checks of a candidate, made one by one over the starting yard.
 // Every function here is proved, the crate assumes nothing of its own, and no public function has a `requires`.
+#![tactic(auto)]
+
 ghost use Rattle.std.specs.Prelude.{◌≡◌, ◌≤◌, ◌<◌, min, length};
 ghost use Rattle.link_rules.specs.Network.{all_below, table_fits};
 ghost use Rattle.link_rules.specs.Refusals.{refused};
@@ -15,7 +17,7 @@ use sheet_text::bundle;
 use yard_check::check;
 
 // A record of the recording: kind 0 is a mark or release of link `first` for `train`, kind 1 a check with `count` blocking links from index `first` on, moved train `train`.
-#[derive(Drop)]
+#[derive(Clone, Copy)]
 pub struct Step {
     pub kind: u32,
     pub first: u32,
@@ -27,7 +29,7 @@ pub struct Step {
 }
 
 // What is found before the first step: whether the table is accepted, and how long a check's report is.
-#[derive(Drop)]
+#[derive(Clone, Copy)]
 pub(crate) struct Judged {
     pub table: bool,
     pub report: usize,

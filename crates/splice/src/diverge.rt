@@ -12,7 +12,7 @@ use crate::copies;
 use free_path::columns;
 
 // A refusal's number, or 0; and an index.
-#[derive(Drop)]
+#[derive(Clone, Copy)]
 pub struct Found {
     pub code: u32,
     pub at: usize,
@@ -125,7 +125,7 @@ fn move_divs(dn: &mut [u32], k: usize, m: usize, join: u32, base: u32) -> u32
 }
 
 // A refusal's number, or 0; how many diverge nodes there are, and the div_idx_split that is returned.
-#[derive(Drop)]
+#[derive(Clone, Copy)]
 pub struct Divs {
     pub code: u32,
     pub count: usize,

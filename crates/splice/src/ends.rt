@@ -11,7 +11,7 @@ use disp_structs::{LinkEvent, events};
 use image::codec;
 
 // A refusal's number, or 0; *idx_min and *idx_max.
-#[derive(Drop)]
+#[derive(Clone, Copy)]
 pub struct Ends {
     pub code: u32,
     pub low: u32,

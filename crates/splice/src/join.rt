@@ -16,7 +16,7 @@ use image::codec;
 use image::codec::PathHeader;
 
 // A refusal's number, or 0; disp_node_idx_front and disp_node_idx_back.
-#[derive(Drop)]
+#[derive(Clone, Copy)]
 pub struct Sides {
     pub code: u32,
     pub front: u16,

@@ -2,6 +2,8 @@
 // The old path stands in the bytes of an image, the new one in a buffer of the same layout, and diverge nodes in two columns: dt and dn are the trains
 // and nodes of div_nodes, nt and nn those of div_nodes_new.
 // Of the public functions join::join and change::change_diverge have a `requires`: JoinFits, ChangeFits.
+#![tactic(auto)]
+
 pub mod change;
 pub mod copies;
 pub mod diverge;
@@ -17,7 +19,7 @@ use image::codec::PathHeader;
 
 // Where the search of a round ended: idx_split_save, idx_split, div_idx_split, disp_node_idx_free, idx_join_new, and the counts of
 // disp_path_new and div_nodes_new.
-#[derive(Drop)]
+#[derive(Clone, Copy)]
 pub struct Reached {
     pub split_save: u32,
     pub split: u32,
@@ -29,7 +31,7 @@ pub struct Reached {
 }
 
 // A refusal's number, or 0; the header's numbers that are left, and the next idx_split and div_idx_split; how often a path node was moved.
-#[derive(Drop)]
+#[derive(Clone, Copy)]
 pub struct Again {
     pub code: u32,
     pub header: PathHeader,

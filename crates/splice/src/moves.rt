@@ -9,7 +9,7 @@ use crate::copies;
 
 // Where a path is spliced: its first node stands at octet `path`, the first of `count` new nodes at octet `new` of another array. The new nodes replace
 // those from `split` up to `base`, where `rest` nodes follow.
-#[derive(Drop)]
+#[derive(Clone, Copy)]
 pub struct Stretch {
     pub path: usize,
     pub split: usize,
@@ -20,7 +20,7 @@ pub struct Stretch {
 }
 
 // What follows the split in a spliced path: the new nodes and, behind them, the tail.
-#[derive(Drop)]
+#[derive(Clone, Copy)]
 pub enum Part {
     Tail,
     New,

@@ -17,7 +17,7 @@ use image::codec;
 use link_rules::octets;
 
 // A refusal's number, or 0; and an index.
-#[derive(Drop)]
+#[derive(Clone, Copy)]
 pub struct Index {
     pub code: u32,
     pub at: u32,

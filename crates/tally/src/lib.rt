@@ -1,10 +1,12 @@
 // The tally of an update (document 01): rounds, strays and faults, lent to one thin function that each round calls; and the steps of its searches (Q-9).
 // `count_round` and `counted_round` are proved by walks of their MIR, by hand; whoever calls `counted_round`, which takes the tally by value, needs none.
 // The crate assumes nothing of its own, and no public function has a `requires`.
+#![tactic(auto)]
+
 ghost use Rattle.std.specs.Prelude.{◌≡◌};
 ghost use Rattle.tally.specs.Tally.{started, rounds_after, sum_of, counted_round, counted_faults, counted_steps};
 
-#[derive(Drop)]
+#[derive(Clone, Copy)]
 pub struct Tally {
     pub rounds: u16,
     pub strays: u64,

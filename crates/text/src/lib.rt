@@ -1,5 +1,7 @@
 // Text put into a lent buffer byte by byte: it stands from 0 up to a count. What finds no room is left out, so that each function is total.
 // Every function here is proved, the crate assumes nothing of its own, and no public function has a `requires`.
+#![tactic(auto)]
+
 ghost use Rattle.std.specs.Prelude.{[], ◌∷◌};
 ghost use Rattle.text.specs.Text.{text_of, Put};
 ghost use Rattle.text.specs.Ascii.{decimal, column};

@@ -1,5 +1,7 @@
 // The training track profile (change request Q-13): whole multiples of 1/1024 metre from 0 to 40,000 metres.
 // Every function here is proved, the crate assumes nothing of its own, and no function has a `requires`.
+#![tactic(auto)]
+
 ghost use Rattle.std.specs.Prelude.{◌≡◌};
 ghost use Rattle.link_rules.specs.Octets.{le_at};
 ghost use Rattle.link_rules.specs.Network.{all_below};

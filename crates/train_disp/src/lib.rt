@@ -1,5 +1,7 @@
 // Laying out a new train: TrainDisp::new (train_disp/mod.rs 105-215).
 // Every function here is proved, the crate assumes nothing of its own, and no public function has a `requires`.
+#![tactic(auto)]
+
 ghost use Rattle.std.specs.Prelude.{◌≡◌, true, false, ◌+◌, ◌≤◌, length};
 ghost use Rattle.disp_structs.specs.Values;
 ghost use Rattle.disp_structs.specs.Values.{zero_metres};
@@ -15,7 +17,7 @@ use link_rules::refusal::{Answer, Refusal};
 use link_rules::{octets, refusal};
 
 // What a layout is told besides the est records: the train, the two distance settings, and document 01's Q and L.
-#[derive(Drop)]
+#[derive(Clone, Copy)]
 pub struct Settings {
     pub train_idx: NarrowTrainIdx,
     pub dist_disp_path_search: Metres,

@@ -1,5 +1,7 @@
 // Taking a check back (change request Q-5): a check that fills an undo record, and the undo from one. The check is check_deadlock or check_wide, of which
 // only the promise is used: copy, check, copy. Assumes nothing; no public function has a `requires`.
+#![tactic(auto)]
+
 pub mod records;
 
 ghost use Rattle.std.specs.Prelude.{◌≡◌, List, ℕ, length};

@@ -18,7 +18,7 @@ use tally::Tally;
 use validate;
 use validate::Errors;
 
-#[derive(Drop)]
+#[derive(Clone, Copy)]
 pub enum Status {
     Success,
     // By a train.
@@ -28,7 +28,7 @@ pub enum Status {
 }
 
 // The train met is that of the first round.
-#[derive(Drop)]
+#[derive(Clone, Copy)]
 pub struct Updated {
     pub status: Status,
     pub tally: Tally,

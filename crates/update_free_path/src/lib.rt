@@ -1,5 +1,7 @@
 // update_free_path (free_path.rs 252-638) on the bytes of one image, proved equal to updated_image and updated_image_wide of update_definition.
 // Every function here is proved, the crate assumes nothing of its own, and no public function has a `requires`.
+#![tactic(auto)]
+
 pub mod answer;
 pub mod call;
 mod path;

@@ -19,7 +19,7 @@ use tally;
 use tally::Tally;
 
 // Between two rounds: the header's numbers, idx_split and div_idx_split, document 01's tally, and the train met in the first round.
-#[derive(Drop)]
+#[derive(Clone, Copy)]
 pub struct Between {
     pub header: PathHeader,
     pub split: usize,
@@ -29,7 +29,7 @@ pub struct Between {
 }
 
 // How the loop stops: refused by a number, blocked by a train, or with a path to validate.
-#[derive(Drop)]
+#[derive(Clone, Copy)]
 pub enum Stop {
     Refused(u32),
     Blocked(TrainIdx),
@@ -37,7 +37,7 @@ pub enum Stop {
 }
 
 // same_path: no round handed on a path, so that it is that of the start unless the loop is refused.
-#[derive(Drop)]
+#[derive(Clone, Copy)]
 pub struct Ran {
     pub stop: Stop,
     pub header: PathHeader,

@@ -16,7 +16,7 @@ use round::Given;
 use tally;
 
 // The arguments of an update besides the image and the lists.
-#[derive(Drop)]
+#[derive(Clone, Copy)]
 pub struct Args {
     pub moved: TrainIdx,
     pub local: bool,

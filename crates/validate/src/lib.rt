@@ -1,5 +1,7 @@
 // The number of errors of validate_free_path (free_path.rs 748-820), over the bytes of an image.
 // Every function here is proved, the crate assumes nothing of its own, and no public function has a `requires`.
+#![tactic(auto)]
+
 pub mod step;
 
 ghost use Rattle.std.specs.Prelude.{◌≡◌, cond, ◌+◌, ◌<◌, ◌^◌, drop};
@@ -14,7 +16,7 @@ use image::codec;
 use link_rules::octets;
 
 // A refusal's number, or 0; and the number of errors.
-#[derive(Drop)]
+#[derive(Clone, Copy)]
 pub struct Errors {
     pub code: u32,
     pub count: u64,

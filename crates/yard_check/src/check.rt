@@ -27,7 +27,7 @@ use update_free_path::answer::{Status, Updated};
 use update_free_path::call;
 use wide_occupancy::trains;
 
-#[derive(Drop)]
+#[derive(Clone, Copy)]
 pub enum Answer {
     Refused(Refusal),
     Erred(u32),
@@ -35,7 +35,7 @@ pub enum Answer {
 }
 
 // What a check is given beside the slices.
-#[derive(Drop)]
+#[derive(Clone, Copy)]
 pub struct Args {
     pub moved: TrainIdx,
     pub begin: u16,
@@ -44,7 +44,7 @@ pub struct Args {
 }
 
 // A record of the report.
-#[derive(Drop)]
+#[derive(Clone, Copy)]
 pub(crate) struct Row {
     pub code: u16,
     pub place: u16,
@@ -56,14 +56,14 @@ pub(crate) struct Row {
 }
 
 // A visit: its record of the report, and whether the image was seen to change.
-#[derive(Drop)]
+#[derive(Clone, Copy)]
 pub(crate) struct Seen {
     pub row: Row,
     pub changed: bool,
 }
 
 // The slots that erred, those that are blocked, the first one that is not finished, and the set of those whose image changed.
-#[derive(Drop)]
+#[derive(Clone, Copy)]
 pub(crate) struct Counts {
     pub erred: u32,
     pub blocked: u32,
@@ -72,7 +72,7 @@ pub(crate) struct Counts {
 }
 
 // The slots that a loop visits, those behind from up to until, and the width of the report's records.
-#[derive(Drop)]
+#[derive(Clone, Copy)]
 pub(crate) struct Span {
     pub from: u16,
     pub until: u16,
@@ -80,7 +80,7 @@ pub(crate) struct Span {
 }
 
 // The answer, and the set of the slots whose image changed: slot t is the bit 2^t.
-#[derive(Drop)]
+#[derive(Clone, Copy)]
 pub struct Watched {
     pub answer: Answer,
     pub changed: u64,
