@@ -1,0 +1,20 @@
+use Rattle.link_rules.specs.LinkIdx.{wide_train}
+use Rattle.std.proofs.Common.{ℕ, sym, ap, ◌∙◌, rules}
+use Rattle.link_rules.specs.AdvanceRewind.{marked, marked_by, mark_judged, update_links_blocked}
+use Rattle.link_rules.specs.declared.refusal.Answer.TheVariants.{Done}
+use Rattle.link_rules.proofs.MarkLaws.{refused_by}
+use Rattle.link_rules.proofs.advance_rewind.mark_judged.Goals as goal
+
+pub returns-then-number-ne0 : goal.returns-then-number-ne0
+unfolding mark_judged
+returns-then-number-ne0 c = let a = c.args in
+    let after = update_links_blocked a.table.now a.occupancy.now a.link (wide_train a.train) in
+    sym (refused_by c.mark_refusal-number.result a.occupancy.now after c.if-number-ne0.true)
+    ∙ ap (λ (n : ℕ). marked_by n a.occupancy.now after) c.mark_refusal-number.ensures
+
+pub returns : goal.returns
+unfolding mark_judged
+returns c = let a = c.args in
+    ap (marked Done) c.update_links_blocked.ensures
+    ∙ ap (λ (n : ℕ). marked_by n a.occupancy.now (update_links_blocked a.table.now a.occupancy.now a.link (wide_train a.train))) (sym c.if-number-ne0.false ∙ c.mark_refusal-number.ensures)
+
