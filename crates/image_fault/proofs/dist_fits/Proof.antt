@@ -11,15 +11,15 @@ real-of-requires c κs = search rules
 
 returns : tie.Need-returns
 unfolding dist_fits
-returns c = rw (← c.before.before.before.float_fits_lem.ensures, c.before.before.if1.true, ← c.before.Real-of.ensures, c.if2.true)
+returns c = rw (← c.before.before.before.float_fits.ensures, c.before.before.if1.true, ← c.before.Real-of.ensures, c.if2.true)
 
 returns-2 : tie.Need-returns-2
 unfolding dist_fits
-returns-2 c = rw (← c.before.before.before.float_fits_lem.ensures, c.before.before.if1.true, ← c.before.Real-of.ensures, c.if2.false)
+returns-2 c = rw (← c.before.before.before.float_fits.ensures, c.before.before.if1.true, ← c.before.Real-of.ensures, c.if2.false)
 
 returns-3 : tie.Need-returns-3
 unfolding dist_fits
-returns-3 c = rw (← c.before.float_fits_lem.ensures, c.if1.false)
+returns-3 c = rw (← c.before.float_fits.ensures, c.if1.false)
 
 pub dist-fits-spec : {M : Type 1} → statement M
 dist-fits-spec =

@@ -26,15 +26,15 @@ event-fits-requires c κs = search rules
 
 returns : tie.Need-returns
 unfolding est_fits
-returns c = rw (← c.before.before.before.before.est-at.ensures, ← c.before.before.before.before.before.before.before.before.est-place.ensures, ← c.before.before.before.before.before.before.before.u64-at.ensures, ← c.before.before.before.before.before.before.float_fits_lem.ensures, c.before.before.before.before.before.if1.true, ← c.before.before.before.est-count.ensures, ← c.before.before.est-links-fit.ensures, c.before.if2.true, ← c.event-fits.ensures)
+returns c = rw (← c.before.before.before.before.est-at.ensures, ← c.before.before.before.before.before.before.before.before.est-place.ensures, ← c.before.before.before.before.before.before.before.u64-at.ensures, ← c.before.before.before.before.before.before.float_fits.ensures, c.before.before.before.before.before.if1.true, ← c.before.before.before.est-count.ensures, ← c.before.before.est-links-fit.ensures, c.before.if2.true, ← c.event-fits.ensures)
 
 returns-2 : tie.Need-returns-2
 unfolding est_fits
-returns-2 c = rw (← c.before.before.before.est-at.ensures, ← c.before.before.before.before.before.before.before.est-place.ensures, ← c.before.before.before.before.before.before.u64-at.ensures, ← c.before.before.before.before.before.float_fits_lem.ensures, c.before.before.before.before.if1.true, ← c.before.before.est-count.ensures, ← c.before.est-links-fit.ensures, c.if2.false)
+returns-2 c = rw (← c.before.before.before.est-at.ensures, ← c.before.before.before.before.before.before.before.est-place.ensures, ← c.before.before.before.before.before.before.u64-at.ensures, ← c.before.before.before.before.before.float_fits.ensures, c.before.before.before.before.if1.true, ← c.before.before.est-count.ensures, ← c.before.est-links-fit.ensures, c.if2.false)
 
 returns-3 : tie.Need-returns-3
 unfolding est_fits
-returns-3 c = rw (← c.before.before.before.est-place.ensures, ← c.before.before.u64-at.ensures, ← c.before.float_fits_lem.ensures, c.if1.false)
+returns-3 c = rw (← c.before.before.before.est-place.ensures, ← c.before.before.u64-at.ensures, ← c.before.float_fits.ensures, c.if1.false)
 
 pub est-fits-spec : {M : Type 1} → statement M
 est-fits-spec =

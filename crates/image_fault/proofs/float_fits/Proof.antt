@@ -1,7 +1,7 @@
 use Rattle.image_fault.proofs.ReachLaws.{float_fits-is}
 use mathlib.Core.Path.{sym}
-use Rattle.image_fault.proofs.float_fits_lem.Statement.{statement}
-use Rattle.image_fault.proofs.float_fits_lem.Tie as tie
+use Rattle.image_fault.proofs.float_fits.Statement.{statement}
+use Rattle.image_fault.proofs.float_fits.Tie as tie
 
 returns : tie.Need-returns
 returns c = sym (float_fits-is c.args.b)

@@ -30,7 +30,7 @@ node-est-idx-requires c κs = search rules
 
 returns : tie.Need-returns
 unfolding node_fits
-returns c = rw (← c.before.before.node-est-idx.ensures, ← c.before.before.before.before.before.before.before.before.before.before.est-count.ensures, ← c.before.before.before.before.before.before.before.before.before.node-place.ensures, ← c.before.before.before.before.before.before.before.before.u64-at.ensures, ← c.before.before.before.before.before.before.before.float_fits_lem.ensures, c.before.before.before.before.before.before.if1.true, ← c.before.before.before.before.before.u64-at2.ensures, ← c.before.before.before.before.time-fits.ensures, c.before.before.before.if2.true, le-ltb _ _ c.if3.true)
+returns c = rw (← c.before.before.node-est-idx.ensures, ← c.before.before.before.before.before.before.before.before.before.before.est-count.ensures, ← c.before.before.before.before.before.before.before.before.before.node-place.ensures, ← c.before.before.before.before.before.before.before.before.u64-at.ensures, ← c.before.before.before.before.before.before.before.float_fits.ensures, c.before.before.before.before.before.before.if1.true, ← c.before.before.before.before.before.u64-at2.ensures, ← c.before.before.before.before.time-fits.ensures, c.before.before.before.if2.true, le-ltb _ _ c.if3.true)
 
 node-link-event-requires : tie.Need-node-link-event-requires
 node-link-event-requires c κs = search rules
@@ -40,15 +40,15 @@ event-fits-requires c κs = search rules
 
 returns-2 : tie.Need-returns-2
 unfolding node_fits
-returns-2 c = rw (← c.before.node-link-event.ensures, ← c.before.before.before.before.node-est-idx.ensures, ← c.before.before.before.before.before.before.before.before.before.before.before.before.est-count.ensures, ← c.before.before.before.before.before.before.before.before.before.before.before.node-place.ensures, ← c.before.before.before.before.before.before.before.before.before.before.u64-at.ensures, ← c.before.before.before.before.before.before.before.before.before.float_fits_lem.ensures, c.before.before.before.before.before.before.before.before.if1.true, ← c.before.before.before.before.before.before.before.u64-at2.ensures, ← c.before.before.before.before.before.before.time-fits.ensures, c.before.before.before.before.before.if2.true, lt-ltb _ _ c.before.before.if3.false, ← c.event-fits.ensures)
+returns-2 c = rw (← c.before.node-link-event.ensures, ← c.before.before.before.before.node-est-idx.ensures, ← c.before.before.before.before.before.before.before.before.before.before.before.before.est-count.ensures, ← c.before.before.before.before.before.before.before.before.before.before.before.node-place.ensures, ← c.before.before.before.before.before.before.before.before.before.before.u64-at.ensures, ← c.before.before.before.before.before.before.before.before.before.float_fits.ensures, c.before.before.before.before.before.before.before.before.if1.true, ← c.before.before.before.before.before.before.before.u64-at2.ensures, ← c.before.before.before.before.before.before.time-fits.ensures, c.before.before.before.before.before.if2.true, lt-ltb _ _ c.before.before.if3.false, ← c.event-fits.ensures)
 
 returns-3 : tie.Need-returns-3
 unfolding node_fits
-returns-3 c = rw (← c.before.before.before.before.before.before.before.est-count.ensures, ← c.before.before.before.before.before.before.node-place.ensures, ← c.before.before.before.before.before.u64-at.ensures, ← c.before.before.before.before.float_fits_lem.ensures, c.before.before.before.if1.true, ← c.before.before.u64-at2.ensures, ← c.before.time-fits.ensures, c.if2.false)
+returns-3 c = rw (← c.before.before.before.before.before.before.before.est-count.ensures, ← c.before.before.before.before.before.before.node-place.ensures, ← c.before.before.before.before.before.u64-at.ensures, ← c.before.before.before.before.float_fits.ensures, c.before.before.before.if1.true, ← c.before.before.u64-at2.ensures, ← c.before.time-fits.ensures, c.if2.false)
 
 returns-4 : tie.Need-returns-4
 unfolding node_fits
-returns-4 c = rw (← c.before.before.before.before.est-count.ensures, ← c.before.before.before.node-place.ensures, ← c.before.before.u64-at.ensures, ← c.before.float_fits_lem.ensures, c.if1.false)
+returns-4 c = rw (← c.before.before.before.before.est-count.ensures, ← c.before.before.before.node-place.ensures, ← c.before.before.u64-at.ensures, ← c.before.float_fits.ensures, c.if1.false)
 
 pub node-fits-spec : {M : Type 1} → statement M
 node-fits-spec =

@@ -1,6 +1,6 @@
 use borrow.Author.Rules.{rules}
-use Rattle.image_fault.proofs.on_route_lem.Statement.{statement}
-use Rattle.image_fault.proofs.on_route_lem.Tie as tie
+use Rattle.image_fault.proofs.on_route.Statement.{statement}
+use Rattle.image_fault.proofs.on_route.Tie as tie
 
 comes-from-requires : tie.Need-comes-from-requires
 comes-from-requires c κs = search rules

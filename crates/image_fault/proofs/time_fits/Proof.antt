@@ -13,7 +13,7 @@ float-fits-requires c κs = search rules
 
 returns-2 : tie.Need-returns-2
 unfolding time_fits
-returns-2 c = simp (ne_eqb _ _ c.before.if1.false, c.float_fits_lem.ensures)
+returns-2 c = simp (ne_eqb _ _ c.before.if1.false, c.float_fits.ensures)
 
 pub time-fits-spec : {M : Type 1} → statement M
 time-fits-spec = tie.close (tie.spec returns float-fits-requires returns-2)

@@ -44,10 +44,10 @@ use Rattle.image_reader.specs.contracts.Reader as T
 use Rattle.image_reader.proofs.Reader.TheLaws as T'
 use Rattle.disp_structs.specs.contracts.DispNode as S
 use Rattle.disp_structs.proofs.DispNode.TheLaws as S'
-use Rattle.image.specs.contracts.codec.node_at_lem as callee
-use Rattle.image.proofs.codec.node_at_lem.Symbol as callee-def
-use Rattle.image.proofs.codec.node_at_lem.Symbol.{name as #image·codec·node-at}
-use Rattle.image.proofs.codec.node_at_lem.Met as callee-thm
+use Rattle.image.specs.contracts.codec.node_at as callee
+use Rattle.image.proofs.codec.node_at.Symbol as callee-def
+use Rattle.image.proofs.codec.node_at.Symbol.{name as #image·codec·node-at}
+use Rattle.image.proofs.codec.node_at.Met as callee-thm
 use Rattle.image_reader.specs.contracts.node.Key.{name as #image-reader·node}
 use Rattle.image_reader.specs.contracts.node as node
 use Rattle.image_reader.proofs.node.Statement as stated

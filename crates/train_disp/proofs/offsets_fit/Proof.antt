@@ -31,7 +31,7 @@ returns : tie.Need-returns invariant-loop decreases-loop
 returns c =
     let g = c.before.before.before.loop in
     let a = c.before.before.before.before.before.args in
-    sym (scan_out a.est.now (length a.est.now / 32) g.i g.at g.o (omega arith) (sym c.before.in_reach_lem.ensures ∙ not-true _ c.if1.true)) ∙ g.invariant.1
+    sym (scan_out a.est.now (length a.est.now / 32) g.i g.at g.o (omega arith) (sym c.before.in_reach.ensures ∙ not-true _ c.if1.true)) ∙ g.invariant.1
 
 est-in-requires : tie.Need-est-in-requires invariant-loop decreases-loop
 est-in-requires c κs = search rules
@@ -41,7 +41,7 @@ returns-2 c =
     let g = c.before.before.before.before.before.before.loop in
     let a = c.before.before.before.before.before.before.before.before.args in
     let r = c.before.before.est-in in
-    sym (scan_last a.est.now (length a.est.now / 32) g.i g.at g.o (omega arith) (sym c.before.before.before.before.in_reach_lem.ensures ∙ not-false _ c.before.before.before.if1.false) r.result r.ensures c.if2.true) ∙ g.invariant.1
+    sym (scan_last a.est.now (length a.est.now / 32) g.i g.at g.o (omega arith) (sym c.before.before.before.before.in_reach.ensures ∙ not-false _ c.before.before.before.if1.false) r.result r.ensures c.if2.true) ∙ g.invariant.1
 
 offset-behind-requires : tie.Need-offset-behind-requires invariant-loop decreases-loop
 offset-behind-requires c κs = search rules
@@ -57,7 +57,7 @@ loop-again c =
     let g = c.before.before.before.before.before.before.before.loop in
     let a = c.before.before.before.before.before.before.before.before.before.args in
     let r = c.before.before.before.est-in in
-    (search rules, rw c.offset-behind.ensures (sym (scan_on a.est.now (length a.est.now / 32) g.i g.at g.o (omega arith) (sym c.before.before.before.before.before.in_reach_lem.ensures ∙ not-false _ c.before.before.before.before.if1.false) r.result r.ensures c.before.if2.false) ∙ g.invariant.1))
+    (search rules, rw c.offset-behind.ensures (sym (scan_on a.est.now (length a.est.now / 32) g.i g.at g.o (omega arith) (sym c.before.before.before.before.before.in_reach.ensures ∙ not-false _ c.before.before.before.before.if1.false) r.result r.ensures c.before.if2.false) ∙ g.invariant.1))
 
 returns-3 : tie.Need-returns-3 invariant-loop decreases-loop
 unfolding all_within

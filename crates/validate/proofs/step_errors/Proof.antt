@@ -30,7 +30,7 @@ est-at-requires c κs = search rules
 loop-holds : tie.Need-loop-init invariant-loop decreases-loop
 loop-holds c =
     let t = c.before.before.before.before.args.img.now in
-    let a = c.before.node_at_lem.ensures in
+    let a = c.before.node_at.ensures in
     (search rules, search rules, plus_zero (bad_path (listed c.before.before.est-count.result (est_at t)) (listed c.before.before.before.before.args.n (node_at t))), a, c.est-at.ensures ∙ ap (λ (m : DispNode). est_at t m.est_idx.0) a)
 
 cast-loop : tie.Need-overflow-cast-loop invariant-loop decreases-loop

@@ -2,8 +2,8 @@ use mathlib.Core.Path.{◌∙◌}
 use native.Mathlib.Omega.{arith}
 use Rattle.image.proofs.RecordLaws.{whole-node}
 use borrow.Author.Rules.{rules}
-use Rattle.image.proofs.codec.node_at_lem.Statement.{statement}
-use Rattle.image.proofs.codec.node_at_lem.Tie as tie
+use Rattle.image.proofs.codec.node_at.Statement.{statement}
+use Rattle.image.proofs.codec.node_at.Tie as tie
 
 est-count-requires : tie.Need-est-count-requires
 est-count-requires c κs = search rules

@@ -55,7 +55,7 @@ u32-at-requires-2 c κs = search rules
 
 returns-2 : tie.Need-returns-2
 unfolding node_passes
-returns-2 c = rw (← c.before.before.before.before.before.before.before.before.before.before.before.before.before.before.before.requires, ← c.before.before.before.before.before.before.before.before.before.before.before.before.before.node-place.ensures, le-leb _ _ c.before.before.before.before.before.before.before.before.before.before.before.before.if1.false, ← c.before.before.before.before.before.before.before.before.before.before.before.u64-at.ensures, ← c.before.before.before.before.before.before.before.before.before.before.float_fits_lem.ensures, c.before.before.before.before.before.before.before.before.before.if2.true, ← c.before.before.before.before.before.before.before.before.u64-at2.ensures, ← c.before.before.before.before.before.before.before.time-fits.ensures, c.before.before.before.before.before.before.if3.true, ← c.before.before.before.before.before.u32-at.ensures, ← c.before.before.before.before.u16-at.ensures, ← c.before.before.before.event-passes.ensures, c.before.before.if4.true, ← c.before.u32-at2.ensures, le-ltb _ _ c.if5.true)
+returns-2 c = rw (← c.before.before.before.before.before.before.before.before.before.before.before.before.before.before.before.requires, ← c.before.before.before.before.before.before.before.before.before.before.before.before.before.node-place.ensures, le-leb _ _ c.before.before.before.before.before.before.before.before.before.before.before.before.if1.false, ← c.before.before.before.before.before.before.before.before.before.before.before.u64-at.ensures, ← c.before.before.before.before.before.before.before.before.before.before.float_fits.ensures, c.before.before.before.before.before.before.before.before.before.if2.true, ← c.before.before.before.before.before.before.before.before.u64-at2.ensures, ← c.before.before.before.before.before.before.before.time-fits.ensures, c.before.before.before.before.before.before.if3.true, ← c.before.before.before.before.before.u32-at.ensures, ← c.before.before.before.before.u16-at.ensures, ← c.before.before.before.event-passes.ensures, c.before.before.if4.true, ← c.before.u32-at2.ensures, le-ltb _ _ c.if5.true)
 
 add-u32-at-3 : tie.Need-overflow-add-u32-at-3
 add-u32-at-3 c = search rules
@@ -65,19 +65,19 @@ u32-at-requires-3 c κs = search rules
 
 returns-3 : tie.Need-returns-3
 unfolding node_passes
-returns-3 c = rw (← c.before.before.before.before.before.before.before.before.before.before.before.before.before.before.before.before.requires, ← c.before.before.before.before.before.before.before.before.before.before.before.before.before.before.node-place.ensures, le-leb _ _ c.before.before.before.before.before.before.before.before.before.before.before.before.before.if1.false, ← c.before.before.before.before.before.before.before.before.before.before.before.before.u64-at.ensures, ← c.before.before.before.before.before.before.before.before.before.before.before.float_fits_lem.ensures, c.before.before.before.before.before.before.before.before.before.before.if2.true, ← c.before.before.before.before.before.before.before.before.before.u64-at2.ensures, ← c.before.before.before.before.before.before.before.before.time-fits.ensures, c.before.before.before.before.before.before.before.if3.true, ← c.before.before.before.before.before.before.u32-at.ensures, ← c.before.before.before.before.before.u16-at.ensures, ← c.before.before.before.before.event-passes.ensures, c.before.before.before.if4.true, ← c.before.before.u32-at2.ensures, lt-ltb _ _ c.before.if5.false, ← c.u32-at3.ensures)
+returns-3 c = rw (← c.before.before.before.before.before.before.before.before.before.before.before.before.before.before.before.before.requires, ← c.before.before.before.before.before.before.before.before.before.before.before.before.before.before.node-place.ensures, le-leb _ _ c.before.before.before.before.before.before.before.before.before.before.before.before.before.if1.false, ← c.before.before.before.before.before.before.before.before.before.before.before.before.u64-at.ensures, ← c.before.before.before.before.before.before.before.before.before.before.before.float_fits.ensures, c.before.before.before.before.before.before.before.before.before.before.if2.true, ← c.before.before.before.before.before.before.before.before.before.u64-at2.ensures, ← c.before.before.before.before.before.before.before.before.time-fits.ensures, c.before.before.before.before.before.before.before.if3.true, ← c.before.before.before.before.before.before.u32-at.ensures, ← c.before.before.before.before.before.u16-at.ensures, ← c.before.before.before.before.event-passes.ensures, c.before.before.before.if4.true, ← c.before.before.u32-at2.ensures, lt-ltb _ _ c.before.if5.false, ← c.u32-at3.ensures)
 
 returns-4 : tie.Need-returns-4
 unfolding node_passes
-returns-4 c = rw (← c.before.before.before.before.before.before.before.before.before.before.before.before.before.requires, ← c.before.before.before.before.before.before.before.before.before.before.before.node-place.ensures, le-leb _ _ c.before.before.before.before.before.before.before.before.before.before.if1.false, ← c.before.before.before.before.before.before.before.before.before.u64-at.ensures, ← c.before.before.before.before.before.before.before.before.float_fits_lem.ensures, c.before.before.before.before.before.before.before.if2.true, ← c.before.before.before.before.before.before.u64-at2.ensures, ← c.before.before.before.before.before.time-fits.ensures, c.before.before.before.before.if3.true, ← c.before.before.before.u32-at.ensures, ← c.before.before.u16-at.ensures, ← c.before.event-passes.ensures, c.if4.false)
+returns-4 c = rw (← c.before.before.before.before.before.before.before.before.before.before.before.before.before.requires, ← c.before.before.before.before.before.before.before.before.before.before.before.node-place.ensures, le-leb _ _ c.before.before.before.before.before.before.before.before.before.before.if1.false, ← c.before.before.before.before.before.before.before.before.before.u64-at.ensures, ← c.before.before.before.before.before.before.before.before.float_fits.ensures, c.before.before.before.before.before.before.before.if2.true, ← c.before.before.before.before.before.before.u64-at2.ensures, ← c.before.before.before.before.before.time-fits.ensures, c.before.before.before.before.if3.true, ← c.before.before.before.u32-at.ensures, ← c.before.before.u16-at.ensures, ← c.before.event-passes.ensures, c.if4.false)
 
 returns-5 : tie.Need-returns-5
 unfolding node_passes
-returns-5 c = rw (← c.before.before.before.before.before.before.before.before.before.requires, ← c.before.before.before.before.before.before.before.node-place.ensures, le-leb _ _ c.before.before.before.before.before.before.if1.false, ← c.before.before.before.before.before.u64-at.ensures, ← c.before.before.before.before.float_fits_lem.ensures, c.before.before.before.if2.true, ← c.before.before.u64-at2.ensures, ← c.before.time-fits.ensures, c.if3.false)
+returns-5 c = rw (← c.before.before.before.before.before.before.before.before.before.requires, ← c.before.before.before.before.before.before.before.node-place.ensures, le-leb _ _ c.before.before.before.before.before.before.if1.false, ← c.before.before.before.before.before.u64-at.ensures, ← c.before.before.before.before.float_fits.ensures, c.before.before.before.if2.true, ← c.before.before.u64-at2.ensures, ← c.before.time-fits.ensures, c.if3.false)
 
 returns-6 : tie.Need-returns-6
 unfolding node_passes
-returns-6 c = rw (← c.before.before.before.before.before.before.requires, ← c.before.before.before.before.node-place.ensures, le-leb _ _ c.before.before.before.if1.false, ← c.before.before.u64-at.ensures, ← c.before.float_fits_lem.ensures, c.if2.false)
+returns-6 c = rw (← c.before.before.before.before.before.before.requires, ← c.before.before.before.before.node-place.ensures, le-leb _ _ c.before.before.before.if1.false, ← c.before.before.u64-at.ensures, ← c.before.float_fits.ensures, c.if2.false)
 
 pub node-passes-spec : {M : Type 1} → statement M
 node-passes-spec =

@@ -20,7 +20,7 @@ returns : tie.Need-returns
 unfolding changed
 returns c =
     let a = c.before.before.before.before.before.before.args in
-    let e = sym (ap₂ same_bytes c.before.before.before.image-in.ensures c.before.before.image-in2.ensures) ∙ (sym c.before.same_bytes_lem.ensures ∙ c.if1.true) in
+    let e = sym (ap₂ same_bytes c.before.before.before.image-in.ensures c.before.before.image-in2.ensures) ∙ (sym c.before.same_bytes.ensures ∙ c.if1.true) in
     sym (ap (λ (b : Bool). cond (not b) (with_bit a.set a.t true) a.set) e)
 
 with-bit-requires : tie.Need-with-bit-requires
@@ -30,7 +30,7 @@ returns-2 : tie.Need-returns-2
 unfolding changed
 returns-2 c =
     let a = c.before.before.before.before.before.before.before.args in
-    let e = sym (ap₂ same_bytes c.before.before.before.before.image-in.ensures c.before.before.before.image-in2.ensures) ∙ (sym c.before.before.same_bytes_lem.ensures ∙ c.before.if1.false) in
+    let e = sym (ap₂ same_bytes c.before.before.before.before.image-in.ensures c.before.before.before.image-in2.ensures) ∙ (sym c.before.before.same_bytes.ensures ∙ c.before.if1.false) in
     c.with-bit.ensures ∙ sym (ap (λ (b : Bool). cond (not b) (with_bit a.set a.t true) a.set) e)
 
 pub with-changed-spec : {M : Type 1} → statement M

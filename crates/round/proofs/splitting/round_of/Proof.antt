@@ -59,7 +59,7 @@ returns c =
     let far = k.before.dist-disp-path-search in
     let limit =
     k.offset-cancel.ensures
-    ∙ ap (λ (n : DispNode). offset_cancel_of a.g.is_local a.g.offset_lowest n.offset far.result) k.before.before.before.before.node_at_lem.ensures
+    ∙ ap (λ (n : DispNode). offset_cancel_of a.g.is_local a.g.offset_lowest n.offset far.result) k.before.before.before.before.node_at.ensures
     ∙ ap (λ (m : Metres). offset_cancel_of a.g.is_local a.g.offset_lowest (node_at a.img.now a.split).offset m) far.ensures in
     (record { est = c.before.before.before.before.est-count.ensures; path = refl; divs = refl; room = c.before.diverge-room.ensures; fixed = refl }, refl, refl, limit)
 

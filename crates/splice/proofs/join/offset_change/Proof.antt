@@ -11,7 +11,7 @@ node-at-requires c κs = search rules
 returns : tie.Need-returns
 returns c =
     let a = c.before.before.before.before.before.args in
-    ap (λ (y : DispNode). minus (plus a.curr.offset a.est.dist_to_next) y.offset) c.before.before.before.node_at_lem.ensures
+    ap (λ (y : DispNode). minus (plus a.curr.offset a.est.dist_to_next) y.offset) c.before.before.before.node_at.ensures
 
 pub offset-change-spec : {M : Type 1} → statement M
 offset-change-spec = tie.close (tie.spec node-at-requires returns)

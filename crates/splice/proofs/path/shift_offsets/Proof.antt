@@ -38,7 +38,7 @@ returns : tie.Need-returns invariant-loop decreases-loop
 returns c =
     let l = c.before.before.before.before.before.before.loop in
     let a = c.before.before.before.before.before.before.before.before.args in
-    let far = ap (λ (y : DispNode). in_reach (add binary64 y.offset.0 a.change.0)) (sym c.before.before.before.node_at_lem.ensures) ∙ sym c.before.in_reach_lem.ensures ∙ not-true _ c.if1.true in
+    let far = ap (λ (y : DispNode). in_reach (add binary64 y.offset.0 a.change.0)) (sym c.before.before.before.node_at.ensures) ∙ sym c.before.in_reach.ensures ∙ not-true _ c.if1.true in
     (sym (offsets-no a.change l.img a.n l.k (omega arith) far) ∙ l.invariant.1, l.invariant.0)
 
 put-offset-requires : tie.Need-put-offset-requires invariant-loop decreases-loop
@@ -54,8 +54,8 @@ loop-again : tie.Need-loop-preserved invariant-loop decreases-loop
 loop-again c =
     let l = c.before.before.before.before.before.before.before.before.before.before.loop in
     let a = c.before.before.before.before.before.before.before.before.before.before.before.before.args in
-    let e = c.before.before.put-offset.ensures ∙ ap (λ (y : DispNode). put_offset (add binary64 y.offset.0 a.change.0) l.k l.img) c.before.before.before.before.before.before.before.node_at_lem.ensures in
-    let near = ap (λ (y : DispNode). in_reach (add binary64 y.offset.0 a.change.0)) (sym c.before.before.before.before.before.before.before.node_at_lem.ensures) ∙ sym c.before.before.before.before.before.in_reach_lem.ensures ∙ not-false _ c.before.before.before.before.if1.false in
+    let e = c.before.before.put-offset.ensures ∙ ap (λ (y : DispNode). put_offset (add binary64 y.offset.0 a.change.0) l.k l.img) c.before.before.before.before.before.before.before.node_at.ensures in
+    let near = ap (λ (y : DispNode). in_reach (add binary64 y.offset.0 a.change.0)) (sym c.before.before.before.before.before.before.before.node_at.ensures) ∙ sym c.before.before.before.before.before.in_reach.ensures ∙ not-false _ c.before.before.before.before.if1.false in
     let s = l.invariant.0.size in
     let q = kept-count l.img a.img.now l.invariant.0 in (
       kept_then _ l.img a.img.now (kept_eq _ _ l.img e (offset-kept l.img _ l.k)) l.invariant.0,

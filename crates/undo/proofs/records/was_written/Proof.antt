@@ -32,7 +32,7 @@ returns c =
     let y = length a.yard.now in
     let r = a.undo-record.now in
     let k : 16 + y + y - (16 + y) ≡ y = omega arith in
-    c.same_bytes_lem.ensures ∙ (ap (λ (n : ℕ). same_bytes (take n (drop (16 + y) r)) a.yard.now) k ∙ was_same a.yard.now r c.before.before.before.before.requires)
+    c.same_bytes.ensures ∙ (ap (λ (n : ℕ). same_bytes (take n (drop (16 + y) r)) a.yard.now) k ∙ was_same a.yard.now r c.before.before.before.before.requires)
 
 pub was-written-spec : {M : Type 1} → statement M
 was-written-spec =

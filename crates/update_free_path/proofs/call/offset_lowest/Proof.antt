@@ -13,7 +13,7 @@ dist-fixed-max-requires : tie.Need-dist-fixed-max-requires
 dist-fixed-max-requires c κs = search rules
 
 returns : tie.Need-returns
-returns c = ap₂ (λ (n : DispNode) (d : Metres). minus n.offset d) c.before.before.before.node_at_lem.ensures c.before.before.dist-fixed-max.ensures
+returns c = ap₂ (λ (n : DispNode) (d : Metres). minus n.offset d) c.before.before.before.node_at.ensures c.before.before.dist-fixed-max.ensures
 
 pub offset-lowest-spec : {M : Type 1} → statement M
 offset-lowest-spec = tie.close (tie.spec node-at-requires dist-fixed-max-requires returns)

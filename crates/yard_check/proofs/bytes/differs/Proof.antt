@@ -27,7 +27,7 @@ returns-2 : tie.Need-returns-2
 returns-2 c =
     let a = c.before.before.before.before.before.args in
     let n = length a.image.now in
-    ap not c.same_bytes_lem.ensures
+    ap not c.same_bytes.ensures
     ∙ sym (ap (λ (b : Bool). b && not (same_bytes (take n a.room.now) a.image.now)) (le-leb n (length a.room.now) (omega (arith, c.before.before.if1.false))))
 
 pub differs-spec : {M : Type 1} → statement M

@@ -1,8 +1,8 @@
 use mathlib.Core.Path.{sym}
 use Rattle.yard_check.proofs.SeenLaws.{lengths_differ}
 use borrow.Author.Rules.{rules}
-use Rattle.yard_check.proofs.bytes.same_bytes_lem.Statement.{statement}
-use Rattle.yard_check.proofs.bytes.same_bytes_lem.Tie as tie
+use Rattle.yard_check.proofs.bytes.same_bytes.Statement.{statement}
+use Rattle.yard_check.proofs.bytes.same_bytes.Tie as tie
 
 returns : tie.Need-returns
 returns c = let a = c.before.before.before.args in sym (lengths_differ a.a.now a.b.now c.if1.true)

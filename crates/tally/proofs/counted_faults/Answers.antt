@@ -1,0 +1,6 @@
+use borrow.Author.Rules.{rules}
+use Rattle.tally.proofs.counted_faults.Goals as goal
+
+pub returns : goal.returns
+returns c = cc
+

@@ -1,0 +1,17 @@
+use mathlib.Core.Path.{◌≡◌, refl, sym, ap₂, ◌∙◌}
+use Prim.Native.Nat.{ℕ, ◌+◌, ◌-◌, ◌≤◌}
+use lib.ListN.{length}
+use native.Mathlib.Omega.{arith}
+use native.Mathlib.Nat.{sub-zero, add-zero}
+use borrow.Author.Rules.{rules}
+use Rattle.link_rules.specs.Network.{lockouts}
+use Rattle.link_rules.specs.AdvanceRewind.{hold_all}
+use Rattle.link_rules.proofs.MarkLaws.{hold-turn, hold-end}
+use Rattle.wide_occupancy.proofs.advance_rewind.hold_lockouts.Given as goal
+
+abbrev pub invariant-loop-j : goal.invariant-loop-j
+invariant-loop-j l = (l.j ≤ l.n) × (length l.occupancy ≡ length l.initial.occupancy) × (hold_all l.occupancy (lockouts l.table (l.n - l.j) (l.start + l.j)) (record { 0 = l.t }) ≡ hold_all l.initial.occupancy (lockouts l.table l.n l.start) (record { 0 = l.t }))
+
+abbrev pub decreases-loop-j : goal.decreases-loop-j
+decreases-loop-j l = l.n - l.j
+

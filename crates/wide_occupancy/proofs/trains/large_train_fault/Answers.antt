@@ -1,0 +1,6 @@
+use borrow.Author.Rules.{rules}
+use Rattle.wide_occupancy.proofs.trains.large_train_fault.Goals as goal
+
+pub returns : goal.returns
+returns c = cc
+
