@@ -1,0 +1,16 @@
+use Rattle.free_path.proofs.ValidateLaws.{one_more}
+use Rattle.std.proofs.Common.{◌≡◌, ◌+◌, ◌-◌, ◌≤◌, cond, drop, ap, ◌∙◌, arith, rules}
+use Rattle.link_rules.specs.declared.link_idx.LinkIdx.{LinkIdx}
+use Rattle.free_path.specs.Base.{count}
+use Rattle.free_path.specs.Validate.{stray_link}
+use Rattle.free_path.specs.Columns.{link_at, flagged}
+use Rattle.disp_structs.specs.Listed.{listed}
+use Rattle.free_path.proofs.ColumnLaws.{count_turn, count-end}
+use Rattle.free_path.proofs.strays.strays.Given as goal
+
+abbrev pub invariant-loop-i : goal.invariant-loop-i
+invariant-loop-i l = (l.k + l.free ≤ l.i) × (l.k + count (stray_link l.occ (flagged l.known)) (drop l.i (listed l.n (link_at l.col))) ≡ count (stray_link l.occ (flagged l.known)) (drop l.free (listed l.n (link_at l.col))))
+
+abbrev pub decreases-loop-i : goal.decreases-loop-i
+decreases-loop-i l = l.n - l.i
+

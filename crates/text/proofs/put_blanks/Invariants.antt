@@ -1,0 +1,17 @@
+use mathlib.Core.Path.{◌≡◌, refl, ap, ◌∙◌}
+use Prim.Native.Nat.{◌-◌, ◌≤◌}
+use native.Mathlib.Omega.{arith}
+use lib.ListN.{length}
+use borrow.Author.Rules.{rules}
+use Rattle.text.specs.Text.{text_of, Put}
+use Rattle.text.specs.Columns.{blanks}
+use Rattle.text.proofs.TextLaws.{nothing, put_is}
+use Rattle.text.proofs.ColumnLaws.{blank_turn}
+use Rattle.text.proofs.put_blanks.Given as goal
+
+abbrev pub invariant-loop-i : goal.invariant-loop-i
+invariant-loop-i l = (l.i ≤ l.w) × (length l.text ≡ length l.initial.text) × Put (blanks l.i) (text_of l.count l.initial.text) (text_of l.n l.text)
+
+abbrev pub decreases-loop-i : goal.decreases-loop-i
+decreases-loop-i l = l.w - l.i
+
