@@ -14,7 +14,7 @@ loop-i-init c = (search rules, refl, nothing)
 
 pub loop-i-preserved : goal.loop-i-preserved
 loop-i-preserved c = let inv = c.loop-i.invariant in
-    (search rules, c.put_byte-n.auto.0 ∙ inv.1, blank_turn c.loop-i.i inv.2 c.put_byte-n.ensures)
+    (search rules, c.put_byte-n.auto.text ∙ inv.1, blank_turn c.loop-i.i inv.2 c.put_byte-n.ensures)
 
 pub returns : goal.returns
 returns c = let l = c.loop-i in

@@ -1,0 +1,17 @@
+use Rattle.image_fault.proofs.CycleArrays.{Holds, holds_more, cycle_is, cycle_below}
+use Rattle.image.specs.Image.{est_at}
+use Rattle.disp_structs.specs.declared.EstIdx.{EstIdx}
+use mathlib.Core.Path.{◌≡◌, refl, sym, ap, ◌∙◌}
+use Prim.Native.Nat.{◌-◌, ◌≤◌}
+use lib.ListN.{length, length-set}
+use native.Mathlib.Omega.{arith}
+use borrow.Author.Rules.{rules}
+use Rattle.image_fault.specs.ImageFault.{cycle_refused}
+use Rattle.image_fault.proofs.lowest_on_cycle.Given as goal
+
+abbrev pub invariant-loop-i : goal.invariant-loop-i
+invariant-loop-i l = (l.i ≤ l.e) × (length l.next ≡ 512) × (length l.alt ≡ 512) × Holds (λ j. (est_at l.img j).idx_next.0) l.i l.next × Holds (λ j. (est_at l.img j).idx_next_alt.0) l.i l.alt
+
+abbrev pub decreases-loop-i : goal.decreases-loop-i
+decreases-loop-i l = l.e - l.i
+

@@ -1,0 +1,23 @@
+use Rattle.link_rules.proofs.TableLaws.{all_more, all_fails}
+use Rattle.link_rules.specs.Network.{all_below}
+use mathlib.Core.Path.{refl, ◌≡◌, sym, ◌∙◌}
+use mathlib.Core.Bool.{true}
+use Prim.Native.Nat.{◌-◌, ◌≤◌}
+use native.Mathlib.Omega.{arith}
+use borrow.Author.Rules.{rules}
+use Rattle.image_fault.specs.ImageFault.{node_type_fits}
+use Rattle.image_fault.proofs.node_types_fit.Goals as goal
+
+pub loop-i-init : goal.loop-i-init
+unfolding all_below
+loop-i-init c = (search rules, refl)
+
+pub loop-i-preserved : goal.loop-i-preserved
+loop-i-preserved c = (search rules, all_more (node_type_fits c.args.img.now) c.loop-i.i c.loop-i.invariant.1 (sym c.node_type_fits.ensures ∙ c.if-node_type_fits.true))
+
+pub returns-else-node_type_fits : goal.returns-else-node_type_fits
+returns-else-node_type_fits c = sym (all_fails (node_type_fits c.args.img.now) c.args.n c.loop-i.i (omega arith) (sym c.node_type_fits.ensures ∙ c.if-node_type_fits.false))
+
+pub returns : goal.returns
+returns c = let e : c.loop-i.i ≡ c.args.n = omega arith in rw (← e) (sym c.loop-i.invariant.1)
+

@@ -1,0 +1,10 @@
+use native.Mathlib.Omega.{arith}
+use borrow.Author.Rules.{rules}
+use Rattle.validate.proofs.more.Goals as goal
+
+pub returns-then-one : goal.returns-then-one
+returns-then-one c = rw c.if-one.true
+
+pub returns : goal.returns
+returns c = rw c.if-one.false (omega arith)
+
