@@ -1,0 +1,19 @@
+use mathlib.Core.Path.{◌≡◌, refl, ap, ap₂, ◌∙◌}
+use Prim.Native.Nat.{ℕ, ◌-◌, ◌≤◌}
+use native.Mathlib.Omega.{arith}
+use lib.ListN.{length}
+use Rattle.disp_structs.specs.Listed.{listed}
+use Rattle.free_path.specs.Columns.{div_at, tr}
+use Rattle.image.specs.Image.{is_wide}
+use Rattle.image.specs.Codec.{put_each}
+use Rattle.image_store.specs.Stored.{diverges_into}
+use Rattle.image_store.proofs.StoreLaws.{diverges_long, diverges_more}
+use borrow.Author.Rules.{rules}
+use Rattle.image_store.proofs.put_diverges.Given as goal
+
+abbrev pub invariant-loop-i : goal.invariant-loop-i
+invariant-loop-i l = (l.i ≤ l.m) × (l.image ≡ diverges_into (is_wide l.initial.image) (listed l.i (div_at l.dt l.dn)) l.initial.image)
+
+abbrev pub decreases-loop-i : goal.decreases-loop-i
+decreases-loop-i l = l.m - l.i
+

@@ -1,0 +1,23 @@
+use mathlib.Core.Path.{◌≡◌, refl, sym, ap, ◌∙◌}
+use mathlib.Core.List.{List}
+use Prim.Native.Nat.{◌+◌, ◌-◌, ◌≤◌, ◌<◌}
+use native.Mathlib.Omega.{arith}
+use native.Mathlib.Nat.{sub-zero, zero-add}
+use lib.ListN.{length}
+use borrow.Author.Rules.{rules}
+use Rattle.disp_structs.specs.Values.{zero_metres}
+use Rattle.disp_structs.specs.declared.DispNode.{DispNode}
+use Rattle.image.specs.Image.{est_count, node_place}
+use Rattle.image.specs.Codec.{put_each}
+use Rattle.train_disp.specs.TrainDisp.{walk_next, put_nodes}
+use Rattle.train_disp.proofs.LayOutLaws.{walk_end, kept, long, path_on, count_on, path-last, count-last}
+use Rattle.train_disp.proofs.put_path.Given as goal
+
+abbrev pub invariant-loop-i : goal.invariant-loop-i
+invariant-loop-i l = (l.i ≤ l.e) × (est_count l.img ≡ l.e) × (length l.img ≡ length l.initial.img)
+    × (put_nodes (walk_next l.sums l.est (l.e - l.i) l.at l.o) (node_place l.e l.i) l.img ≡ put_nodes (walk_next l.sums l.est l.e 0 zero_metres) (node_place l.e 0) l.initial.img)
+    × (l.i + length (walk_next l.sums l.est (l.e - l.i) l.at l.o) ≡ length (walk_next l.sums l.est l.e 0 zero_metres))
+
+abbrev pub decreases-loop-i : goal.decreases-loop-i
+decreases-loop-i l = l.e - l.i
+
