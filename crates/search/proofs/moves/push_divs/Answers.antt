@@ -1,0 +1,32 @@
+use mathlib.Core.Path.{refl, sym, ◌∙◌}
+use native.Mathlib.Omega.{arith}
+use Rattle.search.proofs.DepositLaws as L
+use borrow.Author.Rules.{rules}
+use Rattle.search.proofs.moves.push_divs.Reads as reads
+use Rattle.search.proofs.moves.push_divs.Lts as lts
+use Rattle.search.proofs.moves.store_divs.Reads as store-divs-reads
+use Rattle.search.proofs.moves.push_divs.Goals as goal
+
+-- src/moves.rt:277:9
+pub returns-then-e-b : goal.returns-then-e-b
+returns-then-e-b c = let a = c.args in
+    let s = c.requires in
+    (L.deposit-order a.pool.now a.len a.v a.room a.count a.node a.nt.now a.nn.now s.0 s.1 c.if-e-b.true, omega arith)
+
+-- src/moves.rt:280:15
+pub returns-then-len-e : goal.returns-then-len-e
+returns-then-len-e c = let a = c.args in
+    let s = c.requires in
+    (L.deposit_out a.pool.now a.len a.v a.room a.count a.node a.nt.now a.nn.now s.0 s.1 c.if-e-b.false c.if-len-e.true, omega arith)
+
+-- src/moves.rt:283:5
+pub returns-then-room-count : goal.returns-then-room-count
+returns-then-room-count c = let a = c.args in
+    let s = c.requires in
+    (L.deposit_full a.pool.now a.len a.v a.room a.count a.node a.nt.now a.nn.now s.0 s.1 c.if-e-b.false c.if-len-e.false c.if-room-count.true, omega arith)
+
+pub returns : goal.returns
+returns c = let a = c.args in
+    let s = c.requires in
+    (L.deposit-room a.pool.now a.len a.v a.room a.count a.node a.nt.now a.nn.now s.0 s.1 c.if-e-b.false c.if-len-e.false c.if-room-count.false _ c.store_divs.ensures, omega arith)
+
