@@ -1,0 +1,9 @@
+
+use Rattle.candidate.proofs.train_of.Goals as goal
+
+pub returns-then-marks : goal.returns-then-marks
+returns-then-marks c = rw c.if-marks.true
+
+pub returns : goal.returns
+returns c = rw c.if-marks.false
+

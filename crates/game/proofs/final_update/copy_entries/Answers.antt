@@ -1,0 +1,25 @@
+use mathlib.Core.Path.{◌≡◌, refl, sym, ◌∙◌}
+use Prim.Native.Nat.{◌-◌, ◌≤◌}
+use native.Mathlib.Omega.{arith}
+use native.Mathlib.Numerals.{add-one}
+use lib.ListN.{length, get_or, take}
+use lib.Seq.{take_all, take-suc, take-suc-set}
+use borrow.Author.Rules.{rules}
+use Rattle.game.proofs.final_update.copy_entries.Goals as goal
+
+pub loop-i-init : goal.loop-i-init
+loop-i-init c = (search rules, search rules, refl)
+
+pub loop-i-preserved : goal.loop-i-preserved
+loop-i-preserved c = let g = c.loop-i in
+    let s = c.args.from.now in (
+      search rules,
+      search rules,
+      rw (add-one, take-suc-set g.to g.i (get_or s g.i 0) (omega arith), take-suc s g.i 0 (omega arith), g.invariant.2),
+    )
+
+pub returns : goal.returns
+returns c = let g = c.loop-i in
+    let s = c.args.from.now in
+    sym (take_all g.i g.to (omega arith)) ∙ g.invariant.2 ∙ take_all g.i s (omega arith)
+

@@ -1,0 +1,23 @@
+use mathlib.Core.Path.{◌≡◌, refl, sym, ap, ◌∙◌}
+use mathlib.Core.List.{List, ◌++◌, append-nil}
+use Prim.Native.Nat.{ℕ, ◌+◌, ◌-◌, ◌/◌, ◌≤◌}
+use native.Mathlib.Omega.{arith}
+use lib.ListN.{length, take, set, drop, length-set}
+use borrow.Author.Rules.{rules}
+use Rattle.game.specs.Game.{held_by}
+use Rattle.game.specs.Sets.{links_in}
+use Rattle.game.proofs.PlaceLaws.{open_turn, listed-turn, held-turn, none_left}
+use Rattle.game.proofs.final_update.place.Given as goal
+
+-- The loop's invariant: what is still to come gives the whole.
+abbrev pub invariant-loop-i : goal.invariant-loop-i
+invariant-loop-i l = (l.i ≤ length l.links)
+    × (l.n ≤ l.i)
+    × (length l.blocking ≡ 8)
+    × (length l.occ ≡ length l.initial.occ)
+    × (held_by l.moved (links_in (drop l.i l.links) l.rest) l.occ ≡ held_by l.moved (links_in l.links l.c) l.initial.occ)
+    × (take l.n l.blocking ++ links_in (drop l.i l.links) l.rest ≡ links_in l.links l.c)
+
+abbrev pub decreases-loop-i : goal.decreases-loop-i
+decreases-loop-i l = length l.links - l.i
+

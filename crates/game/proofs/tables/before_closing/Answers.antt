@@ -1,0 +1,25 @@
+use mathlib.Core.Path.{◌≡◌, refl}
+use Prim.Native.Nat.{◌-◌, ◌≤◌}
+use native.Mathlib.Omega.{arith}
+use lib.ListN.{length, length-set, replicate}
+use borrow.Author.Rules.{rules}
+use Rattle.game.specs.Sets.{won, some_closing, Verdicts}
+use Rattle.game.proofs.TableLaws.{verdicts_none, verdicts_more}
+use Rattle.game.proofs.tables.before_closing.Goals as goal
+
+pub loop-c-init : goal.loop-c-init
+loop-c-init c = (search rules, refl, verdicts_none (some_closing c.args.k (won c.args.t)) (replicate 256 0))
+
+pub loop-c-preserved : goal.loop-c-preserved
+loop-c-preserved c = let h = c.some_closing-win in
+    let l = c.loop-c in
+    let a = c.args in (
+      search rules,
+      simp length-set l.invariant.1,
+      rw c.mark.ensures (verdicts_more l.c (some_closing a.k (won a.t)) l.out h.result (omega arith) h.ensures l.invariant.2),
+    )
+
+pub returns : goal.returns
+returns c = let l = c.loop-c in
+    λ i h. l.invariant.2 i (omega arith)
+

@@ -1,0 +1,16 @@
+use mathlib.Core.Path.{◌≡◌, refl}
+use Prim.Native.Nat.{◌-◌, ◌≤◌}
+use native.Mathlib.Omega.{arith}
+use lib.ListN.{length, length-set, replicate}
+use borrow.Author.Rules.{rules}
+use Rattle.game.specs.Sets.{won, some_closing, Verdicts}
+use Rattle.game.proofs.TableLaws.{verdicts_none, verdicts_more}
+use Rattle.game.proofs.tables.before_closing.Given as goal
+
+-- `tables::before_closing` meets its contract. The loop's invariant: the entries below c are right. Assumes nothing.
+abbrev pub invariant-loop-c : goal.invariant-loop-c
+invariant-loop-c l = (l.c ≤ l.n) × (length l.out ≡ 256) × Verdicts l.c (some_closing l.k (won l.t)) l.out
+
+abbrev pub decreases-loop-c : goal.decreases-loop-c
+decreases-loop-c l = l.n - l.c
+
