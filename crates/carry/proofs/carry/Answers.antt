@@ -1,0 +1,45 @@
+use mathlib.Core.Path.{sym, ap, ap₂, ◌∙◌}
+use mathlib.Core.List.{List}
+use Prim.Native.Nat.{ℕ}
+use native.Mathlib.Omega.{arith}
+use lib.ListN.{length}
+use Rattle.link_rules.specs.declared.refusal.Refusal.{Refusal}
+use Rattle.link_rules.specs.declared.refusal.Answer.TheVariants as Stepped
+use Rattle.carry.specs.Carry.{with_widened, carrying}
+use Rattle.carry.proofs.LayoutLaws.{yard-few, passed, second-room, next-accepted, carried-refused, carried-done}
+use borrow.Author.Rules.{rules}
+use Rattle.carry.proofs.carry.Goals as goal
+
+pub returns-then-f-ne0 : goal.returns-then-f-ne0
+returns-then-f-ne0 c = let a = c.args in
+    let f = c.carry_fault-f in
+    carried-refused a.yard.now a.occupancy.now a.count a.wide_yard.now a.wide_occupancy.now f.result f.ensures c.if-f-ne0.true
+
+pub begin_by-requires : goal.begin_by-requires
+begin_by-requires c = let a = c.args in
+    let q = ap (λ (x : Refusal). x.number) (sym c.carry_fault-f.ensures) ∙ c.if-f-ne0.false in
+    let z = passed a.yard.now (length a.occupancy.now) a.count a.wide_yard.now (length a.wide_occupancy.now) q in
+    let f = yard-few a.yard.now (λ i. omega (arith, c.shared_slice_known-1.given i)) z.fits in
+    let r = second-room a.yard.now a.count a.wide_yard.now z.second in
+    (f.0, f.1, r.1)
+
+pub carry_occupancy-requires : goal.carry_occupancy-requires
+carry_occupancy-requires c = let a = c.args in
+    let q = ap (λ (x : Refusal). x.number) (sym c.carry_fault-f.ensures) ∙ c.if-f-ne0.false in
+    let z = passed a.yard.now (length a.occupancy.now) a.count a.wide_yard.now (length a.wide_occupancy.now) q in
+    z.lengths.2
+
+pub carry_image-requires : goal.carry_image-requires
+carry_image-requires c = let a = c.args in
+    let q = ap (λ (x : Refusal). x.number) (sym c.carry_fault-f.ensures) ∙ c.if-f-ne0.false in
+    let z = passed a.yard.now (length a.occupancy.now) a.count a.wide_yard.now (length a.wide_occupancy.now) q in
+    let f = yard-few a.yard.now (λ i. omega (arith, c.shared_slice_known-1.given i)) z.fits in
+    let r = second-room a.yard.now a.count a.wide_yard.now z.second in
+    (f.0, f.1, r.0, c.begin_by.auto.wide ∙ r.1, next-accepted a.yard.now (length a.occupancy.now) a.count a.wide_yard.now (length a.wide_occupancy.now) z r.0)
+
+pub returns : goal.returns
+returns c = let a = c.args in
+    let q = ap (λ (x : Refusal). x.number) (sym c.carry_fault-f.ensures) ∙ c.if-f-ne0.false in
+    ap₂ (λ (x y : List ℕ). carrying Stepped.Done x y) (c.carry_image.ensures ∙ ap (with_widened a.yard.now a.count) c.begin_by.ensures) c.carry_occupancy.ensures
+    ∙ carried-done a.yard.now a.occupancy.now a.count a.wide_yard.now a.wide_occupancy.now q
+

@@ -1,0 +1,41 @@
+use mathlib.Core.Path.{◌≡◌, refl}
+use mathlib.Core.List.{map}
+use Prim.Native.Nat.{◌-◌, ◌≤◌}
+use native.Mathlib.Omega.{arith}
+use lib.ListN.{length, take, length-set}
+use borrow.Author.Rules.{rules}
+use Rattle.sitting.specs.Replay.{step_number, last_world, world_of}
+use Rattle.sitting.specs.Steps.{first_outcomes}
+use Rattle.sitting.proofs.StepLaws.{world-turn, numbers-turn, none_made, all_made}
+use Rattle.sitting.proofs.make_steps.Goals as goal
+
+-- src/lib.rt:286:36
+pub loop-i-init : goal.loop-i-init
+loop-i-init c = let a = c.args in
+    let n = none_made a.recording.now a.j.report (world_of a.table.now a.occupancy.now a.yard.now) a.list.now in
+    (omega arith, refl, refl, refl, n.0, n.1)
+
+-- src/lib.rt:288:9
+pub make_step-number-requires : goal.make_step-number-requires
+make_step-number-requires c = c.requires.0
+
+-- src/lib.rt:273:1
+pub loop-i-preserved : goal.loop-i-preserved
+loop-i-preserved c = let a = c.args in
+    let l = c.loop-i in
+    let w₀ = world_of a.table.now a.occupancy.now a.yard.now in
+    let m = c.make_step-number.ensures in
+    let e = c.step_at-s.ensures in (
+      omega (arith, l.invariant.0, l.invariant.1, c.loop-i-test.true),
+      omega (arith, length-set l.list l.i c.make_step-number.result, l.invariant.1),
+      search rules,
+      search rules,
+      world-turn a.recording.now a.j.report w₀ a.table.now l.occupancy l.yard l.i l.invariant.4 _ _ _ _ e m,
+      numbers-turn a.recording.now a.j.report w₀ a.table.now l.occupancy l.yard l.i l.invariant.4 _ _ _ _ e m l.list (omega (arith, c.loop-i-test.true)) l.invariant.5,
+    )
+
+pub returns : goal.returns
+returns c = let a = c.args in
+    let l = c.loop-i in
+    all_made a.recording.now a.j.report a.table.now a.occupancy.now a.yard.now a.list.now l.occupancy l.yard l.list l.i (omega (arith, l.invariant.0, l.invariant.1, c.loop-i-test.false)) l.invariant.1 l.invariant.4 l.invariant.5
+
