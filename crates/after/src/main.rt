@@ -2,9 +2,12 @@
 // At most 65,537 bytes are read: a longer input is refused by 17 as those are.
 #![tactic(auto)]
 
-ghost use Rattle.std.specs.Prelude.{◌≡◌, length};
+ghost use Rattle.std.specs.Prelude.{◌≡◌, ◌<◌, length, take, IfOk};
+ghost use Rattle.std.specs.Io.{ReadsAtMost};
+ghost use Rattle.std.specs.Io.KnownBytes.{Consumes, IsAtEnd};
 
-use libc::{STDERR_FILENO, STDIN_FILENO, STDOUT_FILENO};
+use std::io;
+use std::io::Read;
 use yard_check::check::Answer;
 
 fn input_room() -> [u8; 65537]
@@ -19,35 +22,48 @@ fn report_room() -> [u8; 1260]
     [0u8; 1260]
 }
 
-// Was all of it written?
-fn print_left(bundle: &[u8], report: &[u8]) -> bool {
-    if io::write_all(STDOUT_FILENO, bundle) {
-        return io::write_all(STDOUT_FILENO, report);
+// Reads until the room is full or the input ends, and says how many bytes there are.
+fn read_full<R: Read>(input: &mut R, room: &mut [u8]) -> io::Result<usize>
+    ensures within { ReadsAtMost result room.new }
+    ensures bytes { IfOk result
+        (λ n. Consumes (R.remaining input.old) (R.remaining input.new) (take n room.new)) }
+    ensures end { IfOk result (λ n. n < length room.old → IsAtEnd (R.remaining input.new)) }
+{
+    let mut got = 0;
+    while got < room.len() {
+        let n = input.read(&mut room[got..])?;
+        if n == 0 {
+            return Ok(got);
+        }
+        got += n;
     }
-    false
+    Ok(got)
 }
 
-fn print_refused(number: u16) -> bool {
-    io::write_all(STDOUT_FILENO, b"refused ");
-    io::print_decimal(STDOUT_FILENO, number as u64);
-    io::write_all(STDOUT_FILENO, b"\n")
+fn print_left(rt: &impl Print, bundle: &[u8], report: &[u8]) -> io::Result<()> {
+    rt.write_all(bundle)?;
+    rt.write_all(report)
 }
 
-fn check_and_print(bundle: &mut [u8], report: &mut [u8]) -> bool {
+fn print_refused(rt: &impl Print, number: u16) -> io::Result<()> {
+    println!(rt; "refused {number}")
+}
+
+fn check_and_print(rt: &impl Print, bundle: &mut [u8], report: &mut [u8]) -> io::Result<()> {
     match bundle_check::check_bundle(bundle, report) {
-        Answer::Refused(r) => print_refused(r.number),
-        Answer::Erred(n) => print_left(bundle, report),
-        Answer::Done { deadlock, next } => print_left(bundle, report),
+        Answer::Refused(r) => print_refused(rt, r.number),
+        Answer::Erred(_) => print_left(rt, bundle, report),
+        Answer::Done { .. } => print_left(rt, bundle, report),
     }
 }
 
-fn main() {
+fn main(rt: HostRuntime) -> io::Result<()> {
     let mut bundle = input_room();
     let mut report = report_room();
-    let got = io::read_full(STDIN_FILENO, &mut bundle);
+    let got = read_full(&mut rt.reader(), &mut bundle)?;
     let rows = bundle_check::report_length(&bundle[..got]);
-    if check_and_print(&mut bundle[..got], &mut report[..rows]) {
-        return;
+    if check_and_print(&rt, &mut bundle[..got], &mut report[..rows]).is_ok() {
+        return Ok(());
     }
-    io::write_all(STDERR_FILENO, b"after: standard output cannot be written\n");
+    rt.eprintln("after: standard output cannot be written")
 }

@@ -2,24 +2,31 @@
 use crate::{case, indexed, print, recorded};
 use link_rules::link_idx::{NarrowTrainIdx, TrainIdx};
 use link_rules::octets;
+use std::io;
 use yard_check::check;
 use yard_check::check::{Answer, Args};
 
-pub(crate) fn answer(head: &[u8], body: &[u8], sums: bool) -> bool {
+pub(crate) fn answer(rt: &impl Print, head: &[u8], body: &[u8], sums: bool) -> io::Result<()> {
     let mut room = case::no_bytes();
     let n = case::first_input(head, body).len();
     if 65536 < n {
-        return print::unread();
+        return print::unread(rt);
     }
-    answer_on(head, body, &mut room[..n], sums)
+    answer_on(rt, head, body, &mut room[..n], sums)
 }
 
-fn answer_on(head: &[u8], body: &[u8], yard: &mut [u8], sums: bool) -> bool {
+fn answer_on(
+    rt: &impl Print,
+    head: &[u8],
+    body: &[u8],
+    yard: &mut [u8],
+    sums: bool,
+) -> io::Result<()> {
     octets::put_bytes(yard, 0, case::first_input(head, body));
     if is_wide(case::operation(head)) {
-        return answer_wide(head, body, yard, sums);
+        return answer_wide(rt, head, body, yard, sums);
     }
-    answer_narrow(head, body, yard, sums)
+    answer_narrow(rt, head, body, yard, sums)
 }
 
 // Is it a check over u32 entries?
@@ -71,58 +78,80 @@ fn report_of<'a>(head: &[u8], body: &'a [u8]) -> &'a [u8] {
     case::part(all, 0, all.len() - entries)
 }
 
-fn answer_narrow(head: &[u8], body: &[u8], yard: &mut [u8], sums: bool) -> bool {
+fn answer_narrow(
+    rt: &impl Print,
+    head: &[u8],
+    body: &[u8],
+    yard: &mut [u8],
+    sums: bool,
+) -> io::Result<()> {
     let mut room = case::no_trains();
     let n = case::second_input(head, body).len() / 2;
     if 8192 < n {
-        return print::unread();
+        return print::unread(rt);
     }
-    answer_over(head, body, yard, &mut room[..n], sums)
+    answer_over(rt, head, body, yard, &mut room[..n], sums)
 }
 
-fn answer_over(head: &[u8], body: &[u8], yard: &mut [u8], occ: &mut [u16], sums: bool) -> bool {
+fn answer_over(
+    rt: &impl Print,
+    head: &[u8],
+    body: &[u8],
+    yard: &mut [u8],
+    occ: &mut [u16],
+    sums: bool,
+) -> io::Result<()> {
     case::u16s(occ, case::second_input(head, body), 0, 2);
-    answer_from(head, body, yard, occ, &[], sums)
+    answer_from(rt, head, body, yard, occ, &[], sums)
 }
 
-fn answer_wide(head: &[u8], body: &[u8], yard: &mut [u8], sums: bool) -> bool {
+fn answer_wide(
+    rt: &impl Print,
+    head: &[u8],
+    body: &[u8],
+    yard: &mut [u8],
+    sums: bool,
+) -> io::Result<()> {
     let mut room = case::no_links();
     let n = case::second_input(head, body).len() / 4;
     if 8192 < n {
-        return print::unread();
+        return print::unread(rt);
     }
-    answer_wide_over(head, body, yard, &mut room[..n], sums)
+    answer_wide_over(rt, head, body, yard, &mut room[..n], sums)
 }
 
 fn answer_wide_over(
+    rt: &impl Print,
     head: &[u8],
     body: &[u8],
     yard: &mut [u8],
     occ: &mut [u32],
     sums: bool,
-) -> bool {
+) -> io::Result<()> {
     case::u32s(occ, case::second_input(head, body));
-    answer_from(head, body, yard, &[], occ, sums)
+    answer_from(rt, head, body, yard, &[], occ, sums)
 }
 
 // From a yard and an occupancy that are there.
 pub(crate) fn answer_from(
+    rt: &impl Print,
     head: &[u8],
     body: &[u8],
     yard: &mut [u8],
     narrow: &[u16],
     wide: &[u32],
     sums: bool,
-) -> bool {
+) -> io::Result<()> {
     let mut room = case::no_links();
     let n = case::third_input(head, body).len() / 4;
     if 8192 < n {
-        return print::unread();
+        return print::unread(rt);
     }
-    answer_by(head, body, yard, narrow, wide, &mut room[..n], sums)
+    answer_by(rt, head, body, yard, narrow, wide, &mut room[..n], sums)
 }
 
 fn answer_by(
+    rt: &impl Print,
     head: &[u8],
     body: &[u8],
     yard: &mut [u8],
@@ -130,14 +159,15 @@ fn answer_by(
     wide: &[u32],
     blocking: &mut [u32],
     sums: bool,
-) -> bool {
+) -> io::Result<()> {
     case::u32s(blocking, case::third_input(head, body));
     let mut room = case::no_bytes();
     let n = report_of(head, body).len();
     if 65536 < n {
-        return print::unread();
+        return print::unread(rt);
     }
     answer_with(
+        rt,
         head,
         body,
         yard,
@@ -150,6 +180,7 @@ fn answer_by(
 }
 
 fn answer_with(
+    rt: &impl Print,
     head: &[u8],
     body: &[u8],
     yard: &mut [u8],
@@ -158,24 +189,20 @@ fn answer_with(
     blocking: &[u32],
     report: &mut [u8],
     sums: bool,
-) -> bool {
+) -> io::Result<()> {
     octets::put_bytes(report, 0, report_of(head, body));
     if is_indexed(case::operation(head)) {
-        return indexed::answer(head, body, yard, narrow, wide, blocking, report, sums);
+        return indexed::answer(rt, head, body, yard, narrow, wide, blocking, report, sums);
     }
     if is_recorded(case::operation(head)) {
-        return recorded::answer(head, yard, narrow, wide, blocking, report, sums);
+        return recorded::answer(rt, head, yard, narrow, wide, blocking, report, sums);
     }
-    if !print_answer(checked(head, yard, narrow, wide, blocking, report)) {
-        return false;
-    }
+    print_answer(rt, checked(head, yard, narrow, wide, blocking, report))?;
     if !sums {
-        return print::end();
+        return print::end(rt);
     }
-    if print::number(b" yard ", print::sum_of(yard)) {
-        return print::sum_line(b" report ", report);
-    }
-    false
+    print::number(rt, " yard ", print::sum_of(yard))?;
+    print::sum_line(rt, " report ", report)
 }
 
 fn checked(
@@ -198,11 +225,11 @@ fn checked(
     )
 }
 
-pub(crate) fn print_answer(answer: Answer) -> bool {
+pub(crate) fn print_answer(rt: &impl Print, answer: Answer) -> io::Result<()> {
     match answer {
-        Answer::Refused(r) => print::refused(r),
-        Answer::Erred(n) => print::number(b"erred ", n as u64),
-        Answer::Done { deadlock, next } => print_done(deadlock, next),
+        Answer::Refused(r) => print::refused(rt, r),
+        Answer::Erred(n) => print::number(rt, "erred ", n as u64),
+        Answer::Done { deadlock, next } => print_done(rt, deadlock, next),
     }
 }
 
@@ -228,9 +255,9 @@ fn begin_of(n: u32) -> u16 {
     n as u16
 }
 
-fn print_done(deadlock: bool, next: u16) -> bool {
+fn print_done(rt: &impl Print, deadlock: bool, next: u16) -> io::Result<()> {
     if deadlock {
-        return print::number(b"deadlock yes next ", next as u64);
+        return print::number(rt, "deadlock yes next ", next as u64);
     }
-    print::number(b"deadlock no next ", next as u64)
+    print::number(rt, "deadlock no next ", next as u64)
 }

@@ -2,43 +2,46 @@
 use crate::{case, print};
 use link_index;
 use link_rules::refusal::Refusal;
+use std::io;
 
-pub(crate) fn answer(head: &[u8], body: &[u8], sums: bool) -> bool {
+pub(crate) fn answer(rt: &impl Print, head: &[u8], body: &[u8], sums: bool) -> io::Result<()> {
     let mut room = case::no_entries();
     let n = case::second_input(head, body).len() / 8;
     if 8192 < n {
-        return print::unread();
+        return print::unread(rt);
     }
-    answer_in(head, body, &mut room[..n], sums)
+    answer_in(rt, head, body, &mut room[..n], sums)
 }
 
-fn answer_in(head: &[u8], body: &[u8], index: &mut [u64], sums: bool) -> bool {
+fn answer_in(
+    rt: &impl Print,
+    head: &[u8],
+    body: &[u8],
+    index: &mut [u64],
+    sums: bool,
+) -> io::Result<()> {
     case::u64s(index, case::second_input(head, body));
     let f = link_index::build_index(case::first_input(head, body), index);
     if sums {
-        return print_sum(f, index);
+        return print_sum(rt, f, index);
     }
     if f.number == 0 {
-        return print_index(index);
+        return print_index(rt, index);
     }
-    if print::refused(f) {
-        return print::end();
-    }
-    false
+    print::refused(rt, f)?;
+    print::end(rt)
 }
 
-fn print_sum(f: Refusal, index: &[u64]) -> bool {
-    if print::fault(f) {
-        return print::number_line(b" index ", print::sum_of_u64s(index));
-    }
-    false
+fn print_sum(rt: &impl Print, f: Refusal, index: &[u64]) -> io::Result<()> {
+    print::fault(rt, f)?;
+    print::number_line(rt, " index ", print::sum_of_u64s(index))
 }
 
-fn print_index(index: &[u64]) -> bool {
+fn print_index(rt: &impl Print, index: &[u64]) -> io::Result<()> {
     if is_empty(index) {
-        return print::line(b"no train runs over a link");
+        return print::line(rt, "no train runs over a link");
     }
-    print_links(index)
+    print_links(rt, index)
 }
 
 fn is_empty(index: &[u64]) -> bool {
@@ -52,48 +55,34 @@ fn is_empty(index: &[u64]) -> bool {
     true
 }
 
-fn print_links(index: &[u64]) -> bool {
-    let mut i = 0;
-    while i < index.len() {
-        if !print_link(i, index[i]) {
-            return false;
-        }
-        i += 1;
+fn print_links(rt: &impl Print, index: &[u64]) -> io::Result<()> {
+    for (i, entry) in index.iter().enumerate() {
+        print_link(rt, i, *entry)?;
     }
-    true
+    Ok(())
 }
 
 // A link over which no train runs has no line.
-fn print_link(link: usize, entry: u64) -> bool {
+fn print_link(rt: &impl Print, link: usize, entry: u64) -> io::Result<()> {
     if entry == 0 {
-        return true;
+        return Ok(());
     }
-    if !print::number(b"link ", link as u64) {
-        return false;
-    }
-    if !print::bytes(b" trains") {
-        return false;
-    }
-    if print_trains(entry) {
-        return print::end();
-    }
-    false
+    print::number(rt, "link ", link as u64)?;
+    rt.print(" trains")?;
+    print_trains(rt, entry)?;
+    print::end(rt)
 }
 
-fn print_trains(entry: u64) -> bool {
-    let mut t: u32 = 0;
-    while t < 64 {
-        if !print_train(t, (entry >> t) % 2 == 1) {
-            return false;
-        }
-        t += 1;
+fn print_trains(rt: &impl Print, entry: u64) -> io::Result<()> {
+    for t in 0..64u32 {
+        print_train(rt, t, (entry >> t) % 2 == 1)?;
     }
-    true
+    Ok(())
 }
 
-fn print_train(train: u32, runs: bool) -> bool {
+fn print_train(rt: &impl Print, train: u32, runs: bool) -> io::Result<()> {
     if runs {
-        return print::number(b" ", train as u64);
+        return print::number(rt, " ", train as u64);
     }
-    true
+    Ok(())
 }

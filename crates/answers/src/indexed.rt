@@ -3,11 +3,13 @@ use crate::{case, check, lay_out, print};
 use link_index::{checks, layout, undoing};
 use link_rules::link_idx::TrainIdx;
 use link_rules::octets;
+use std::io;
 use yard_check::check::{Answer, Args};
 
 // ---- a check, from buffers that are there; the occupancy of the other width is empty, and the index stands behind the report
 
 pub(crate) fn answer(
+    rt: &impl Print,
     head: &[u8],
     body: &[u8],
     yard: &mut [u8],
@@ -16,13 +18,14 @@ pub(crate) fn answer(
     blocking: &[u32],
     report: &mut [u8],
     sums: bool,
-) -> bool {
+) -> io::Result<()> {
     let mut room = case::no_entries();
     let n = case::argument(head, 5) as usize;
     if 8192 < n {
-        return print::unread();
+        return print::unread(rt);
     }
     answer_beside(
+        rt,
         head,
         body,
         yard,
@@ -36,6 +39,7 @@ pub(crate) fn answer(
 }
 
 fn answer_beside(
+    rt: &impl Print,
     head: &[u8],
     body: &[u8],
     yard: &mut [u8],
@@ -45,26 +49,28 @@ fn answer_beside(
     report: &mut [u8],
     index: &mut [u64],
     sums: bool,
-) -> bool {
+) -> io::Result<()> {
     let entries = 8 * (case::argument(head, 5) as usize);
     case::u64s(
         index,
         case::part(case::fourth_input(head, body), report.len(), entries),
     );
     if check::is_recorded(case::operation(head)) {
-        return answer_recorded(head, yard, narrow, wide, blocking, report, index, sums);
+        return answer_recorded(rt, head, yard, narrow, wide, blocking, report, index, sums);
     }
-    if !check::print_answer(checked(head, yard, narrow, wide, blocking, report, index)) {
-        return false;
-    }
+    check::print_answer(
+        rt,
+        checked(head, yard, narrow, wide, blocking, report, index),
+    )?;
     if !sums {
-        return print::end();
+        return print::end(rt);
     }
-    print_left(yard, report, &[], false, index)
+    print_left(rt, yard, report, &[], false, index)
 }
 
 // The record has as many bytes as argument 4 says, and is lent with zeros.
 fn answer_recorded(
+    rt: &impl Print,
     head: &[u8],
     yard: &mut [u8],
     narrow: &[u16],
@@ -73,13 +79,14 @@ fn answer_recorded(
     report: &mut [u8],
     index: &mut [u64],
     sums: bool,
-) -> bool {
+) -> io::Result<()> {
     let mut room = case::no_bytes();
     let n = case::argument(head, 4) as usize;
     if 65536 < n {
-        return print::unread();
+        return print::unread(rt);
     }
     answer_into(
+        rt,
         head,
         yard,
         narrow,
@@ -93,6 +100,7 @@ fn answer_recorded(
 }
 
 fn answer_into(
+    rt: &impl Print,
     head: &[u8],
     yard: &mut [u8],
     narrow: &[u16],
@@ -102,7 +110,7 @@ fn answer_into(
     undo_record: &mut [u8],
     index: &mut [u64],
     sums: bool,
-) -> bool {
+) -> io::Result<()> {
     let answer = recorded(
         head,
         yard,
@@ -113,35 +121,28 @@ fn answer_into(
         undo_record,
         index,
     );
-    if !check::print_answer(answer) {
-        return false;
-    }
+    check::print_answer(rt, answer)?;
     if !sums {
-        return print::end();
+        return print::end(rt);
     }
-    print_left(yard, report, undo_record, true, index)
+    print_left(rt, yard, report, undo_record, true, index)
 }
 
 // What is left of each buffer; the record only of a check that fills one.
 fn print_left(
+    rt: &impl Print,
     yard: &[u8],
     report: &[u8],
     undo_record: &[u8],
     is_recorded: bool,
     index: &[u64],
-) -> bool {
-    if !print::number(b" yard ", print::sum_of(yard)) {
-        return false;
-    }
-    if !print::number(b" report ", print::sum_of(report)) {
-        return false;
-    }
+) -> io::Result<()> {
+    print::number(rt, " yard ", print::sum_of(yard))?;
+    print::number(rt, " report ", print::sum_of(report))?;
     if is_recorded {
-        if !print::number(b" record ", print::sum_of(undo_record)) {
-            return false;
-        }
+        print::number(rt, " record ", print::sum_of(undo_record))?;
     }
-    print::number_line(b" index ", print::sum_of_u64s(index))
+    print::number_line(rt, " index ", print::sum_of_u64s(index))
 }
 
 fn checked(
@@ -207,74 +208,102 @@ fn recorded(
 
 // ---- a layout, its arguments as without an index, and an undo; the index is the third input
 
-pub(crate) fn answer_lay_out(head: &[u8], body: &[u8], sums: bool) -> bool {
+pub(crate) fn answer_lay_out(
+    rt: &impl Print,
+    head: &[u8],
+    body: &[u8],
+    sums: bool,
+) -> io::Result<()> {
     let mut room = case::no_bytes();
     let n = case::second_input(head, body).len();
     if 65536 < n {
-        return print::unread();
+        return print::unread(rt);
     }
-    lay_out_in(head, body, &mut room[..n], sums)
+    lay_out_in(rt, head, body, &mut room[..n], sums)
 }
 
-fn lay_out_in(head: &[u8], body: &[u8], image: &mut [u8], sums: bool) -> bool {
+fn lay_out_in(
+    rt: &impl Print,
+    head: &[u8],
+    body: &[u8],
+    image: &mut [u8],
+    sums: bool,
+) -> io::Result<()> {
     octets::put_bytes(image, 0, case::second_input(head, body));
     let mut room = case::no_entries();
     let n = case::third_input(head, body).len() / 8;
     if 8192 < n {
-        return print::unread();
+        return print::unread(rt);
     }
-    lay_out_beside(head, body, image, &mut room[..n], sums)
+    lay_out_beside(rt, head, body, image, &mut room[..n], sums)
 }
 
 fn lay_out_beside(
+    rt: &impl Print,
     head: &[u8],
     body: &[u8],
     image: &mut [u8],
     index: &mut [u64],
     sums: bool,
-) -> bool {
+) -> io::Result<()> {
     case::u64s(index, case::third_input(head, body));
     let settings = lay_out::settings_of(head);
     let est = case::first_input(head, body);
-    if !print::answer(layout::lay_out_indexed(est, settings, image, index)) {
-        return false;
-    }
-    print_two(b" image ", image, index, sums)
+    print::answer(rt, layout::lay_out_indexed(est, settings, image, index))?;
+    print_two(rt, " image ", image, index, sums)
 }
 
-pub(crate) fn answer_undo(head: &[u8], body: &[u8], sums: bool) -> bool {
+pub(crate) fn answer_undo(rt: &impl Print, head: &[u8], body: &[u8], sums: bool) -> io::Result<()> {
     let mut room = case::no_bytes();
     let n = case::first_input(head, body).len();
     if 65536 < n {
-        return print::unread();
+        return print::unread(rt);
     }
-    undo_on(head, body, &mut room[..n], sums)
+    undo_on(rt, head, body, &mut room[..n], sums)
 }
 
-fn undo_on(head: &[u8], body: &[u8], yard: &mut [u8], sums: bool) -> bool {
+fn undo_on(
+    rt: &impl Print,
+    head: &[u8],
+    body: &[u8],
+    yard: &mut [u8],
+    sums: bool,
+) -> io::Result<()> {
     octets::put_bytes(yard, 0, case::first_input(head, body));
     let mut room = case::no_entries();
     let n = case::third_input(head, body).len() / 8;
     if 8192 < n {
-        return print::unread();
+        return print::unread(rt);
     }
-    undo_beside(head, body, yard, &mut room[..n], sums)
+    undo_beside(rt, head, body, yard, &mut room[..n], sums)
 }
 
-fn undo_beside(head: &[u8], body: &[u8], yard: &mut [u8], index: &mut [u64], sums: bool) -> bool {
+fn undo_beside(
+    rt: &impl Print,
+    head: &[u8],
+    body: &[u8],
+    yard: &mut [u8],
+    index: &mut [u64],
+    sums: bool,
+) -> io::Result<()> {
     case::u64s(index, case::third_input(head, body));
-    if !print::answer(undoing::undo_indexed(yard, case::second_input(head, body), index)) {
-        return false;
-    }
-    print_two(b" yard ", yard, index, sums)
+    print::answer(
+        rt,
+        undoing::undo_indexed(yard, case::second_input(head, body), index),
+    )?;
+    print_two(rt, " yard ", yard, index, sums)
 }
 
-fn print_two(words: &[u8], bytes: &[u8], index: &[u64], sums: bool) -> bool {
+fn print_two(
+    rt: &impl Print,
+    words: &str,
+    bytes: &[u8],
+    index: &[u64],
+    sums: bool,
+) -> io::Result<()> {
     if !sums {
-        return print::end();
+        return print::end(rt);
     }
-    if print::number(words, print::sum_of(bytes)) {
-        return print::number_line(b" index ", print::sum_of_u64s(index));
-    }
-    false
+    print::number(rt, words, print::sum_of(bytes))?;
+    print::number_line(rt, " index ", print::sum_of_u64s(index))
 }

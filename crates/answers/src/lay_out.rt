@@ -6,20 +6,28 @@ use disp_structs::{Metres, floats};
 use link_rules::link_idx::NarrowTrainIdx;
 use link_rules::octets;
 use link_rules::refusal::{Answer, Refusal};
+use std::io;
 use train_disp::Settings;
 
-pub(crate) fn answer(head: &[u8], body: &[u8], sums: bool) -> bool {
+pub(crate) fn answer(rt: &impl Print, head: &[u8], body: &[u8], sums: bool) -> io::Result<()> {
     let mut room = case::no_bytes();
     let n = case::second_input(head, body).len();
     if 65536 < n {
-        return print::unread();
+        return print::unread(rt);
     }
-    answer_in(head, body, &mut room[..n], sums)
+    answer_in(rt, head, body, &mut room[..n], sums)
 }
 
-fn answer_in(head: &[u8], body: &[u8], image: &mut [u8], sums: bool) -> bool {
+fn answer_in(
+    rt: &impl Print,
+    head: &[u8],
+    body: &[u8],
+    image: &mut [u8],
+    sums: bool,
+) -> io::Result<()> {
     octets::put_bytes(image, 0, case::second_input(head, body));
     print_written(
+        rt,
         written(head, case::first_input(head, body), image),
         image,
         sums,
@@ -57,14 +65,12 @@ fn laid_out(head: &[u8], ests: &[u8], image: &mut [u8]) -> Refusal {
     }
 }
 
-fn print_written(f: Refusal, image: &[u8], sums: bool) -> bool {
-    if !print::fault(f) {
-        return false;
-    }
+fn print_written(rt: &impl Print, f: Refusal, image: &[u8], sums: bool) -> io::Result<()> {
+    print::fault(rt, f)?;
     if sums {
-        return print::sum_line(b" image ", image);
+        return print::sum_line(rt, " image ", image);
     }
-    print::end()
+    print::end(rt)
 }
 
 // A float from the halves of its pattern; a NaN's becomes one that is not finite, which 7 refuses as well.

@@ -10,6 +10,7 @@ use free_path::{columns, link_opt_type, train_idxs_view};
 use image::codec;
 use link_rules::link_idx::{LinkIdx, TrainIdx};
 use link_rules::octets;
+use std::io;
 use validate::step;
 
 const CLASS: u32 = 6;
@@ -25,52 +26,46 @@ const NEAR: u32 = 10;
 const STEP: u32 = 11;
 
 // A call that is no leaf either cannot be read.
-pub(crate) fn answer(head: &[u8], body: &[u8], sums: bool) -> bool {
+pub(crate) fn answer(rt: &impl Print, head: &[u8], body: &[u8], sums: bool) -> io::Result<()> {
     let op = case::operation(head);
     if op == CLASS {
-        return answer_class(head, body);
+        return answer_class(rt, head, body);
     }
     if op == SENTINELS {
-        return answer_sentinels(head, body);
+        return answer_sentinels(rt, head, body);
     }
     if op == INTERSECT {
-        return answer_intersection(head, body);
+        return answer_intersection(rt, head, body);
     }
     if op == UNION {
-        return answer_union(head, body, sums);
+        return answer_union(rt, head, body, sums);
     }
     if op == NEAR {
-        return answer_near(head);
+        return answer_near(rt, head);
     }
     if op == STEP {
-        return answer_step(head, body);
+        return answer_step(rt, head, body);
     }
-    print::unread()
+    print::unread(rt)
 }
 
 // The three numbers of an answer.
-fn print_numbers(x: u32, y: usize, z: usize) -> bool {
-    if !print::number(b"", x as u64) {
-        return false;
-    }
-    if !print::number(b" ", y as u64) {
-        return false;
-    }
-    print::number(b" ", z as u64)
+fn print_numbers(rt: &impl Print, x: u32, y: usize, z: usize) -> io::Result<()> {
+    print::number(rt, "", x as u64)?;
+    print::number(rt, " ", y as u64)?;
+    print::number(rt, " ", z as u64)
 }
 
-fn print_line(x: u32, y: usize, z: usize) -> bool {
-    if print_numbers(x, y, z) {
-        return print::end();
-    }
-    false
+fn print_line(rt: &impl Print, x: u32, y: usize, z: usize) -> io::Result<()> {
+    print_numbers(rt, x, y, z)?;
+    print::end(rt)
 }
 
-fn print_flag(flag: bool) -> bool {
+fn print_flag(rt: &impl Print, flag: bool) -> io::Result<()> {
     if flag {
-        return print_line(1, 0, 0);
+        return print_line(rt, 1, 0, 0);
     }
-    print_line(0, 0, 0)
+    print_line(rt, 0, 0, 0)
 }
 
 // ---- room for columns
@@ -112,48 +107,54 @@ fn trains_in(bytes: &[u8], first: usize, step: usize) -> [u32; 4096]
 
 // ---- class
 
-fn answer_class(head: &[u8], body: &[u8]) -> bool {
+fn answer_class(rt: &impl Print, head: &[u8], body: &[u8]) -> io::Result<()> {
     let mut path = no_links();
     let mut flags = no_flags();
     let on = case::first_input(head, body);
     case::u32s(&mut path, on);
     columns::flag_links(&mut flags, &path, on.len() / 4);
-    answer_class_on(head, body, &flags)
+    answer_class_on(rt, head, body, &flags)
 }
 
-fn answer_class_on(head: &[u8], body: &[u8], on: &[u8]) -> bool {
+fn answer_class_on(rt: &impl Print, head: &[u8], body: &[u8], on: &[u8]) -> io::Result<()> {
     let mut list = no_links();
     let n = case::second_input(head, body).len() / 4;
     if 4096 < n {
-        return print::unread();
+        return print::unread(rt);
     }
-    answer_class_in(head, body, on, &mut list[..n])
+    answer_class_in(rt, head, body, on, &mut list[..n])
 }
 
-fn answer_class_in(head: &[u8], body: &[u8], on: &[u8], blocking: &mut [u32]) -> bool {
+fn answer_class_in(
+    rt: &impl Print,
+    head: &[u8],
+    body: &[u8],
+    on: &[u8],
+    blocking: &mut [u32],
+) -> io::Result<()> {
     case::u32s(blocking, case::second_input(head, body));
-    print_class(LinkOptType::new(blocking, on))
+    print_class(rt, LinkOptType::new(blocking, on))
 }
 
-fn print_class(class: LinkOptType) -> bool {
+fn print_class(rt: &impl Print, class: LinkOptType) -> io::Result<()> {
     match class {
-        LinkOptType::None => print_line(0, 0, 0),
-        LinkOptType::Single(l) => print_line(1, l.0 as usize, 0),
-        LinkOptType::Range(low, span) => print_line(2, low as usize, span as usize),
-        LinkOptType::Check => print_line(3, 0, 0),
+        LinkOptType::None => print_line(rt, 0, 0, 0),
+        LinkOptType::Single(l) => print_line(rt, 1, l.0 as usize, 0),
+        LinkOptType::Range(low, span) => print_line(rt, 2, low as usize, span as usize),
+        LinkOptType::Check => print_line(rt, 3, 0, 0),
     }
 }
 
 // ---- sentinels
 
-fn answer_sentinels(head: &[u8], body: &[u8]) -> bool {
+fn answer_sentinels(rt: &impl Print, head: &[u8], body: &[u8]) -> io::Result<()> {
     let divs = case::first_input(head, body);
     let trains = trains_in(divs, 0, 4);
     let nodes = trains_in(divs, 2, 4);
     let i = case::argument(head, 0) as usize;
     let moved = TrainIdx(case::argument(head, 1) % 65536);
     let r = link_opt_type::calc_idx_sentinels(i, moved, &trains, &nodes, divs.len() / 4);
-    print_line(r.code, r.node, r.divs)
+    print_line(rt, r.code, r.node, r.divs)
 }
 
 // ---- intersection
@@ -172,7 +173,7 @@ fn class_in(head: &[u8]) -> LinkOptType {
     LinkOptType::Check
 }
 
-fn answer_intersection(head: &[u8], body: &[u8]) -> bool {
+fn answer_intersection(rt: &impl Print, head: &[u8], body: &[u8]) -> io::Result<()> {
     let mut path = no_links();
     let links = case::first_input(head, body);
     case::u32s(&mut path, links);
@@ -181,7 +182,7 @@ fn answer_intersection(head: &[u8], body: &[u8]) -> bool {
     let sentinel = case::argument(head, 1) as usize;
     let n = links.len() / 4;
     let r = link_opt_type::find_train_intersect(split, sentinel, class_in(head), &path, n, &occ);
-    print_line(r.code, r.idx, r.met.0 as usize)
+    print_line(rt, r.code, r.idx, r.met.0 as usize)
 }
 
 // ---- union
@@ -193,20 +194,21 @@ fn view_in(head: &[u8], i: u32, j: u32) -> TrainIdxsView {
     }
 }
 
-fn answer_union(head: &[u8], body: &[u8], sums: bool) -> bool {
+fn answer_union(rt: &impl Print, head: &[u8], body: &[u8], sums: bool) -> io::Result<()> {
     let mut narrow = no_pool();
     let mut pool = [0u32; 2048];
-    answer_union_in(head, body, &mut narrow, &mut pool, sums)
+    answer_union_in(rt, head, body, &mut narrow, &mut pool, sums)
 }
 
 // What is printed of the pool is the column of u16 numbers.
 fn answer_union_in(
+    rt: &impl Print,
     head: &[u8],
     body: &[u8],
     narrow: &mut [u16],
     pool: &mut [u32],
     sums: bool,
-) -> bool {
+) -> io::Result<()> {
     let was = case::first_input(head, body);
     case::u16s(narrow, was, 0, 2);
     columns::widen(narrow, pool);
@@ -214,7 +216,7 @@ fn answer_union_in(
     let w = view_in(head, 2, 3);
     let r = train_idxs_view::concat_train_idx_views(pool, was.len() / 2, v, w);
     narrowed(narrow, pool);
-    print_union(narrow, r, sums)
+    print_union(rt, narrow, r, sums)
 }
 
 // The low 16 bits of each number.
@@ -227,26 +229,24 @@ fn narrowed(to: &mut [u16], from: &[u32]) {
 }
 
 // Of a refused union the pool is of no account.
-fn print_union(pool: &[u16], r: Union, sums: bool) -> bool {
+fn print_union(rt: &impl Print, pool: &[u16], r: Union, sums: bool) -> io::Result<()> {
     if r.code != 0 {
-        return print_line(r.code, 0, 0);
+        return print_line(rt, r.code, 0, 0);
     }
-    if !print_numbers(0, r.view.idx_begin as usize, r.view.idx_end as usize) {
-        return false;
-    }
+    print_numbers(rt, 0, r.view.idx_begin as usize, r.view.idx_end as usize)?;
     if sums {
-        return print::number_line(b" pool ", print::sum_of_u16s(pool, r.len));
+        return print::number_line(rt, " pool ", print::sum_of_u16s(pool, r.len));
     }
-    print::end()
+    print::end(rt)
 }
 
 // ---- near, and the error of a step
 
 // The arguments are the halves of two patterns.
-fn answer_near(head: &[u8]) -> bool {
+fn answer_near(rt: &impl Print, head: &[u8]) -> io::Result<()> {
     let a = floats::real_of(octets::u64_at(head, 16));
     let b = floats::real_of(octets::u64_at(head, 24));
-    print_flag(floats::near(a, b))
+    print_flag(rt, floats::near(a, b))
 }
 
 fn node(est: u32, offset: u64) -> DispNode {
@@ -262,10 +262,13 @@ fn node(est: u32, offset: u64) -> DispNode {
     }
 }
 
-fn answer_step(head: &[u8], body: &[u8]) -> bool {
+fn answer_step(rt: &impl Print, head: &[u8], body: &[u8]) -> io::Result<()> {
     let offsets = case::first_input(head, body);
     let est = case::second_input(head, body);
     let a = node(case::argument(head, 0), octets::u64_at(offsets, 0));
     let b = node(case::argument(head, 1), octets::u64_at(offsets, 8));
-    print_flag(step::bad_step(a, b, codec::est_in(est, 0), codec::est_in(est, 1)))
+    print_flag(
+        rt,
+        step::bad_step(a, b, codec::est_in(est, 0), codec::est_in(est, 1)),
+    )
 }

@@ -3,7 +3,9 @@
 // Behind the argument `--sums` each case has a line of its own, with a checksum of each buffer that its call left: what the oracle prints of the same cases.
 #![tactic(auto)]
 
-ghost use Rattle.std.specs.Prelude.{◌≡◌, length};
+ghost use Rattle.std.specs.Prelude.{◌≡◌, ◌<◌, length, take, IfOk};
+ghost use Rattle.std.specs.Io.{ReadsAtMost};
+ghost use Rattle.std.specs.Io.KnownBytes.{Consumes, IsAtEnd};
 
 mod act;
 mod carried;
@@ -25,99 +27,68 @@ mod view;
 
 use ceiling;
 use ceiling::StepCeiling;
-use libc::STDERR_FILENO;
+use std::env::Args;
+use std::fs::File;
+use std::io::Read;
+use std::rt::Files;
+use std::{env, io};
 use track_profile;
-use yard_check::bytes;
 
-fn main() {
-    if answer_arguments() {
-        return;
+fn main(rt: HostRuntime) -> io::Result<()> {
+    let words = env::args(&rt)?;
+    if answer_arguments(&rt, words).is_ok() {
+        return Ok(());
     }
-    io::write_all(
-        STDERR_FILENO,
-        b"answers: standard output cannot be written\n",
-    );
+    rt.eprintln("answers: standard output cannot be written")
 }
 
-// How an argument leaves the run: are checksums asked for, and was all written?
-#[derive(Clone, Copy)]
-struct Run {
-    sums: bool,
-    written: bool,
-}
-
-// Was all of it written? As soon as something is not, no more is.
-fn answer_arguments() -> bool {
-    let count = os::arg_count();
+// The first word is the program's own name. As soon as something cannot be written, no more is.
+fn answer_arguments(rt: &(impl Files + Print), words: Args) -> io::Result<()> {
     let mut sums = false;
-    let mut i: usize = 1;
-    while i < count {
-        let run = answer_argument(i, sums);
-        if !run.written {
-            return false;
-        }
-        sums = run.sums;
-        i += 1;
+    for word in words.skip(1) {
+        sums = answer_argument(rt, word.as_str(), sums)?;
     }
-    true
+    Ok(())
 }
 
-fn answer_argument(i: usize, sums: bool) -> Run {
-    let mut word = io::buffer();
-    let n = os::arg(i, &mut word);
-    if bytes::same_bytes(&word[..n], b"--sums") {
-        return Run {
-            sums: true,
-            written: true,
-        };
+// Are checksums asked for behind this argument?
+fn answer_argument(rt: &(impl Files + Print), word: &str, sums: bool) -> io::Result<bool> {
+    if word == "--sums" {
+        return Ok(true);
     }
-    Run {
-        sums: sums,
-        written: answer_file(&word[..n], sums),
+    answer_file(rt, word, sums)?;
+    Ok(sums)
+}
+
+fn answer_file(rt: &(impl Files + Print), name: &str, sums: bool) -> io::Result<()> {
+    print::line(rt, name)?;
+    match File::open(rt, name) {
+        Ok(mut file) => answer_cases(rt, &mut file, sums),
+        Err(_) => print::unread(rt),
     }
 }
 
-fn answer_file(name: &[u8], sums: bool) -> bool {
-    if !print::line(name) {
-        return false;
-    }
-    let fd = os::open_read(name);
-    if fd < 0 {
-        return print::unread();
-    }
-    let written = answer_cases(fd, sums);
-    libc::close(fd);
-    written
-}
-
-// What stands next in a file: a case, whose answer was written or not, or nothing more that can be read.
+// What stands next in a file: a case, which is answered, or nothing more that can be read.
 #[derive(Clone, Copy)]
-struct Next {
-    written: bool,
-    ended: bool,
+enum Next {
+    Case,
+    End,
 }
 
-fn ended(written: bool) -> Next {
-    Next {
-        written: written,
-        ended: true,
-    }
+fn ended(written: io::Result<()>) -> io::Result<Next> {
+    written?;
+    Ok(Next::End)
 }
 
 // A proved loop has to end, and nothing says that a file does: a million cases are more than a file has.
-fn answer_cases(fd: i32, sums: bool) -> bool {
-    let mut number: u32 = 0;
-    while number < 1000000 {
-        let next = answer_next(fd, number, sums);
-        if !next.written {
-            return false;
+fn answer_cases(rt: &impl Print, file: &mut impl Read, sums: bool) -> io::Result<()> {
+    for number in 0..1000000 {
+        match answer_next(rt, file, number, sums)? {
+            Next::Case => {}
+            Next::End => return Ok(()),
         }
-        if next.ended {
-            return true;
-        }
-        number += 1;
     }
-    true
+    Ok(())
 }
 
 // Room for the buffers of a case: a bundle that is too long is refused, and still a call.
@@ -127,143 +98,168 @@ fn room() -> [u8; 262144]
     [0u8; 262144]
 }
 
+// Reads until the room is full or the input ends, and says how many bytes there are.
+fn read_full<R: Read>(input: &mut R, room: &mut [u8]) -> io::Result<usize>
+    ensures within { ReadsAtMost result room.new }
+    ensures bytes { IfOk result
+        (λ n. Consumes (R.remaining input.old) (R.remaining input.new) (take n room.new)) }
+    ensures end { IfOk result (λ n. n < length room.old → IsAtEnd (R.remaining input.new)) }
+{
+    let mut got = 0;
+    while got < room.len() {
+        let n = input.read(&mut room[got..])?;
+        if n == 0 {
+            return Ok(got);
+        }
+        got += n;
+    }
+    Ok(got)
+}
+
 // Reads one case and answers it.
-fn answer_next(fd: i32, number: u32, sums: bool) -> Next {
+fn answer_next(rt: &impl Print, file: &mut impl Read, number: u32, sums: bool) -> io::Result<Next> {
     let mut head = [0u8; 104];
     let mut body = room();
-    let got = io::read_full(fd, &mut head);
+    let Ok(got) = read_full(file, &mut head) else {
+        return ended(print::unread(rt));
+    };
     if got < 104 {
-        return ended_at(number, got);
+        return ended_at(rt, number, got);
     }
     if !case::is_whole(&head) {
-        return ended(print::unread());
+        return ended(print::unread(rt));
     }
     let size = case::body_size(&head);
     if 262144 < size {
-        return ended(print::unread());
+        return ended(print::unread(rt));
     }
-    answer_body(fd, &head, &mut body[..size], number, sums)
+    answer_body(rt, file, &head, &mut body[..size], number, sums)
 }
 
 // A file ends behind its last case; one without a case, or with part of a head, cannot be read.
-fn ended_at(number: u32, got: usize) -> Next {
+fn ended_at(rt: &impl Print, number: u32, got: usize) -> io::Result<Next> {
     if got != 0 {
-        return ended(print::unread());
+        return ended(print::unread(rt));
     }
     if number == 0 {
-        return ended(print::unread());
+        return ended(print::unread(rt));
     }
-    ended(true)
+    Ok(Next::End)
 }
 
-fn answer_body(fd: i32, head: &[u8], body: &mut [u8], number: u32, sums: bool) -> Next {
-    if io::read_full(fd, body) != body.len() {
-        return ended(print::unread());
+fn answer_body(
+    rt: &impl Print,
+    file: &mut impl Read,
+    head: &[u8],
+    body: &mut [u8],
+    number: u32,
+    sums: bool,
+) -> io::Result<Next> {
+    if file.read_exact(body).is_err() {
+        return ended(print::unread(rt));
     }
-    Next {
-        written: answer_numbered(head, body, number, sums),
-        ended: false,
-    }
+    answer_numbered(rt, head, body, number, sums)?;
+    Ok(Next::Case)
 }
 
-fn answer_numbered(head: &[u8], body: &[u8], number: u32, sums: bool) -> bool {
+fn answer_numbered(
+    rt: &impl Print,
+    head: &[u8],
+    body: &[u8],
+    number: u32,
+    sums: bool,
+) -> io::Result<()> {
     if !sums {
-        return answer(head, body, false);
+        return answer(rt, head, body, false);
     }
-    if !print::number(b"", number as u64) {
-        return false;
-    }
-    if !print::number(b" op ", case::operation(head) as u64) {
-        return false;
-    }
-    if !print::bytes(b" ") {
-        return false;
-    }
-    answer(head, body, true)
+    print::number(rt, "", number as u64)?;
+    print::number(rt, " op ", case::operation(head) as u64)?;
+    rt.print(" ")?;
+    answer(rt, head, body, true)
 }
 
 // The calls of document 01, and their wide forms.
-fn answer(head: &[u8], body: &[u8], sums: bool) -> bool {
+fn answer(rt: &impl Print, head: &[u8], body: &[u8], sums: bool) -> io::Result<()> {
     let operation = case::operation(head);
     if operation == case::MARK {
-        return mark::answer(head, body, sums);
+        return mark::answer(rt, head, body, sums);
     }
     if operation == case::WIDE_MARK {
-        return mark::answer_wide(head, body, sums);
+        return mark::answer_wide(rt, head, body, sums);
     }
     if writes_image(operation) {
-        return lay_out::answer(head, body, sums);
+        return lay_out::answer(rt, head, body, sums);
     }
     if updates(operation) {
-        return update::answer(head, body, sums);
+        return update::answer(rt, head, body, sums);
     }
     if checks(operation) {
-        return check::answer(head, body, sums);
+        return check::answer(rt, head, body, sums);
     }
     if operation == case::SHEET {
-        return sheet::answer(head, body, sums);
+        return sheet::answer(rt, head, body, sums);
     }
-    answer_request(head, body, sums)
+    answer_request(rt, head, body, sums)
 }
 
 // The calls of the requests.
-fn answer_request(head: &[u8], body: &[u8], sums: bool) -> bool {
+fn answer_request(rt: &impl Print, head: &[u8], body: &[u8], sums: bool) -> io::Result<()> {
     let operation = case::operation(head);
     if operation == case::PAGE {
-        return page::answer(head, body, sums);
+        return page::answer(rt, head, body, sums);
     }
     if operation == case::PROFILE {
-        return answer_profile(head, body);
+        return answer_profile(rt, head, body);
     }
     if operation == case::CEILING {
-        return print_ceiling(ceiling::ceiling(case::first_input(head, body)));
+        return print_ceiling(rt, ceiling::ceiling(case::first_input(head, body)));
     }
     if operation == case::YARD_CEILING {
-        return answer_yard_ceiling(head, body);
+        return answer_yard_ceiling(rt, head, body);
     }
     if operation == case::GAME {
-        return lesson::answer(head, body);
+        return lesson::answer(rt, head, body);
     }
     if operation == case::UNDO {
-        return recorded::answer_undo(head, body, sums);
+        return recorded::answer_undo(rt, head, body, sums);
     }
     if operation == case::INDEX {
-        return index::answer(head, body, sums);
+        return index::answer(rt, head, body, sums);
     }
     if operation == case::LIST {
-        return list::answer(head, body, sums);
+        return list::answer(rt, head, body, sums);
     }
-    answer_beside(head, body, sums)
+    answer_beside(rt, head, body, sums)
 }
 
 // The other calls beside an index, and those of a sitting that is carried.
-fn answer_beside(head: &[u8], body: &[u8], sums: bool) -> bool {
+fn answer_beside(rt: &impl Print, head: &[u8], body: &[u8], sums: bool) -> io::Result<()> {
     let operation = case::operation(head);
     if operation == case::INDEXED_LAY_OUT {
-        return indexed::answer_lay_out(head, body, sums);
+        return indexed::answer_lay_out(rt, head, body, sums);
     }
     if operation == case::INDEXED_UNDO {
-        return indexed::answer_undo(head, body, sums);
+        return indexed::answer_undo(rt, head, body, sums);
     }
     if operation == case::CARRY {
-        return carried::answer_step(head, body, sums);
+        return carried::answer_step(rt, head, body, sums);
     }
     if operation == case::HALF_CHECK {
-        return carried::answer_half(head, body, sums);
+        return carried::answer_half(rt, head, body, sums);
     }
-    answer_candidate(head, body, sums)
+    answer_candidate(rt, head, body, sums)
 }
 
 // A candidate's call, or a leaf.
-fn answer_candidate(head: &[u8], body: &[u8], sums: bool) -> bool {
+fn answer_candidate(rt: &impl Print, head: &[u8], body: &[u8], sums: bool) -> io::Result<()> {
     let operation = case::operation(head);
     if operation == case::VIEW {
-        return view::answer(head, body, sums);
+        return view::answer(rt, head, body, sums);
     }
     if operation == case::ACT {
-        return act::answer(head, body, sums);
+        return act::answer(rt, head, body, sums);
     }
-    leaf::answer(head, body, sums)
+    leaf::answer(rt, head, body, sums)
 }
 
 fn writes_image(operation: u32) -> bool {
@@ -297,27 +293,26 @@ fn checks(operation: u32) -> bool {
 }
 
 // The training track profile, of which nothing is left but its answer.
-fn answer_profile(head: &[u8], body: &[u8]) -> bool {
+fn answer_profile(rt: &impl Print, head: &[u8], body: &[u8]) -> io::Result<()> {
     let f = track_profile::profile_fault(case::first_input(head, body));
-    if print::fault(f) {
-        return print::end();
-    }
-    false
+    print::fault(rt, f)?;
+    print::end(rt)
 }
 
 // The ceiling of a yard. Argument: the round limit.
-fn answer_yard_ceiling(head: &[u8], body: &[u8]) -> bool {
+fn answer_yard_ceiling(rt: &impl Print, head: &[u8], body: &[u8]) -> io::Result<()> {
     let limit = (case::argument(head, 0) % 65536) as u16;
-    print_ceiling(ceiling::yard_ceiling(case::first_input(head, body), limit))
+    print_ceiling(
+        rt,
+        ceiling::yard_ceiling(case::first_input(head, body), limit),
+    )
 }
 
-fn print_ceiling(c: StepCeiling) -> bool {
+fn print_ceiling(rt: &impl Print, c: StepCeiling) -> io::Result<()> {
     let f = c.fault;
     if f.number == 0 {
-        return print::number_line(b"ceiling ", c.steps);
+        return print::number_line(rt, "ceiling ", c.steps);
     }
-    if print::refused(f) {
-        return print::end();
-    }
-    false
+    print::refused(rt, f)?;
+    print::end(rt)
 }

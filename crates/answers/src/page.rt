@@ -4,41 +4,44 @@ use image::codec;
 use link_rules::octets;
 use link_rules::refusal::Refusal;
 use path_page;
+use std::io;
 
-pub(crate) fn answer(head: &[u8], body: &[u8], sums: bool) -> bool {
+pub(crate) fn answer(rt: &impl Print, head: &[u8], body: &[u8], sums: bool) -> io::Result<()> {
     let mut room = case::no_bytes();
     let n = case::second_input(head, body).len();
     if 65536 < n {
-        return print::unread();
+        return print::unread(rt);
     }
-    answer_in(head, body, &mut room[..n], sums)
+    answer_in(rt, head, body, &mut room[..n], sums)
 }
 
-fn answer_in(head: &[u8], body: &[u8], page: &mut [u8], sums: bool) -> bool {
+fn answer_in(
+    rt: &impl Print,
+    head: &[u8],
+    body: &[u8],
+    page: &mut [u8],
+    sums: bool,
+) -> io::Result<()> {
     octets::put_bytes(page, 0, case::second_input(head, body));
     let image = case::first_input(head, body);
     let f = path_page::page(image, page);
     if sums {
-        return print_sum(f, page);
+        return print_sum(rt, f, page);
     }
     if f.number == 0 {
-        return print_lines(image, page);
+        return print_lines(rt, image, page);
     }
-    if print::refused(f) {
-        return print::end();
-    }
-    false
+    print::refused(rt, f)?;
+    print::end(rt)
 }
 
-fn print_sum(f: Refusal, page: &[u8]) -> bool {
-    if print::fault(f) {
-        return print::sum_line(b" page ", page);
-    }
-    false
+fn print_sum(rt: &impl Print, f: Refusal, page: &[u8]) -> io::Result<()> {
+    print::fault(rt, f)?;
+    print::sum_line(rt, " page ", page)
 }
 
 // A line for each node of the path; what stands behind them in the buffer is not printed.
-fn print_lines(image: &[u8], page: &[u8]) -> bool {
+fn print_lines(rt: &impl Print, image: &[u8], page: &[u8]) -> io::Result<()> {
     let long = 40 * (codec::path_count(image) as usize);
-    print::bytes(case::part(page, 0, long))
+    print::bytes(rt, case::part(page, 0, long))
 }

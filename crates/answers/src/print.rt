@@ -1,63 +1,52 @@
-// Answers on standard output. Each function says whether all of it was written.
+// Answers on standard output. As soon as something cannot be written, no more is.
 ghost use Rattle.std.specs.Prelude.{◌<◌};
 
-use libc::STDOUT_FILENO;
 use link_rules::refusal::{Answer, Refusal};
+use std::io;
 
-pub(crate) fn bytes(bytes: &[u8]) -> bool {
-    io::write_all(STDOUT_FILENO, bytes)
+pub(crate) fn bytes(rt: &impl Print, bytes: &[u8]) -> io::Result<()> {
+    rt.write_all(bytes)
 }
 
-pub(crate) fn end() -> bool {
-    bytes(b"\n")
+pub(crate) fn end(rt: &impl Print) -> io::Result<()> {
+    rt.print("\n")
 }
 
-pub(crate) fn line(words: &[u8]) -> bool {
-    if bytes(words) {
-        return end();
-    }
-    false
+pub(crate) fn line(rt: &impl Print, words: &str) -> io::Result<()> {
+    rt.println(words)
 }
 
 // A file or a case that cannot be read.
-pub(crate) fn unread() -> bool {
-    line(b"cannot be read")
+pub(crate) fn unread(rt: &impl Print) -> io::Result<()> {
+    line(rt, "cannot be read")
 }
 
-pub(crate) fn number(words: &[u8], n: u64) -> bool {
-    if bytes(words) {
-        return io::print_decimal(STDOUT_FILENO, n);
-    }
-    false
+pub(crate) fn number(rt: &impl Print, words: &str, n: u64) -> io::Result<()> {
+    print!(rt; "{words}{n}")
 }
 
 // A line that ends in a number.
-pub(crate) fn number_line(words: &[u8], n: u64) -> bool {
-    if number(words, n) {
-        return end();
-    }
-    false
+pub(crate) fn number_line(rt: &impl Print, words: &str, n: u64) -> io::Result<()> {
+    println!(rt; "{words}{n}")
 }
 
-pub(crate) fn refused(f: Refusal) -> bool {
-    if number(b"refused ", f.number as u64) {
-        return number(b" at ", f.place as u64);
-    }
-    false
+pub(crate) fn refused(rt: &impl Print, f: Refusal) -> io::Result<()> {
+    number(rt, "refused ", f.number as u64)?;
+    number(rt, " at ", f.place as u64)
 }
 
 // Done where the number is 0.
-pub(crate) fn fault(f: Refusal) -> bool {
+pub(crate) fn fault(rt: &impl Print, f: Refusal) -> io::Result<()> {
     if f.number == 0 {
-        return bytes(b"done");
+        return rt.print("done");
     }
-    refused(f)
+    refused(rt, f)
 }
 
-pub(crate) fn answer(answer: Answer) -> bool {
+pub(crate) fn answer(rt: &impl Print, answer: Answer) -> io::Result<()> {
     match answer {
-        Answer::Done => bytes(b"done"),
-        Answer::Refused(r) => refused(r),
+        Answer::Done => rt.print("done"),
+        Answer::Refused(r) => refused(rt, r),
     }
 }
 
@@ -129,6 +118,6 @@ pub(crate) fn sum_of_u64s(col: &[u64]) -> u64 {
 }
 
 // The checksum of a buffer at the end of a line.
-pub(crate) fn sum_line(words: &[u8], bytes: &[u8]) -> bool {
-    number_line(words, sum_of(bytes))
+pub(crate) fn sum_line(rt: &impl Print, words: &str, bytes: &[u8]) -> io::Result<()> {
+    number_line(rt, words, sum_of(bytes))
 }

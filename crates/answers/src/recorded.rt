@@ -1,11 +1,13 @@
 // A check that fills an undo record, and an undo. A check's record has as many bytes as argument 4 says, and is lent with zeros.
 use crate::{case, check, print};
 use link_rules::octets;
+use std::io;
 use undo;
 use yard_check::check::Answer;
 
 // From buffers that are there; the occupancy of the other width is empty.
 pub(crate) fn answer(
+    rt: &impl Print,
     head: &[u8],
     yard: &mut [u8],
     narrow: &[u16],
@@ -13,13 +15,14 @@ pub(crate) fn answer(
     blocking: &[u32],
     report: &mut [u8],
     sums: bool,
-) -> bool {
+) -> io::Result<()> {
     let mut room = case::no_bytes();
     let n = case::argument(head, 4) as usize;
     if 65536 < n {
-        return print::unread();
+        return print::unread(rt);
     }
     answer_into(
+        rt,
         head,
         yard,
         narrow,
@@ -32,6 +35,7 @@ pub(crate) fn answer(
 }
 
 fn answer_into(
+    rt: &impl Print,
     head: &[u8],
     yard: &mut [u8],
     narrow: &[u16],
@@ -40,20 +44,17 @@ fn answer_into(
     report: &mut [u8],
     undo_record: &mut [u8],
     sums: bool,
-) -> bool {
-    if !check::print_answer(recorded(head, yard, narrow, wide, blocking, report, undo_record)) {
-        return false;
-    }
+) -> io::Result<()> {
+    check::print_answer(
+        rt,
+        recorded(head, yard, narrow, wide, blocking, report, undo_record),
+    )?;
     if !sums {
-        return print::end();
+        return print::end(rt);
     }
-    if !print::number(b" yard ", print::sum_of(yard)) {
-        return false;
-    }
-    if print::number(b" report ", print::sum_of(report)) {
-        return print::sum_line(b" record ", undo_record);
-    }
-    false
+    print::number(rt, " yard ", print::sum_of(yard))?;
+    print::number(rt, " report ", print::sum_of(report))?;
+    print::sum_line(rt, " record ", undo_record)
 }
 
 fn recorded(
@@ -92,22 +93,26 @@ fn recorded(
     )
 }
 
-pub(crate) fn answer_undo(head: &[u8], body: &[u8], sums: bool) -> bool {
+pub(crate) fn answer_undo(rt: &impl Print, head: &[u8], body: &[u8], sums: bool) -> io::Result<()> {
     let mut room = case::no_bytes();
     let n = case::first_input(head, body).len();
     if 65536 < n {
-        return print::unread();
+        return print::unread(rt);
     }
-    answer_undo_on(head, body, &mut room[..n], sums)
+    answer_undo_on(rt, head, body, &mut room[..n], sums)
 }
 
-fn answer_undo_on(head: &[u8], body: &[u8], yard: &mut [u8], sums: bool) -> bool {
+fn answer_undo_on(
+    rt: &impl Print,
+    head: &[u8],
+    body: &[u8],
+    yard: &mut [u8],
+    sums: bool,
+) -> io::Result<()> {
     octets::put_bytes(yard, 0, case::first_input(head, body));
-    if !print::answer(undo::undo(yard, case::second_input(head, body))) {
-        return false;
-    }
+    print::answer(rt, undo::undo(yard, case::second_input(head, body)))?;
     if sums {
-        return print::sum_line(b" yard ", yard);
+        return print::sum_line(rt, " yard ", yard);
     }
-    print::end()
+    print::end(rt)
 }

@@ -3,27 +3,41 @@ use crate::{case, print};
 use candidate;
 use candidate::Viewed;
 use link_rules::octets;
+use std::io;
 
-pub(crate) fn answer(head: &[u8], body: &[u8], sums: bool) -> bool {
+pub(crate) fn answer(rt: &impl Print, head: &[u8], body: &[u8], sums: bool) -> io::Result<()> {
     let mut room = case::no_links();
     let n = case::second_input(head, body).len() / 4;
     if 8192 < n {
-        return print::unread();
+        return print::unread(rt);
     }
-    answer_over(head, body, &mut room[..n], sums)
+    answer_over(rt, head, body, &mut room[..n], sums)
 }
 
-fn answer_over(head: &[u8], body: &[u8], occ: &mut [u32], sums: bool) -> bool {
+fn answer_over(
+    rt: &impl Print,
+    head: &[u8],
+    body: &[u8],
+    occ: &mut [u32],
+    sums: bool,
+) -> io::Result<()> {
     case::u32s(occ, case::second_input(head, body));
     let mut room = case::no_bytes();
     let n = case::fourth_input(head, body).len();
     if 65536 < n {
-        return print::unread();
+        return print::unread(rt);
     }
-    answer_in(head, body, occ, &mut room[..n], sums)
+    answer_in(rt, head, body, occ, &mut room[..n], sums)
 }
 
-fn answer_in(head: &[u8], body: &[u8], occ: &[u32], record: &mut [u8], sums: bool) -> bool {
+fn answer_in(
+    rt: &impl Print,
+    head: &[u8],
+    body: &[u8],
+    occ: &[u32],
+    record: &mut [u8],
+    sums: bool,
+) -> io::Result<()> {
     octets::put_bytes(record, 0, case::fourth_input(head, body));
     let slot = (case::argument(head, 0) % 65536) as u16;
     let v = candidate::view(
@@ -35,64 +49,52 @@ fn answer_in(head: &[u8], body: &[u8], occ: &[u32], record: &mut [u8], sums: boo
         record,
     );
     if sums {
-        return print_sum(v, record);
+        return print_sum(rt, v, record);
     }
-    print_view(v, record)
+    print_view(rt, v, record)
 }
 
-fn print_sum(v: Viewed, record: &[u8]) -> bool {
-    if print_answer(v) {
-        return print::sum_line(b" record ", record);
-    }
-    false
+fn print_sum(rt: &impl Print, v: Viewed, record: &[u8]) -> io::Result<()> {
+    print_answer(rt, v)?;
+    print::sum_line(rt, " record ", record)
 }
 
-fn print_answer(v: Viewed) -> bool {
+fn print_answer(rt: &impl Print, v: Viewed) -> io::Result<()> {
     if v.fault.number == 0 {
-        return print_taken(v.taken);
+        return print_taken(rt, v.taken);
     }
-    print::refused(v.fault)
+    print::refused(rt, v.fault)
 }
 
-fn print_taken(taken: bool) -> bool {
+fn print_taken(rt: &impl Print, taken: bool) -> io::Result<()> {
     if taken {
-        return print::bytes(b"taken yes");
+        return rt.print("taken yes");
     }
-    print::bytes(b"taken no")
+    rt.print("taken no")
 }
 
 // Of the record its type, its link and its est record.
-fn print_view(v: Viewed, record: &[u8]) -> bool {
+fn print_view(rt: &impl Print, v: Viewed, record: &[u8]) -> io::Result<()> {
     if v.fault.number == 0 {
-        if !print_node(record) {
-            return false;
-        }
+        print_node(rt, record)?;
     }
-    if print_answer(v) {
-        return print::end();
-    }
-    false
+    print_answer(rt, v)?;
+    print::end(rt)
 }
 
-fn print_node(record: &[u8]) -> bool {
-    if !print_type(octets::u16_at(record, 26)) {
-        return false;
-    }
-    if !print::number(b" ", octets::u32_at(record, 16) as u64) {
-        return false;
-    }
-    if print::number(b" est ", octets::u32_at(record, 20) as u64) {
-        return print::bytes(b" ");
-    }
-    false
+fn print_node(rt: &impl Print, record: &[u8]) -> io::Result<()> {
+    print_type(rt, octets::u16_at(record, 26))?;
+    print::number(rt, " ", octets::u32_at(record, 16) as u64)?;
+    print::number(rt, " est ", octets::u32_at(record, 20) as u64)?;
+    rt.print(" ")
 }
 
-fn print_type(t: u16) -> bool {
+fn print_type(rt: &impl Print, t: u16) -> io::Result<()> {
     if t == 0 {
-        return print::bytes(b"node arrive");
+        return rt.print("node arrive");
     }
     if t == 1 {
-        return print::bytes(b"node clear");
+        return rt.print("node clear");
     }
-    print::bytes(b"node fake")
+    rt.print("node fake")
 }

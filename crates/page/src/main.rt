@@ -2,11 +2,14 @@
 // The largest image, a wide one, has 41,024 bytes. One more is read, so that a longer input is refused by 6.
 #![tactic(auto)]
 
-ghost use Rattle.std.specs.Prelude.{◌≡◌, length};
+ghost use Rattle.std.specs.Prelude.{◌≡◌, ◌<◌, length, take, IfOk};
+ghost use Rattle.std.specs.Io.{ReadsAtMost};
+ghost use Rattle.std.specs.Io.KnownBytes.{Consumes, IsAtEnd};
 
 use image::codec;
-use libc::{STDERR_FILENO, STDIN_FILENO, STDOUT_FILENO};
 use path_page;
+use std::io;
+use std::io::Read;
 
 fn input_room() -> [u8; 41025]
     ensures { 41025 ≡ length result }
@@ -21,28 +24,43 @@ fn page_room() -> [u8; 20480]
     [0u8; 20480]
 }
 
-fn main() {
+// Reads until the room is full or the input ends, and says how many bytes there are.
+fn read_full<R: Read>(input: &mut R, room: &mut [u8]) -> io::Result<usize>
+    ensures within { ReadsAtMost result room.new }
+    ensures bytes { IfOk result
+        (λ n. Consumes (R.remaining input.old) (R.remaining input.new) (take n room.new)) }
+    ensures end { IfOk result (λ n. n < length room.old → IsAtEnd (R.remaining input.new)) }
+{
+    let mut got = 0;
+    while got < room.len() {
+        let n = input.read(&mut room[got..])?;
+        if n == 0 {
+            return Ok(got);
+        }
+        got += n;
+    }
+    Ok(got)
+}
+
+fn main(rt: HostRuntime) -> io::Result<()> {
     let mut image = input_room();
     let mut page = page_room();
-    let got = io::read_full(STDIN_FILENO, &mut image);
-    if print_page(&image[..got], &mut page) {
-        return;
+    let got = read_full(&mut rt.reader(), &mut image)?;
+    if print_page(&rt, &image[..got], &mut page).is_ok() {
+        return Ok(());
     }
-    io::write_all(STDERR_FILENO, b"page: standard output cannot be written\n");
+    rt.eprintln("page: standard output cannot be written")
 }
 
-// Was all of it written?
-fn print_page(image: &[u8], page: &mut [u8]) -> bool {
+fn print_page(rt: &impl Print, image: &[u8], page: &mut [u8]) -> io::Result<()> {
     let fault = path_page::page(image, page);
     if fault.number != 0 {
-        return print_refused(fault.number);
+        return print_refused(rt, fault.number);
     }
     let long = 40 * (codec::path_count(image) as usize);
-    io::write_all(STDOUT_FILENO, &page[..long])
+    rt.write_all(&page[..long])
 }
 
-fn print_refused(number: u16) -> bool {
-    io::write_all(STDOUT_FILENO, b"refused ");
-    io::print_decimal(STDOUT_FILENO, number as u64);
-    io::write_all(STDOUT_FILENO, b"\n")
+fn print_refused(rt: &impl Print, number: u16) -> io::Result<()> {
+    println!(rt; "refused {number}")
 }

@@ -3,17 +3,20 @@
 // At most 262,145 bytes are read: a longer input is refused by 19 as those are.
 #![tactic(auto)]
 
-ghost use Rattle.std.specs.Prelude.{◌≡◌, length};
+ghost use Rattle.std.specs.Prelude.{◌≡◌, ◌<◌, length, take, IfOk};
+ghost use Rattle.std.specs.Io.{ReadsAtMost};
+ghost use Rattle.std.specs.Io.KnownBytes.{Consumes, IsAtEnd};
 
 use image::codec;
 use image_fault;
 use image_reader;
-use libc::{STDERR_FILENO, STDIN_FILENO, STDOUT_FILENO};
 use link_rules::link_idx::TrainIdx;
 use link_rules::octets;
 use link_rules::refusal::Answer;
 use sheet_text::bundle;
 use sitting;
+use std::io;
+use std::io::Read;
 use yard_check::yard;
 
 // ---- room
@@ -45,115 +48,86 @@ fn list_room() -> [u16; 13107]
 
 // ---- lines
 
-fn print_refused(number: u16) -> bool {
-    io::write_all(STDOUT_FILENO, b"refused ");
-    io::print_decimal(STDOUT_FILENO, number as u64);
-    io::write_all(STDOUT_FILENO, b"\n")
+fn print_refused(rt: &impl Print, number: u16) -> io::Result<()> {
+    println!(rt; "refused {number}")
 }
 
-fn print_step(step: u64, number: u16) -> bool {
-    io::write_all(STDOUT_FILENO, b"step ");
-    io::print_decimal(STDOUT_FILENO, step);
-    io::write_all(STDOUT_FILENO, b" ");
-    io::print_decimal(STDOUT_FILENO, number as u64);
-    io::write_all(STDOUT_FILENO, b"\n")
+fn print_step(rt: &impl Print, step: u64, number: u16) -> io::Result<()> {
+    println!(rt; "step {step} {number}")
 }
 
 // Steps count from 1.
-fn print_steps(list: &[u16]) -> bool {
-    let mut i: usize = 0;
-    while i < list.len() {
-        if print_step((i as u64) + 1, list[i]) {
-            i += 1;
-        } else {
-            return false;
-        }
+fn print_steps(rt: &impl Print, list: &[u16]) -> io::Result<()> {
+    for (i, number) in list.iter().enumerate() {
+        print_step(rt, (i as u64) + 1, *number)?;
     }
-    true
+    Ok(())
 }
 
-fn print_columns(free: u16, nodes: u32) -> bool {
-    io::write_all(STDOUT_FILENO, b" ");
-    io::print_decimal(STDOUT_FILENO, free as u64);
-    io::write_all(STDOUT_FILENO, b" ");
-    io::print_decimal(STDOUT_FILENO, nodes as u64);
-    io::write_all(STDOUT_FILENO, b"\n")
+fn print_columns(rt: &impl Print, free: u16, nodes: u32) -> io::Result<()> {
+    println!(rt; " {free} {nodes}")
 }
 
 // Finished where free is the number of path nodes.
-fn print_free(free: u16, nodes: u32) -> bool {
+fn print_free(rt: &impl Print, free: u16, nodes: u32) -> io::Result<()> {
     if free as u32 == nodes {
-        io::write_all(STDOUT_FILENO, b" finished");
-        return print_columns(free, nodes);
+        rt.print(" finished")?;
+        return print_columns(rt, free, nodes);
     }
-    io::write_all(STDOUT_FILENO, b" unfinished");
-    print_columns(free, nodes)
+    rt.print(" unfinished")?;
+    print_columns(rt, free, nodes)
 }
 
 // An image that 6 to 9 refuse over so many links has no columns but 0.
-fn print_slot(t: u32, image: &[u8], links: u32) -> bool {
-    io::write_all(STDOUT_FILENO, b"slot ");
-    io::print_decimal(STDOUT_FILENO, t as u64);
+fn print_slot(rt: &impl Print, t: u32, image: &[u8], links: u32) -> io::Result<()> {
+    print!(rt; "slot {t}")?;
     let fault = image_fault::image_fault(image, links);
     if fault.number != 0 {
-        io::write_all(STDOUT_FILENO, b" refused-");
-        io::print_decimal(STDOUT_FILENO, fault.number as u64);
-        return print_columns(0, 0);
+        print!(rt; " refused-{}", fault.number)?;
+        return print_columns(rt, 0, 0);
     }
-    print_free(image_reader::free_of(image), codec::path_count(image))
+    print_free(rt, image_reader::free_of(image), codec::path_count(image))
 }
 
 // None of a yard that 14 refuses.
-fn print_slots(yard: &[u8], links: u32) -> bool {
-    let slots = bundle::report_slots(yard);
-    let mut i: u32 = 0;
-    while i < slots {
-        if print_slot(i + 1, yard::part(yard, TrainIdx(i + 1)), links) {
-            i += 1;
-        } else {
-            return false;
-        }
+fn print_slots(rt: &impl Print, yard: &[u8], links: u32) -> io::Result<()> {
+    for i in 0..bundle::report_slots(yard) {
+        print_slot(rt, i + 1, yard::part(yard, TrainIdx(i + 1)), links)?;
     }
-    true
+    Ok(())
 }
 
-fn print_link(link: u64, train: u16) -> bool {
+fn print_link(rt: &impl Print, link: u64, train: u16) -> io::Result<()> {
     if train == 0 {
-        return true;
+        return Ok(());
     }
-    io::write_all(STDOUT_FILENO, b"link ");
-    io::print_decimal(STDOUT_FILENO, link);
-    io::write_all(STDOUT_FILENO, b" by ");
-    io::print_decimal(STDOUT_FILENO, train as u64);
-    io::write_all(STDOUT_FILENO, b"\n")
+    println!(rt; "link {link} by {train}")
 }
 
-fn print_links(occupancy: &[u16]) -> bool {
-    let mut l: usize = 0;
-    while l < occupancy.len() {
-        if print_link(l as u64, occupancy[l]) {
-            l += 1;
-        } else {
-            return false;
-        }
+fn print_links(rt: &impl Print, occupancy: &[u16]) -> io::Result<()> {
+    for (l, train) in occupancy.iter().enumerate() {
+        print_link(rt, l as u64, *train)?;
     }
-    true
+    Ok(())
 }
 
-fn print_played(yard: &[u8], occupancy: &[u16], list: &[u16], links: u32) -> bool {
-    if print_steps(list) {
-        if print_slots(yard, links) {
-            return print_links(occupancy);
-        }
-        return false;
-    }
-    false
+fn print_played(
+    rt: &impl Print,
+    yard: &[u8],
+    occupancy: &[u16],
+    list: &[u16],
+    links: u32,
+) -> io::Result<()> {
+    print_steps(rt, list)?;
+    print_slots(rt, yard, links)?;
+    print_links(rt, occupancy)
 }
 
 // ---- the sitting
 
 // Room is lent for the yard, the occupancy and the list.
 fn play_parts(
+    rt: &impl Print,
     file: &[u8],
     table: &[u8],
     start: &[u8],
@@ -161,13 +135,13 @@ fn play_parts(
     yard: &mut [u8],
     occupancy: &mut [u16],
     list: &mut [u16],
-) -> bool {
+) -> io::Result<()> {
     bundle::read_occupancy(occupancy, file);
     octets::put_bytes(yard, 0, start);
     let links = octets::u32_at(file, 8);
     match sitting::replay(recording, table, yard, occupancy, list) {
-        Answer::Done => print_played(yard, occupancy, list, links),
-        Answer::Refused(r) => print_refused(r.number),
+        Answer::Done => print_played(rt, yard, occupancy, list, links),
+        Answer::Refused(r) => print_refused(rt, r.number),
     }
 }
 
@@ -188,7 +162,7 @@ fn header_fits(file: &[u8]) -> bool {
     octets::u64_at(file, 24) == 0
 }
 
-fn play(file: &[u8]) -> bool {
+fn play(rt: &impl Print, file: &[u8]) -> io::Result<()> {
     let mut yard_left = yard_room();
     let mut occupancy = occupancy_room();
     let mut list = list_room();
@@ -198,28 +172,29 @@ fn play(file: &[u8]) -> bool {
     let recording = octets::u32_at(file, 20) as usize;
     let steps = octets::u32_at(file, recording + 4) as usize;
     if !header_fits(file) {
-        return print_refused(19);
+        return print_refused(rt, 19);
     }
     if yard < table {
-        return print_refused(19);
+        return print_refused(rt, 19);
     }
     if recording < yard {
-        return print_refused(19);
+        return print_refused(rt, 19);
     }
     if file.len() < recording {
-        return print_refused(19);
+        return print_refused(rt, 19);
     }
     let size = recording - yard;
     if 262144 < size {
-        return print_refused(19);
+        return print_refused(rt, 19);
     }
     if 4000 < links {
-        return print_refused(19);
+        return print_refused(rt, 19);
     }
     if 13107 < steps {
-        return print_refused(19);
+        return print_refused(rt, 19);
     }
     play_parts(
+        rt,
         file,
         &file[table..yard],
         &file[yard..recording],
@@ -230,14 +205,29 @@ fn play(file: &[u8]) -> bool {
     )
 }
 
-fn main() {
-    let mut file = input_room();
-    let got = io::read_full(STDIN_FILENO, &mut file);
-    if play(&file[..got]) {
-        return;
+// Reads until the room is full or the input ends, and says how many bytes there are.
+fn read_full<R: Read>(input: &mut R, room: &mut [u8]) -> io::Result<usize>
+    ensures within { ReadsAtMost result room.new }
+    ensures bytes { IfOk result
+        (λ n. Consumes (R.remaining input.old) (R.remaining input.new) (take n room.new)) }
+    ensures end { IfOk result (λ n. n < length room.old → IsAtEnd (R.remaining input.new)) }
+{
+    let mut got = 0;
+    while got < room.len() {
+        let n = input.read(&mut room[got..])?;
+        if n == 0 {
+            return Ok(got);
+        }
+        got += n;
     }
-    io::write_all(
-        STDERR_FILENO,
-        b"replay: standard output cannot be written\n",
-    );
+    Ok(got)
+}
+
+fn main(rt: HostRuntime) -> io::Result<()> {
+    let mut file = input_room();
+    let got = read_full(&mut rt.reader(), &mut file)?;
+    if play(&rt, &file[..got]).is_ok() {
+        return Ok(());
+    }
+    rt.eprintln("replay: standard output cannot be written")
 }
