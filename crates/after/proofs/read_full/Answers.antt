@@ -9,8 +9,8 @@ taken_behind : (xs ys zs : List ℕ) (i n : ℕ) → i ≤ length xs → n ≤ l
 taken_behind xs ys zs i n within fits =
     let front = length-take-le i xs within in
     take-add i n (take i xs ++ (ys ++ zs))
-        ∙ (λ k. take_at (take i xs) (ys ++ zs) i front k ++ take n (drop_at (take i xs) (ys ++ zs) i front k))
-        ∙ ap (λ l. take i xs ++ l) (take-append-le n ys zs fits)
+    ∙ (λ k. take_at (take i xs) (ys ++ zs) i front k ++ take n (drop_at (take i xs) (ys ++ zs) i front k))
+    ∙ ap (λ l. take i xs ++ l) (take-append-le n ys zs fits)
 
 pub loop-got-preserved : goal.loop-got-preserved
 loop-got-preserved g c =
