@@ -171,26 +171,11 @@ fn play(rt: &impl Print, file: &[u8]) -> io::Result<()> {
     let yard = octets::u32_at(file, 16) as usize;
     let recording = octets::u32_at(file, 20) as usize;
     let steps = octets::u32_at(file, recording + 4) as usize;
-    if !header_fits(file) {
-        return print_refused(rt, 19);
-    }
-    if yard < table {
-        return print_refused(rt, 19);
-    }
-    if recording < yard {
-        return print_refused(rt, 19);
-    }
-    if file.len() < recording {
+    if !header_fits(file) || yard < table || recording < yard || file.len() < recording {
         return print_refused(rt, 19);
     }
     let size = recording - yard;
-    if 262144 < size {
-        return print_refused(rt, 19);
-    }
-    if 4000 < links {
-        return print_refused(rt, 19);
-    }
-    if 13107 < steps {
+    if 262144 < size || 4000 < links || 13107 < steps {
         return print_refused(rt, 19);
     }
     play_parts(
