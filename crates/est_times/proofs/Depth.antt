@@ -1,5 +1,5 @@
 -- The measure of a search in depth, by the records that are not blocked and the depth of its stack. Assumes nothing.
-use Rattle.std.proofs.Common.{◌≡◌, ℕ, suc, ◌+◌, ◌-◌, ◌*◌, ◌<◌, ◌≤◌, Bool, eqb, List, length, get_or, set, sym, ◌∙◌, ⊎_elim, arith, get_or-set_other, get_or-set_same, eq-eqb, ne_eqb, eqb-true}
+use Rattle.std.proofs.Common.{◌≡◌, ℕ, suc, ◌+◌, ◌*◌, ◌<◌, ◌≤◌, Bool, eqb, List, length, get_or, set, sym, ◌∙◌, ⊎_elim, arith, get_or-set_other, get_or-set_same, eq-eqb, ne_eqb, eqb-true}
 use Rattle.est_times.specs.Counts.{count_below, left_of}
 use Rattle.est_times.proofs.Counting.{count_lt, count_bound, same_or_not}
 

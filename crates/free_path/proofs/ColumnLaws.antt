@@ -1,13 +1,12 @@
 -- Columns as lists, a turn at a time as a loop has them. Assumes nothing.
-use Rattle.std.proofs.Common.{◌≡◌, ℕ, zero, suc, ◌+◌, ◌-◌, ◌<◌, ◌≤◌, Bool, true, false, cond, ◌&&◌, ◌⊎◌, List, [], ◌∷◌, ◌++◌, map, length, get_or, drop, sym, refl, ap, ◌∙◌, inl, inr, eq-or-lt_of_le, add-one, arith, length-append, drop_of_length-le, drop-cons, le-ltb, lt-ltb}
-use lib.ListN.{length-map, get_or-map, get_or-append}
-use lib.Seq.{get_or_at}
+use Rattle.std.proofs.Common.{◌≡◌, ℕ, suc, ◌+◌, ◌-◌, ◌<◌, ◌≤◌, Bool, true, false, cond, ◌&&◌, List, [], ◌∷◌, length, get_or, drop, sym, refl, ap, ◌∙◌, add-one, arith, drop_of_length-le, drop-cons, le-ltb, lt-ltb}
+use lib.ListN.{length-map, get_or-map}
 use Rattle.free_path.specs.Base.{ok, no, at, last, part, passes, count, walk_from}
 use Rattle.free_path.specs.LinkOptType.{class_more, class_walk}
 use Rattle.free_path.specs.declared.link_opt_type.LinkOptType.{LinkOptType}
 use Rattle.free_path.specs.Columns.{link, links, entries, link_at, flag_link, flag_links, kept, ended}
 use Rattle.disp_structs.specs.Listed.{listed}
-use Rattle.disp_structs.proofs.ListedLaws.{listed-length, listed_at, listed-map}
+use Rattle.disp_structs.proofs.ListedLaws.{listed-length, listed_at}
 use Rattle.free_path.proofs.WalkLaws.{at_in, at_out, walk_stop, walk_on, walk_off}
 use Rattle.link_rules.specs.declared.link_idx.LinkIdx.{LinkIdx}
 use Rattle.link_rules.specs.LinkIdx.{no_link}

@@ -1,5 +1,5 @@
 -- Range, Check and the plain walk to the first occupied link stop at the same node, where there is no stray and entry 0 is empty. Assumes nothing.
-use Rattle.std.proofs.Common.{◌≡◌, ℕ, ◌+◌, ◌-◌, ◌^◌, ◌<◌, ◌≤◌, Bool, true, false, cond, not, ◌&&◌, ◌||◌, leb, List, [], ◌∷◌, map, take, drop, sym, refl, ap, ◌∙◌, subst, arith, eqb-true, le-leb, leb-false, leb-true}
+use Rattle.std.proofs.Common.{◌≡◌, ℕ, ◌+◌, ◌-◌, ◌^◌, ◌<◌, ◌≤◌, Bool, true, false, cond, not, ◌&&◌, ◌||◌, leb, List, [], ◌∷◌, map, drop, sym, refl, ap, ◌∙◌, subst, arith, eqb-true, le-leb, leb-false, leb-true}
 use mathlib.Core.Bool.{false≢true}
 use Rattle.link_rules.specs.LinkIdx.{same_link, no_link, occupied}
 use Rattle.link_rules.specs.declared.link_idx.LinkIdx.{LinkIdx}

@@ -7,7 +7,7 @@ use Rattle.link_rules.specs.LinkIdx.{same_train, no_train}
 use Rattle.link_rules.specs.declared.link_idx.TrainIdx.{TrainIdx}
 use Rattle.disp_structs.specs.Values.{view}
 use Rattle.disp_structs.specs.declared.TrainIdxsView.{TrainIdxsView}
-use Rattle.free_path.specs.Base.{ok, no, ◌>>=◌, at, part, any, slice}
+use Rattle.free_path.specs.Base.{ok, no, ◌>>=◌, part, any, slice}
 use Rattle.free_path.specs.TrainIdxsView.{Pooled, pool_push, add_one, add_from, closed, add_blocking_trains, add_all_blocking_trains, concat_train_idx_views, covers, size}
 use Rattle.free_path.specs.Columns.{answer, tr, trains, pool_of, concat_in}
 use Rattle.free_path.proofs.CountLaws.{counted, push, read, read_out, top, pop, part-take, part-set, map-set, any-turn, copy_more, length_part, bind_stop, bind_go}

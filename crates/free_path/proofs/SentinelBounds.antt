@@ -6,7 +6,7 @@ use Rattle.link_rules.specs.LinkIdx.{same_train, no_train}
 use Rattle.link_rules.specs.declared.link_idx.LinkIdx.{LinkIdx}
 use Rattle.link_rules.specs.declared.link_idx.TrainIdx.{TrainIdx}
 use Rattle.disp_structs.specs.declared.DivergeNode.{DivergeNode}
-use Rattle.free_path.specs.Base.{ok, ◌>>◌, need, at, last, part, passes, walk_from}
+use Rattle.free_path.specs.Base.{ok, ◌>>◌, need, last, part, passes, walk_from}
 use Rattle.free_path.specs.LinkOptType.{Sentinels, after_sentinel, calc_idx_sentinels, stops, is_none, intersect, find_train_intersect}
 use Rattle.free_path.specs.declared.link_opt_type.LinkOptType.{LinkOptType}
 use Rattle.free_path.proofs.WalkLaws.{at_in, walk_stop, walk_on}

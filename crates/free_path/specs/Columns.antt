@@ -1,5 +1,5 @@
 -- Arrays of numbers that a function is lent, as the lists of values that they hold. Assumes nothing.
-use Rattle.std.specs.Prelude.{◌≡◌, ℕ, zero, suc, ◌≤◌, Bool, cond, not, ◌&&◌, List, [], ◌∷◌, map, length, take, set, ◌==◌, nat_le, nat_lt, slice_index, slice_set}
+use Rattle.std.specs.Prelude.{◌≡◌, ℕ, zero, suc, ◌≤◌, Bool, cond, not, ◌&&◌, List, [], ◌∷◌, map, length, take, ◌==◌, nat_le, nat_lt, slice_index, slice_set}
 use Rattle.link_rules.specs.LinkIdx.{same_link, no_link}
 use Rattle.link_rules.specs.declared.link_idx.LinkIdx.{LinkIdx}
 use Rattle.link_rules.specs.declared.link_idx.TrainIdx.{TrainIdx}

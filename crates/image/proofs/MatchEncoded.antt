@@ -18,7 +18,7 @@ use Rattle.disp_structs.specs.declared.EstTime.{EstTime}
 use Rattle.disp_structs.specs.declared.DispNode.{DispNode}
 use Rattle.disp_structs.specs.declared.DivergeNode.{DivergeNode}
 use Rattle.image.specs.Fields.{train_field, diverge_words, diverge_size, diverge_train_field, field_bound}
-use Rattle.image.specs.Image.{is_wide, est_place, node_place, diverge_offset, diverge_place, zero_diverge, zero_words, type_number, est_from, node_from, diverge_from, put_est, put_node, put_diverge}
+use Rattle.image.specs.Image.{est_place, node_place, diverge_offset, diverge_place, zero_diverge, zero_words, type_number, est_from, node_from, diverge_from, put_est, put_node, put_diverge}
 use Rattle.image.specs.Codec.{path_header_of, put_each, put_size, put_offsets, put_dists, put_records, encoded}
 use Rattle.image.specs.declared.codec.PathHeader.{PathHeader}
 use Rattle.image.specs.ImageMatch.{SameBytes, Renumbered, ImagesMatch}

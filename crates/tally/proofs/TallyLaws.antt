@@ -1,6 +1,6 @@
 -- What a round and the validation add, where every number fits its width. Assumes nothing.
 use mathlib.Core.Path.{◌≡◌, ap, ◌∙◌}
-use Prim.Native.Nat.{ℕ, ◌+◌, ◌-◌, ◌≤◌, ◌<◌, ◌^◌}
+use Prim.Native.Nat.{ℕ, ◌+◌, ◌-◌, ◌<◌, ◌^◌}
 use native.Mathlib.Omega.{arith}
 use borrow.Author.Tests.{lt-ltb, le-leb}
 use Rattle.tally.specs.Tally.{counted, faulted, stepped, rounds_after, sum_of, counted_round, counted_faults, counted_steps}

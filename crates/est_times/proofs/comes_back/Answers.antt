@@ -1,5 +1,5 @@
-use Rattle.est_times.proofs.Search.{Search, meets, search_start, search-ended, turn_found, half, turn, room, few-below}
-use Rattle.std.proofs.Common.{◌-◌, ◌≤◌, sym, ◌∙◌, arith, rules}
+use Rattle.est_times.proofs.Search.{search_start, search-ended, turn_found, half, turn, room, few-below}
+use Rattle.std.proofs.Common.{sym, ◌∙◌, arith, rules}
 use Rattle.est_times.proofs.comes_back.Goals as goal
 
 pub loop-head-init : goal.loop-head-init
@@ -35,4 +35,3 @@ loop-head-preserved c = let h = turn c.args.next.now c.args.alt.now c.args.e c.a
 
 pub returns : goal.returns
 returns c = sym (search-ended c.args.next.now c.args.alt.now c.args.e c.args.a (omega arith) c.loop-head.invariant.1 (omega arith))
-

@@ -1,5 +1,5 @@
-use Rattle.est_times.proofs.Search.{Search, meets, search_start, search-ended, turn_found, half, turn, room, few-below}
-use Rattle.std.proofs.Common.{◌-◌, ◌≤◌, sym, ◌∙◌, arith, rules}
+use Rattle.est_times.proofs.Search.{Search}
+use Rattle.std.proofs.Common.{◌-◌, ◌≤◌}
 use Rattle.est_times.proofs.comes_back.Given as goal
 
 abbrev pub invariant-loop-head : goal.invariant-loop-head
@@ -7,4 +7,3 @@ invariant-loop-head l = (l.n ≤ l.e) × Search l.next l.alt l.e l.a l.seen l.qu
 
 abbrev pub decreases-loop-head : goal.decreases-loop-head
 decreases-loop-head l = 512 - l.head
-

@@ -1,4 +1,4 @@
-use Rattle.std.proofs.Common.{sym, rules}
+use Rattle.std.proofs.Common.{sym}
 use Rattle.est_times.proofs.cycle_at.Goals as goal
 
 pub returns-then-rank_rises : goal.returns-then-rank_rises
@@ -6,4 +6,3 @@ returns-then-rank_rises c = rw (← c.at_most_512-n.ensures.0) (sym (c.rank_rise
 
 pub returns : goal.returns
 returns c = rw (← c.at_most_512-n.ensures.0) c.lowest.ensures
-

@@ -7,4 +7,3 @@ returns-then-t-e c = (c.wide-t.ensures ∙ sym (follow-is c.args.e c.args.idxs.n
 
 pub returns : goal.returns
 returns c = (sym (follow-none c.args.e c.args.idxs.now c.args.a (omega arith)), search rules)
-

@@ -1,7 +1,7 @@
-use Rattle.est_times.specs.Cycles.{first_at, on_cycle, first_on_cycle}
+use Rattle.est_times.specs.Cycles.{on_cycle}
 use Rattle.est_times.proofs.FirstAt.{scan_hit, scan_miss, scan-end}
 use native.Mathlib.Nat.{sub-zero}
-use Rattle.std.proofs.Common.{◌≡◌, ◌-◌, ◌≤◌, arith, rules}
+use Rattle.std.proofs.Common.{arith, rules}
 use Rattle.est_times.proofs.lowest.Goals as goal
 
 pub loop-a-init : goal.loop-a-init
@@ -15,4 +15,3 @@ loop-a-preserved c = (search rules, scan_miss (on_cycle c.args.next.now c.args.a
 
 pub returns : goal.returns
 returns c = scan-end (on_cycle c.args.next.now c.args.alt.now c.args.e) c.args.e c.loop-a.a c.loop-a.invariant.1 (omega arith)
-

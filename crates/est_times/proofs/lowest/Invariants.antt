@@ -1,7 +1,5 @@
 use Rattle.est_times.specs.Cycles.{first_at, on_cycle, first_on_cycle}
-use Rattle.est_times.proofs.FirstAt.{scan_hit, scan_miss, scan-end}
-use native.Mathlib.Nat.{sub-zero}
-use Rattle.std.proofs.Common.{◌≡◌, ◌-◌, ◌≤◌, arith, rules}
+use Rattle.std.proofs.Common.{◌≡◌, ◌-◌, ◌≤◌}
 use Rattle.est_times.proofs.lowest.Given as goal
 
 abbrev pub invariant-loop-a : goal.invariant-loop-a
@@ -9,4 +7,3 @@ invariant-loop-a l = (l.a ≤ l.e) × (first_at (on_cycle l.next l.alt l.e) (l.e
 
 abbrev pub decreases-loop-a : goal.decreases-loop-a
 decreases-loop-a l = l.e - l.a
-

@@ -9,4 +9,3 @@ returns-then-s-a c = rw (ne_eqb c.args.a 0 c.if-a-eq0.false, eq-eqb c.args.s c.a
 
 pub returns : goal.returns
 returns c = rw (ne_eqb c.args.a 0 c.if-a-eq0.false, ne_eqb c.args.s c.args.a c.if-s-a.false)
-

@@ -1,4 +1,4 @@
-use Rattle.std.proofs.Common.{◌-◌, ◌≤◌, ⊎_elim, arith, rules}
+use Rattle.std.proofs.Common.{◌-◌, ◌≤◌}
 use Rattle.est_times.proofs.order.Given as goal
 
 abbrev pub invariant-loop-head : goal.invariant-loop-head
@@ -6,4 +6,3 @@ invariant-loop-head l = l.n ≤ 512
 
 abbrev pub decreases-loop-head : goal.decreases-loop-head
 decreases-loop-head l = 512 - l.head
-

@@ -1,4 +1,4 @@
-use Rattle.std.proofs.Common.{refl, inl, inr, arith, rules}
+use Rattle.std.proofs.Common.{refl, inl, inr, arith}
 use Rattle.est_times.proofs.visit.Goals as goal
 
 pub returns-then-s-eq0 : goal.returns-then-s-eq0
@@ -18,4 +18,3 @@ overflow_add-result c = omega (arith, c.requires.1 c.if-seen-s-ne0.false)
 
 pub returns : goal.returns
 returns c = inr (c.if-s-eq0.false, c.if-seen-s-ne0.false, refl, refl, refl)
-

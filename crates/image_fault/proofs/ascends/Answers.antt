@@ -1,8 +1,6 @@
 use Rattle.link_rules.proofs.TableLaws.{all_more, all_fails}
 use Rattle.link_rules.specs.Network.{all_below}
 use mathlib.Core.Path.{refl, ◌≡◌, sym, ◌∙◌}
-use mathlib.Core.Bool.{true}
-use Prim.Native.Nat.{◌-◌, ◌≤◌}
 use native.Mathlib.Omega.{arith}
 use borrow.Author.Rules.{rules}
 use Rattle.image_fault.specs.CodeFacts.{leads_on}
@@ -20,4 +18,3 @@ returns-else-leads_on c = sym (all_fails (leads_on c.args.img.now) c.args.e c.lo
 
 pub returns : goal.returns
 returns c = let e : c.loop-i.i ≡ c.args.e = omega arith in rw (← e) (sym c.loop-i.invariant.1)
-

@@ -1,7 +1,6 @@
 use mathlib.Core.Path.{◌≡◌, refl, ap, ◌∙◌}
-use Prim.Native.Nat.{ℕ, ◌-◌, ◌≤◌}
+use Prim.Native.Nat.{ℕ}
 use native.Mathlib.Omega.{arith}
-use lib.Dec.{eqb}
 use lib.ListN.{length}
 use Rattle.link_rules.specs.Network.{all_below}
 use Rattle.image_fault.specs.CodeFacts.{zero_byte}
@@ -21,4 +20,3 @@ pub returns : goal.returns
 returns c = let s = c.args.s.now in
     let e : c.loop-i.i ≡ length s = omega arith in
     c.loop-i.invariant.1 ∙ ap (λ (n : ℕ). all_below n (zero_byte s)) e
-

@@ -1,12 +1,9 @@
-use mathlib.Core.Path.{◌≡◌, refl, ap, ◌∙◌}
-use Prim.Native.Nat.{ℕ, ◌-◌, ◌≤◌}
-use native.Mathlib.Omega.{arith}
+use mathlib.Core.Path.{◌≡◌}
+use Prim.Native.Nat.{◌-◌, ◌≤◌}
 use lib.Dec.{eqb}
 use lib.ListN.{length}
 use Rattle.link_rules.specs.Network.{all_below}
 use Rattle.image_fault.specs.CodeFacts.{zero_byte}
-use Rattle.image_fault.proofs.ZeroLaws.{zero_turn}
-use borrow.Author.Rules.{rules}
 use Rattle.image_fault.proofs.bytes_zero.Given as goal
 
 abbrev pub invariant-loop-i : goal.invariant-loop-i
@@ -14,4 +11,3 @@ invariant-loop-i l = (l.i ≤ length l.s) × (eqb l.bits 0 ≡ all_below l.i (ze
 
 abbrev pub decreases-loop-i : goal.decreases-loop-i
 decreases-loop-i l = length l.s - l.i
-

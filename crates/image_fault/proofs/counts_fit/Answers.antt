@@ -2,7 +2,6 @@ use Rattle.image_fault.specs.ImageFault.{counts_fit}
 use Rattle.image.specs.Image.{est_count, path_count_of, diverge_count_of, diverge_room}
 use borrow.Author.Tests.{le-leb, lt-leb}
 use native.Mathlib.Omega.{arith}
-use borrow.Author.Rules.{rules}
 use Rattle.image_fault.proofs.counts_fit.Goals as goal
 
 pub returns-then-e-lt1 : goal.returns-then-e-lt1
@@ -32,4 +31,3 @@ returns-then-q-m c = let bs = c.args.img.now in rw (le-leb 1 (est_count bs) (ome
 pub returns : goal.returns
 unfolding counts_fit
 returns c = let bs = c.args.img.now in rw (le-leb 1 (est_count bs) (omega arith), le-leb (est_count bs) 512 (omega arith), le-leb 1 (path_count_of bs) (omega arith), le-leb (path_count_of bs) (est_count bs) (omega arith), le-leb 2 (diverge_count_of bs) (omega arith), le-leb (diverge_count_of bs) (diverge_room bs) (omega arith), c.diverge_room-q.ensures)
-

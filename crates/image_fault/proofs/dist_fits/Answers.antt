@@ -1,5 +1,4 @@
 use Rattle.image_fault.specs.ImageFault.{dist_fits}
-use borrow.Author.Rules.{rules}
 use Rattle.image_fault.proofs.dist_fits.Goals as goal
 
 pub returns-then-real_of : goal.returns-then-real_of
@@ -13,4 +12,3 @@ returns-then-float_fits c = rw (← c.float_fits.ensures, c.if-float_fits.true, 
 pub returns : goal.returns
 unfolding dist_fits
 returns c = rw (← c.float_fits.ensures, c.if-float_fits.false)
-

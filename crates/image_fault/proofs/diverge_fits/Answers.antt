@@ -3,7 +3,6 @@ use borrow.Author.Tests.{eq-eqb, ne_eqb}
 use Prim.Native.Nat.{◌+◌}
 use Rattle.image.specs.Image.{diverge_count_of}
 use native.Mathlib.Omega.{arith}
-use borrow.Author.Rules.{rules}
 use Rattle.image_fault.proofs.diverge_fits.Goals as goal
 
 pub returns-then-d-eq0 : goal.returns-then-d-eq0
@@ -21,4 +20,3 @@ returns-then-i-diverge_count c = rw (ne_eqb c.args.i 0 c.if-i-eq0.false, eq-eqb 
 pub returns : goal.returns
 unfolding diverge_fits
 returns c = rw (ne_eqb c.args.i 0 c.if-i-eq0.false, ne_eqb (c.args.i + 1) (diverge_count_of c.args.img.now) (λ q. c.if-i-diverge_count.false (omega arith)), ← c.diverge_of-d.ensures, ← c.diverge_of.ensures, ← c.path_count-n.ensures, ← c.inner_fits.ensures)
-

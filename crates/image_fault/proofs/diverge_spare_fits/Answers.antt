@@ -16,4 +16,3 @@ returns-then-is_wide c = rw (c.u16_at.ensures, c.diverge_place-at.ensures, c.est
 
 pub returns : goal.returns
 returns c = sym (narrow_spare c.args.img.now c.args.i (sym c.is_wide.ensures ∙ c.if-is_wide.false))
-

@@ -1,8 +1,6 @@
 use Rattle.link_rules.proofs.TableLaws.{all_more, all_fails}
 use Rattle.link_rules.specs.Network.{all_below}
 use mathlib.Core.Path.{refl, ◌≡◌, sym, ◌∙◌}
-use mathlib.Core.Bool.{true}
-use Prim.Native.Nat.{◌-◌, ◌≤◌}
 use native.Mathlib.Omega.{arith}
 use borrow.Author.Rules.{rules}
 use Rattle.image_fault.specs.ImageFault.{diverge_spare_fits}
@@ -20,4 +18,3 @@ returns-else-diverge_spare_fits c = sym (all_fails (diverge_spare_fits c.args.im
 
 pub returns : goal.returns
 returns c = let e : c.loop-i.i ≡ c.args.m = omega arith in rw (← e) (sym c.loop-i.invariant.1)
-

@@ -1,9 +1,7 @@
 use Rattle.image.specs.Image.{largest_of}
 use Rattle.image_fault.specs.ImageFault.{diverge_train_fits}
-use borrow.Author.Rules.{rules}
 use Rattle.image_fault.proofs.diverge_train_fits.Goals as goal
 
 pub returns : goal.returns
 unfolding diverge_train_fits largest_of
 returns c = rw c.diverge_at-d.ensures
-

@@ -1,9 +1,5 @@
-use Rattle.image_fault.proofs.ScanLaws.{first_fit, first-unfit, first-end}
-use mathlib.Core.Path.{◌≡◌, sym, ◌∙◌}
+use mathlib.Core.Path.{◌≡◌}
 use Prim.Native.Nat.{◌-◌, ◌≤◌}
-use native.Mathlib.Nat.{sub-zero}
-use native.Mathlib.Omega.{arith}
-use borrow.Author.Rules.{rules}
 use Rattle.image_fault.specs.ImageFault.{first_unfit, est_fits}
 use Rattle.image_fault.proofs.est_fault.Given as goal
 
@@ -12,4 +8,3 @@ invariant-loop-i l = (l.i ≤ l.e) × (first_unfit 7 (est_fits l.img l.l) (l.e -
 
 abbrev pub decreases-loop-i : goal.decreases-loop-i
 decreases-loop-i l = l.e - l.i
-

@@ -1,5 +1,4 @@
 use Rattle.image_fault.specs.ImageFault.{est_fits}
-use borrow.Author.Rules.{rules}
 use Rattle.image_fault.proofs.est_fits.Goals as goal
 
 pub returns-then-est_links_fit : goal.returns-then-est_links_fit
@@ -13,4 +12,3 @@ returns-then-float_fits c = rw (← c.est_at-x.ensures, ← c.est_place.ensures,
 pub returns : goal.returns
 unfolding est_fits
 returns c = rw (← c.est_place.ensures, ← c.u64_at.ensures, ← c.float_fits.ensures, c.if-float_fits.false)
-

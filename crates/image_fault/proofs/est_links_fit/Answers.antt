@@ -17,4 +17,3 @@ returns-then-e-x-3 c = rw (lt-ltb _ _ c.if-e-x.false, lt-ltb _ _ c.if-e-x-2.fals
 pub returns : goal.returns
 unfolding est_links_fit
 returns c = rw (lt-ltb _ _ c.if-e-x.false, lt-ltb _ _ c.if-e-x-2.false, lt-ltb _ _ c.if-e-x-3.false)
-

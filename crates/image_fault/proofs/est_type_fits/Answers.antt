@@ -1,8 +1,6 @@
 use Rattle.image_fault.specs.ImageFault.{est_type_fits}
-use borrow.Author.Rules.{rules}
 use Rattle.image_fault.proofs.est_type_fits.Goals as goal
 
 pub returns : goal.returns
 unfolding est_type_fits
 returns c = cc
-

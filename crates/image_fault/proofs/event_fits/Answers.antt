@@ -1,6 +1,5 @@
 use Rattle.image_fault.specs.ImageFault.{event_fits}
 use borrow.Author.Tests.{lt-ltb, le-ltb}
-use borrow.Author.Rules.{rules}
 use Rattle.image_fault.proofs.event_fits.Goals as goal
 
 pub returns-then-l-e : goal.returns-then-l-e
@@ -18,4 +17,3 @@ returns-in-Clear c = rw (lt-ltb _ _ c.if-l-e.false, c.in-Clear.is)
 pub returns-in-Fake : goal.returns-in-Fake
 unfolding event_fits
 returns-in-Fake c = rw (lt-ltb _ _ c.if-l-e.false, c.in-Fake.is)
-

@@ -4,7 +4,6 @@ use borrow.Author.Tests.{eq-eqb, ne_eqb, le-leb, lt-leb}
 use Rattle.link_rules.specs.declared.refusal.Refusal.{Refusal}
 use Rattle.image_fault.specs.ImageFault.{fault_with}
 use Rattle.image_fault.proofs.AcceptLaws.{fits-counts, fits-either, clean_link}
-use borrow.Author.Rules.{rules}
 use Rattle.image_fault.proofs.first_fault.Goals as goal
 
 pub returns-then-links-lt2 : goal.returns-then-links-lt2
@@ -45,4 +44,3 @@ returns-then-image_fits c = rw (le-leb 2 c.args.links (omega arith), le-leb c.ar
 pub returns : goal.returns
 unfolding fault_with
 returns c = rw (le-leb 2 c.args.links (omega arith), le-leb c.args.links 4000 (omega arith), ← c.image_fits.ensures, c.if-image_fits.false)
-

@@ -1,9 +1,5 @@
-use Rattle.image_fault.proofs.ScanLaws.{first_fit, first-unfit, first-end}
-use mathlib.Core.Path.{◌≡◌, sym, ◌∙◌}
+use mathlib.Core.Path.{◌≡◌}
 use Prim.Native.Nat.{◌-◌, ◌≤◌}
-use native.Mathlib.Nat.{sub-zero}
-use native.Mathlib.Omega.{arith}
-use borrow.Author.Rules.{rules}
 use Rattle.image_fault.specs.ImageFault.{first_unfit, diverge_train_fits}
 use Rattle.image_fault.proofs.first_large_train.Given as goal
 
@@ -12,4 +8,3 @@ invariant-loop-i l = (l.i ≤ l.m) × (first_unfit 22 (diverge_train_fits l.img)
 
 abbrev pub decreases-loop-i : goal.decreases-loop-i
 decreases-loop-i l = l.m - l.i
-

@@ -4,4 +4,3 @@ use Rattle.image_fault.proofs.float_fits.Goals as goal
 
 pub returns : goal.returns
 returns c = sym (float_fits-is c.args.b)
-

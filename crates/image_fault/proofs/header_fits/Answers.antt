@@ -1,5 +1,4 @@
 use Rattle.image_fault.specs.ImageFault.{header_fits}
-use borrow.Author.Rules.{rules}
 use Rattle.image_fault.proofs.header_fits.Goals as goal
 
 pub returns-then-dist_fits-2 : goal.returns-then-dist_fits-2
@@ -13,4 +12,3 @@ returns-then-dist_fits c = rw (← c.u64_at.ensures, ← c.dist_fits.ensures, c.
 pub returns : goal.returns
 unfolding header_fits
 returns c = rw (← c.u64_at.ensures, ← c.dist_fits.ensures, c.if-dist_fits.false)
-

@@ -2,9 +2,7 @@ use mathlib.Core.Path.{sym, ◌∙◌}
 use Rattle.link_rules.specs.Refusals.{no_refusal}
 use Rattle.image_fault.specs.declared.Widths.TheVariants.{Narrow}
 use Rattle.image_fault.proofs.PassLaws.{all_fit-none}
-use borrow.Author.Rules.{rules}
 use Rattle.image_fault.proofs.image_fault.Goals as goal
 
 pub returns-then-all_fit : goal.returns-then-all_fit
 returns-then-all_fit c = let a = c.args in sym (all_fit-none Narrow no_refusal a.img.now a.links (sym c.all_fit.ensures ∙ c.if-all_fit.true))
-

@@ -1,5 +1,4 @@
 use Rattle.image_fault.specs.ImageFault.{image_fits}
-use borrow.Author.Rules.{rules}
 use Rattle.image_fault.proofs.image_fits.Goals as goal
 
 pub returns-then-train_fits : goal.returns-then-train_fits
@@ -17,4 +16,3 @@ returns-then-counts_fit c = rw (← c.counts_fit.ensures, c.if-counts_fit.true, 
 pub returns : goal.returns
 unfolding image_fits
 returns c = rw (← c.counts_fit.ensures, c.if-counts_fit.false)
-

@@ -1,6 +1,5 @@
 use Rattle.image_fault.specs.ImageFault.{indices_fit}
 use borrow.Author.Tests.{lt-ltb, le-ltb, le-leb, lt-leb}
-use borrow.Author.Rules.{rules}
 use Rattle.image_fault.proofs.indices_fit.Goals as goal
 
 pub returns-then-h : goal.returns-then-h
@@ -18,4 +17,3 @@ returns-then-h-3 c = rw (le-leb _ _ c.if-h.false, le-leb _ _ c.if-h-2.false, le-
 pub returns : goal.returns
 unfolding indices_fit
 returns c = rw (le-leb _ _ c.if-h.false, le-leb _ _ c.if-h-2.false, lt-ltb _ _ c.if-h-3.false)
-

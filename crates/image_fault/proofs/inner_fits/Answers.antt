@@ -17,4 +17,3 @@ returns-then-n-d c = rw (ne_eqb _ _ c.if-d-eq0.false, le-leb _ _ c.if-d-lt1.fals
 pub returns : goal.returns
 unfolding inner_fits
 returns c = rw (ne_eqb _ _ c.if-d-eq0.false, le-leb _ _ c.if-d-lt1.false, lt-ltb _ _ c.if-n-d.false)
-

@@ -6,4 +6,3 @@ returns-then-t-eq0 c = rw (eq-eqb _ _ c.if-t-eq0.true)
 
 pub returns : goal.returns
 returns c = rw (ne_eqb _ _ c.if-t-eq0.false)
-

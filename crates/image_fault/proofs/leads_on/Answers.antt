@@ -1,5 +1,4 @@
 use Rattle.image_fault.specs.CodeFacts.{leads_on}
-use borrow.Author.Rules.{rules}
 use Rattle.image_fault.proofs.leads_on.Goals as goal
 
 pub returns-then-is_later : goal.returns-then-is_later
@@ -9,4 +8,3 @@ returns-then-is_later c = rw (← c.est_next.ensures, ← c.est_next_alt.ensures
 pub returns : goal.returns
 unfolding leads_on
 returns c = rw (← c.est_next.ensures, ← c.is_later.ensures, c.if-is_later.false)
-

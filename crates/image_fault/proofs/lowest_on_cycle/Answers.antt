@@ -1,9 +1,8 @@
-use Rattle.image_fault.proofs.CycleArrays.{Holds, holds_more, cycle_is, cycle_below}
+use Rattle.image_fault.proofs.CycleArrays.{holds_more, cycle_is, cycle_below}
 use Rattle.image.specs.Image.{est_at}
 use Rattle.disp_structs.specs.declared.EstIdx.{EstIdx}
 use mathlib.Core.Path.{◌≡◌, refl, sym, ap, ◌∙◌}
-use Prim.Native.Nat.{◌-◌, ◌≤◌}
-use lib.ListN.{length, length-set}
+use lib.ListN.{length-set}
 use native.Mathlib.Omega.{arith}
 use borrow.Author.Rules.{rules}
 use Rattle.image_fault.specs.ImageFault.{cycle_refused}

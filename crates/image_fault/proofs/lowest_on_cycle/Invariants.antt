@@ -1,12 +1,8 @@
-use Rattle.image_fault.proofs.CycleArrays.{Holds, holds_more, cycle_is, cycle_below}
+use Rattle.image_fault.proofs.CycleArrays.{Holds}
 use Rattle.image.specs.Image.{est_at}
-use Rattle.disp_structs.specs.declared.EstIdx.{EstIdx}
-use mathlib.Core.Path.{◌≡◌, refl, sym, ap, ◌∙◌}
+use mathlib.Core.Path.{◌≡◌}
 use Prim.Native.Nat.{◌-◌, ◌≤◌}
-use lib.ListN.{length, length-set}
-use native.Mathlib.Omega.{arith}
-use borrow.Author.Rules.{rules}
-use Rattle.image_fault.specs.ImageFault.{cycle_refused}
+use lib.ListN.{length}
 use Rattle.image_fault.proofs.lowest_on_cycle.Given as goal
 
 abbrev pub invariant-loop-i : goal.invariant-loop-i
@@ -14,4 +10,3 @@ invariant-loop-i l = (l.i ≤ l.e) × (length l.next ≡ 512) × (length l.alt �
 
 abbrev pub decreases-loop-i : goal.decreases-loop-i
 decreases-loop-i l = l.e - l.i
-

@@ -1,10 +1,9 @@
 use Rattle.image_fault.proofs.ScanLaws.{first_fit, first-unfit, first-end}
-use mathlib.Core.Path.{◌≡◌, sym, ◌∙◌}
-use Prim.Native.Nat.{◌-◌, ◌≤◌}
+use mathlib.Core.Path.{sym, ◌∙◌}
 use native.Mathlib.Nat.{sub-zero}
 use native.Mathlib.Omega.{arith}
 use borrow.Author.Rules.{rules}
-use Rattle.image_fault.specs.ImageFault.{first_unfit, node_fits}
+use Rattle.image_fault.specs.ImageFault.{node_fits}
 use Rattle.image_fault.proofs.node_fault.Goals as goal
 
 pub loop-i-init : goal.loop-i-init
@@ -18,4 +17,3 @@ returns-else-node_fits c = sym (first-unfit 7 (node_fits c.args.img.now c.args.l
 
 pub returns : goal.returns
 returns c = sym (first-end 7 (node_fits c.args.img.now c.args.l) c.args.n c.loop-i.i (omega arith)) ∙ c.loop-i.invariant.1
-

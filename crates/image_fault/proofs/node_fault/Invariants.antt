@@ -1,9 +1,5 @@
-use Rattle.image_fault.proofs.ScanLaws.{first_fit, first-unfit, first-end}
-use mathlib.Core.Path.{◌≡◌, sym, ◌∙◌}
+use mathlib.Core.Path.{◌≡◌}
 use Prim.Native.Nat.{◌-◌, ◌≤◌}
-use native.Mathlib.Nat.{sub-zero}
-use native.Mathlib.Omega.{arith}
-use borrow.Author.Rules.{rules}
 use Rattle.image_fault.specs.ImageFault.{first_unfit, node_fits}
 use Rattle.image_fault.proofs.node_fault.Given as goal
 
@@ -12,4 +8,3 @@ invariant-loop-i l = (l.i ≤ l.n) × (first_unfit 7 (node_fits l.img l.l) (l.n 
 
 abbrev pub decreases-loop-i : goal.decreases-loop-i
 decreases-loop-i l = l.n - l.i
-

@@ -1,6 +1,5 @@
 use Rattle.image_fault.specs.ImageFault.{node_fits}
 use borrow.Author.Tests.{lt-ltb, le-ltb}
-use borrow.Author.Rules.{rules}
 use Rattle.image_fault.proofs.node_fits.Goals as goal
 
 pub returns-then-e-x : goal.returns-then-e-x
@@ -18,4 +17,3 @@ returns-then-float_fits c = rw (← c.est_count-e.ensures, ← c.node_place-at.e
 pub returns : goal.returns
 unfolding node_fits
 returns c = rw (← c.est_count-e.ensures, ← c.node_place-at.ensures, ← c.u64_at.ensures, ← c.float_fits.ensures, c.if-float_fits.false)
-

@@ -1,4 +1,3 @@
-use borrow.Author.Rules.{rules}
 use Rattle.image_fault.proofs.on_route.Goals as goal
 
 pub returns-then-ends_at : goal.returns-then-ends_at
@@ -9,4 +8,3 @@ returns-then-comes_from c = rw (← c.comes_from.ensures, c.if-comes_from.true, 
 
 pub returns : goal.returns
 returns c = rw (← c.comes_from.ensures, c.if-comes_from.false)
-

@@ -4,7 +4,6 @@ use Rattle.image.specs.Image.{est_count, diverge_room, is_wide, size_of, est_pla
 use Rattle.link_rules.specs.Octets.{le_at}
 use borrow.Author.Tests.{eq-eqb, ne_eqb}
 use native.Mathlib.Omega.{arith}
-use borrow.Author.Rules.{rules}
 use Rattle.image_fault.proofs.parts_fit.Goals as goal
 
 pub returns-then-u32_at-est_place : goal.returns-then-u32_at-est_place
@@ -26,4 +25,3 @@ returns-then-size-diverge_place c = let bs = c.args.img.now in let n : diverge_p
 pub returns : goal.returns
 unfolding parts_fit
 returns c = let bs = c.args.img.now in let n : diverge_place c.is_wide-wide.result c.est_count-e.result c.diverge_room-q.result ≡ image_size (is_wide bs) (est_count bs) (diverge_room bs) = rw (c.is_wide-wide.ensures, c.est_count-e.ensures, c.diverge_room-q.ensures) in rw (eq-eqb (le_at 4 bs 20) (est_place 0) (omega arith), eq-eqb (le_at 4 bs 24) (node_place (est_count bs) 0) (omega arith), eq-eqb (le_at 4 bs 28) (diverge_offset (est_count bs)) (omega arith), eq-eqb (size_of bs) (image_size (is_wide bs) (est_count bs) (diverge_room bs)) (omega arith), c.size-size.ensures)
-

@@ -1,14 +1,13 @@
 use Rattle.image_fault.proofs.ScanLaws.{first_fit, first-unfit, first-end}
-use Rattle.image_fault.proofs.ArrivalLaws.{Flagged, flagged-none, flagged_more, route_is}
-use Rattle.image.specs.Image.{node_at}
+use Rattle.image_fault.proofs.ArrivalLaws.{flagged-none, flagged_more, route_is}
 use Rattle.disp_structs.specs.declared.LinkEvent.{LinkEvent}
 use mathlib.Core.Path.{◌≡◌, refl, sym, ap, ◌∙◌}
-use Prim.Native.Nat.{◌+◌, ◌-◌, ◌≤◌, ◌<◌}
+use Prim.Native.Nat.{◌+◌, ◌-◌}
 use native.Mathlib.Nat.{sub-zero}
 use lib.ListN.{length, length-set}
 use native.Mathlib.Omega.{arith}
 use borrow.Author.Rules.{rules}
-use Rattle.image_fault.specs.ImageFault.{first_unfit, on_route}
+use Rattle.image_fault.specs.ImageFault.{on_route}
 use Rattle.image_fault.proofs.path_fault_in.Goals as goal
 
 pub loop-i-init : goal.loop-i-init
@@ -51,4 +50,3 @@ returns-else-on_route c = let bs = c.args.img.now in
 
 pub returns : goal.returns
 returns c = sym (first-end 9 (on_route c.args.img.now) c.args.n c.loop-i.i (omega arith)) ∙ c.loop-i.invariant.4
-

@@ -1,13 +1,8 @@
-use Rattle.image_fault.proofs.ScanLaws.{first_fit, first-unfit, first-end}
-use Rattle.image_fault.proofs.ArrivalLaws.{Flagged, flagged-none, flagged_more, route_is}
+use Rattle.image_fault.proofs.ArrivalLaws.{Flagged}
 use Rattle.image.specs.Image.{node_at}
-use Rattle.disp_structs.specs.declared.LinkEvent.{LinkEvent}
-use mathlib.Core.Path.{◌≡◌, refl, sym, ap, ◌∙◌}
-use Prim.Native.Nat.{◌+◌, ◌-◌, ◌≤◌, ◌<◌}
-use native.Mathlib.Nat.{sub-zero}
-use lib.ListN.{length, length-set}
-use native.Mathlib.Omega.{arith}
-use borrow.Author.Rules.{rules}
+use mathlib.Core.Path.{◌≡◌}
+use Prim.Native.Nat.{◌-◌, ◌≤◌, ◌<◌}
+use lib.ListN.{length}
 use Rattle.image_fault.specs.ImageFault.{first_unfit, on_route}
 use Rattle.image_fault.proofs.path_fault_in.Given as goal
 
@@ -16,4 +11,3 @@ invariant-loop-i l = (l.i ≤ l.n) × (length l.seen ≡ length l.initial.seen) 
 
 abbrev pub decreases-loop-i : goal.decreases-loop-i
 decreases-loop-i l = l.n - l.i
-

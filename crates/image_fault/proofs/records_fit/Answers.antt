@@ -1,5 +1,4 @@
 use Rattle.image_fault.specs.ImageFault.{records_fit}
-use borrow.Author.Rules.{rules}
 use Rattle.image_fault.proofs.records_fit.Goals as goal
 
 pub returns-then-diverge_spares_fit : goal.returns-then-diverge_spares_fit
@@ -17,4 +16,3 @@ returns-then-est_types_fit c = rw (← c.est_count.ensures, ← c.est_types_fit.
 pub returns : goal.returns
 unfolding records_fit
 returns c = rw (← c.est_count.ensures, ← c.est_types_fit.ensures, c.if-est_types_fit.false)
-

@@ -17,4 +17,3 @@ diverge_fault-requires c = (c.is_wide.ensures, search rules)
 pub returns : goal.returns
 unfolding route_fault
 returns c = rw (← c.path_count.ensures, ← c.path_fault-f.ensures, eq-eqb _ _ c.if-f-ne0.false, ← c.diverge_count.ensures, ← c.diverge_fault.ensures)
-

@@ -2,7 +2,6 @@ use mathlib.Core.Path.{ap}
 use Rattle.link_rules.specs.declared.link_idx.TrainIdx.{TrainIdx}
 use Rattle.image_fault.specs.ImageFault.{train_fits}
 use borrow.Author.Tests.{eq-eqb, ne_eqb, le-leb, lt-leb}
-use borrow.Author.Rules.{rules}
 use Rattle.image_fault.proofs.train_fits.Goals as goal
 
 pub returns-then-t-eq0 : goal.returns-then-t-eq0
@@ -16,4 +15,3 @@ returns-then-width_number-u16_at c = rw (← ap (λ (t : TrainIdx). t.0) c.train
 pub returns : goal.returns
 unfolding train_fits
 returns c = rw (← ap (λ (t : TrainIdx). t.0) c.train_idx-t.ensures, ne_eqb _ _ c.if-t-eq0.false, ← c.u16_at.ensures, ← c.width_number.ensures, le-leb _ _ c.if-width_number-u16_at.false, ← c.u32_at.ensures)
-

@@ -1,6 +1,5 @@
 use mathlib.Core.Path.{sym, ◌∙◌}
 use Rattle.image_fault.specs.ImageFault.{trains_fault}
-use borrow.Author.Rules.{rules}
 use Rattle.image_fault.proofs.trains_fault.Goals as goal
 
 pub returns-then-is_wide : goal.returns-then-is_wide
@@ -10,4 +9,3 @@ returns-then-is_wide c = rw (← c.diverge_count.ensures, sym c.is_wide.ensures 
 pub returns : goal.returns
 unfolding trains_fault
 returns c = rw (sym c.is_wide.ensures ∙ c.if-is_wide.false)
-

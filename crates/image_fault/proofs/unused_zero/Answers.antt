@@ -38,4 +38,3 @@ returns-then-words_zero c = rw (← c.est_count-e.ensures, ← c.path_count-n.en
 pub returns : goal.returns
 unfolding unused_zero
 returns c = rw (← c.est_count-e.ensures, ← c.path_count-n.ensures, ← c.count_from.ensures, ← c.node_place.ensures, ← c.words_zero.ensures, c.if-words_zero.false)
-

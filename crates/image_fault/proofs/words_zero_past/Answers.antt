@@ -1,8 +1,6 @@
 use Rattle.link_rules.proofs.TableLaws.{all_more, all_fails}
 use Rattle.link_rules.specs.Network.{all_below}
 use mathlib.Core.Path.{refl, ◌≡◌, sym}
-use mathlib.Core.Bool.{true}
-use Prim.Native.Nat.{◌-◌, ◌≤◌}
 use native.Mathlib.Omega.{arith}
 use borrow.Author.Rules.{rules}
 use Rattle.image_fault.specs.ImageFault.{zero_word}
@@ -23,4 +21,3 @@ loop-j-preserved c = (search rules, all_more (zero_word c.args.img.now c.args.at
 
 pub returns : goal.returns
 returns c = let e : c.loop-j.j ≡ c.args.k = omega arith in rw (← e) (sym c.loop-j.invariant.1)
-

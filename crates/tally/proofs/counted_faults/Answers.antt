@@ -1,6 +1,4 @@
-use borrow.Author.Rules.{rules}
 use Rattle.tally.proofs.counted_faults.Goals as goal
 
 pub returns : goal.returns
 returns c = cc
-

@@ -1,4 +1,3 @@
-use borrow.Author.Rules.{rules}
 use borrow.Author.Tests.{lt-ltb, le-ltb}
 use Rattle.tally.proofs.rounds_after.Goals as goal
 
@@ -7,4 +6,3 @@ returns-then-n-lt65535 c = simp (lt-ltb _ _ c.if-n-lt65535.true)
 
 pub returns : goal.returns
 returns c = simp (le-ltb _ _ c.if-n-lt65535.false)
-

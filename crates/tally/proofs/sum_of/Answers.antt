@@ -1,4 +1,3 @@
-use borrow.Author.Rules.{rules}
 use borrow.Author.Tests.{le-leb, lt-leb}
 use Rattle.tally.proofs.sum_of.Goals as goal
 
@@ -7,4 +6,3 @@ returns-then-b-a c = simp (le-leb _ _ c.if-b-a.true)
 
 pub returns : goal.returns
 returns c = simp (lt-leb _ _ c.if-b-a.false)
-

@@ -8,7 +8,6 @@ use Rattle.disp_structs.specs.Values.{zero_metres}
 use Rattle.image.specs.Image.{est_count}
 use Rattle.train_disp.specs.TrainDisp.{laid_image, with_header, with_est}
 use Rattle.train_disp.proofs.LayOutLaws.{count-written, walk_few}
-use borrow.Author.Rules.{rules}
 use Rattle.train_disp.proofs.build.Goals as goal
 
 pub put_path-n-requires : goal.put_path-n-requires
@@ -30,4 +29,3 @@ put_ends-requires c = let a = c.args in
 pub returns : goal.returns
 unfolding laid_image
 returns c = rw (c.put_ends.ensures, c.put_path-n.ensures.0, c.put_path-n.ensures.1, c.put_est.ensures, c.put_header.ensures, c.zero_all.ensures)
-

@@ -5,7 +5,6 @@ use native.Mathlib.Omega.{arith}
 use lib.Seq.{length-take-le}
 use Rattle.image_fault.specs.ImageFault.{image_fault}
 use Rattle.train_disp.specs.TrainDisp.{laid_image}
-use borrow.Author.Rules.{rules}
 use Rattle.train_disp.proofs.judge.Goals as goal
 
 pub slice_bounds-judge_in-end : goal.slice_bounds-judge_in-end
@@ -19,4 +18,3 @@ pub returns : goal.returns
 returns c = let p = c.requires in
     let a = c.args in
     c.judge_in.ensures ∙ ap (λ (n : ℕ). image_fault (laid_image false a.est.now a.settings n) a.settings.links) (length-take-le a.size c.scratch-room.result (omega (arith, p.small, c.scratch-room.ensures)))
-

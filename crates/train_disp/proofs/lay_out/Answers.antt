@@ -5,7 +5,6 @@ use Rattle.link_rules.specs.declared.refusal.Refusal.{Refusal}
 use Rattle.link_rules.specs.declared.refusal.Answer.TheVariants.{Done}
 use Rattle.train_disp.specs.TrainDisp.{laid_image, laid, laid_by, laid_out}
 use Rattle.train_disp.proofs.LayOutLaws.{sizes_give, fault-sizes, laid-refused, laid_done}
-use borrow.Author.Rules.{rules}
 use Rattle.train_disp.proofs.lay_out.Goals as goal
 
 pub returns-then-f-ne0 : goal.returns-then-f-ne0
@@ -27,4 +26,3 @@ returns c = let a = c.args in
     let new = laid_image true a.est.now a.settings (length a.image.now) in
     ap (laid Done) c.build.ensures
     ∙ (sym (laid_done f.result a.image.now new c.if-f-ne0.false) ∙ ap (λ (r : Refusal). laid_by r a.image.now new) f.ensures)
-

@@ -5,7 +5,6 @@ use Rattle.link_rules.specs.Refusals.{or_else, refused_unless}
 use Rattle.link_rules.specs.declared.refusal.Refusal.{Refusal}
 use Rattle.train_disp.specs.TrainDisp.{train_fault, sizes_fit, size_fault, lay_out_fault}
 use Rattle.train_disp.proofs.LayOutLaws.{or_stop, or_on, sizes_clean, sizes_give}
-use borrow.Author.Rules.{rules}
 use Rattle.train_disp.proofs.lay_out_fault.Goals as goal
 
 pub returns-then-first-ne0 : goal.returns-then-first-ne0
@@ -36,4 +35,3 @@ returns c = let a = c.args in
     c.or_else.ensures
     ∙ ap₂ or_else c.judge-bad_records.ensures (c.refused_unless-beyond.ensures ∙ ap (λ (t : Bool). refused_unless t 11) c.offsets_fit.ensures)
     ∙ sym (or_on (train_fault a.settings) (size_fault a.est.now a.settings a.size) _ (ap (λ (r : Refusal). r.number) (sym first) ∙ c.if-first-ne0.false))
-

@@ -8,4 +8,3 @@ returns-then-sums c = rw c.if-sums.true
 pub returns : goal.returns
 unfolding offset_behind
 returns c = rw c.if-sums.false
-

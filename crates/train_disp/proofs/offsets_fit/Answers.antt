@@ -1,13 +1,11 @@
-use mathlib.Core.Path.{◌≡◌, sym, ap, ◌∙◌}
+use mathlib.Core.Path.{sym, ap, ◌∙◌}
 use mathlib.Core.Bool.{true}
-use Prim.Native.Nat.{◌-◌, ◌/◌, ◌≤◌}
+use Prim.Native.Nat.{◌/◌}
 use native.Mathlib.Omega.{arith}
 use native.Mathlib.Nat.{sub-zero}
 use lib.ListN.{length}
 use borrow.Author.Rules.{rules}
-use borrow.Author.Tests.{not-true, not-false}
-use Rattle.disp_structs.specs.Values.{zero_metres}
-use Rattle.train_disp.specs.TrainDisp.{walk_next, all_within}
+use Rattle.train_disp.specs.TrainDisp.{all_within}
 use Rattle.train_disp.proofs.LayOutLaws.{walk_end, scan_out, scan_last, scan_on}
 use Rattle.train_disp.proofs.offsets_fit.Goals as goal
 
@@ -36,4 +34,3 @@ unfolding all_within
 returns c = let g = c.loop-i in
     let a = c.args in
     sym (ap all_within (walk_end true a.est.now (length a.est.now / 32) g.i g.at g.o (omega arith))) ∙ g.invariant.1
-

@@ -1,14 +1,8 @@
-use mathlib.Core.Path.{◌≡◌, sym, ap, ◌∙◌}
+use mathlib.Core.Path.{◌≡◌}
 use mathlib.Core.Bool.{true}
-use Prim.Native.Nat.{◌-◌, ◌/◌, ◌≤◌}
-use native.Mathlib.Omega.{arith}
-use native.Mathlib.Nat.{sub-zero}
-use lib.ListN.{length}
-use borrow.Author.Rules.{rules}
-use borrow.Author.Tests.{not-true, not-false}
+use Prim.Native.Nat.{◌-◌, ◌≤◌}
 use Rattle.disp_structs.specs.Values.{zero_metres}
 use Rattle.train_disp.specs.TrainDisp.{walk_next, all_within}
-use Rattle.train_disp.proofs.LayOutLaws.{walk_end, scan_out, scan_last, scan_on}
 use Rattle.train_disp.proofs.offsets_fit.Given as goal
 
 abbrev pub invariant-loop-i : goal.invariant-loop-i
@@ -16,4 +10,3 @@ invariant-loop-i l = (l.i ≤ l.e) × (all_within (walk_next true l.est (l.e - l
 
 abbrev pub decreases-loop-i : goal.decreases-loop-i
 decreases-loop-i l = l.e - l.i
-

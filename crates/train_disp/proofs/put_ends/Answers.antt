@@ -1,9 +1,7 @@
 use Rattle.image.specs.Fields.{diverge_words}
 use Rattle.train_disp.specs.TrainDisp.{with_ends}
-use borrow.Author.Rules.{rules}
 use Rattle.train_disp.proofs.put_ends.Goals as goal
 
 pub returns : goal.returns
 unfolding with_ends diverge_words
 returns c = cc
-

@@ -1,5 +1,5 @@
 use mathlib.Core.Path.{◌≡◌, refl, sym, ap, ◌∙◌}
-use Prim.Native.Nat.{◌+◌, ◌-◌, ◌≤◌}
+use Prim.Native.Nat.{◌+◌}
 use native.Mathlib.Omega.{arith}
 use native.Mathlib.Numerals.{add-one}
 use lib.ListN.{length, get_or, set}
@@ -21,4 +21,3 @@ unfolding with_est
 returns c = let l = c.loop-i in
     let e : l.i ≡ length c.args.est.now = omega arith in
     l.invariant.2 ∙ ap (paste c.args.img.now 64 c.args.est.now) e
-

@@ -1,15 +1,14 @@
-use mathlib.Core.Path.{◌≡◌, refl, sym, ap, ◌∙◌}
+use mathlib.Core.Path.{refl, sym, ap, ◌∙◌}
 use mathlib.Core.List.{List}
-use Prim.Native.Nat.{◌+◌, ◌-◌, ◌≤◌, ◌<◌}
+use Prim.Native.Nat.{◌<◌}
 use native.Mathlib.Omega.{arith}
 use native.Mathlib.Nat.{sub-zero, zero-add}
 use lib.ListN.{length}
 use borrow.Author.Rules.{rules}
-use Rattle.disp_structs.specs.Values.{zero_metres}
 use Rattle.disp_structs.specs.declared.DispNode.{DispNode}
-use Rattle.image.specs.Image.{est_count, node_place}
+use Rattle.image.specs.Image.{node_place}
 use Rattle.image.specs.Codec.{put_each}
-use Rattle.train_disp.specs.TrainDisp.{walk_next, put_nodes}
+use Rattle.train_disp.specs.TrainDisp.{put_nodes}
 use Rattle.train_disp.proofs.LayOutLaws.{walk_end, kept, long, path_on, count_on, path-last, count-last}
 use Rattle.train_disp.proofs.put_path.Goals as goal
 
@@ -51,4 +50,3 @@ returns c = let g = c.loop-i in
     let a = c.args in
     let e = walk_end a.sums a.est.now a.e g.i g.at g.o (omega arith) in
     (omega (arith, ap length e, g.invariant.4), sym (ap (λ (ns : List DispNode). put_nodes ns (node_place a.e g.i) g.img) e) ∙ g.invariant.3)
-

@@ -1,16 +1,9 @@
-use mathlib.Core.Path.{◌≡◌, refl, sym, ap, ◌∙◌}
-use mathlib.Core.List.{List}
-use Prim.Native.Nat.{◌+◌, ◌-◌, ◌≤◌, ◌<◌}
-use native.Mathlib.Omega.{arith}
-use native.Mathlib.Nat.{sub-zero, zero-add}
+use mathlib.Core.Path.{◌≡◌}
+use Prim.Native.Nat.{◌+◌, ◌-◌, ◌≤◌}
 use lib.ListN.{length}
-use borrow.Author.Rules.{rules}
 use Rattle.disp_structs.specs.Values.{zero_metres}
-use Rattle.disp_structs.specs.declared.DispNode.{DispNode}
 use Rattle.image.specs.Image.{est_count, node_place}
-use Rattle.image.specs.Codec.{put_each}
 use Rattle.train_disp.specs.TrainDisp.{walk_next, put_nodes}
-use Rattle.train_disp.proofs.LayOutLaws.{walk_end, kept, long, path_on, count_on, path-last, count-last}
 use Rattle.train_disp.proofs.put_path.Given as goal
 
 abbrev pub invariant-loop-i : goal.invariant-loop-i
@@ -20,4 +13,3 @@ invariant-loop-i l = (l.i ≤ l.e) × (est_count l.img ≡ l.e) × (length l.img
 
 abbrev pub decreases-loop-i : goal.decreases-loop-i
 decreases-loop-i l = l.e - l.i
-

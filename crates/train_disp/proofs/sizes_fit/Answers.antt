@@ -3,7 +3,6 @@ use Prim.Native.Nat.{◌/◌, ◌%◌}
 use native.Mathlib.Omega.{arith}
 use borrow.Author.Tests.{le-leb, lt-leb, eq-eqb, ne_eqb}
 use Rattle.train_disp.specs.TrainDisp.{sizes_fit}
-use borrow.Author.Rules.{rules}
 use Rattle.train_disp.proofs.sizes_fit.Goals as goal
 
 pub returns-then-n-ne0 : goal.returns-then-n-ne0
@@ -45,4 +44,3 @@ pub returns : goal.returns
 unfolding sizes_fit
 returns c = let a = c.args in
     rw (eq-eqb (a.n % 32) 0 (omega arith), le-leb 1 (a.n / 32) (omega arith), le-leb (a.n / 32) 512 (omega arith), le-leb 2 a.settings.diverge_room (omega arith), le-leb a.settings.diverge_room 1024 (omega arith), le-leb 2 a.settings.links (omega arith), le-leb a.settings.links 4000 (omega arith), narrow_size (a.n / 32) a.settings.diverge_room)
-

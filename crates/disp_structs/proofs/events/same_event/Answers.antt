@@ -1,6 +1,5 @@
 use borrow.Author.Tests.{eq-eqb, ne_eqb}
 use Rattle.disp_structs.specs.Values.{same_event}
-use borrow.Author.Rules.{rules}
 use Rattle.disp_structs.proofs.events.same_event.Goals as goal
 
 pub returns-then-a-b : goal.returns-then-a-b
@@ -12,4 +11,3 @@ pub returns : goal.returns
 unfolding same_event
 returns c = let a = c.args in
     rw (eq-eqb a.a.link_idx.0 a.b.link_idx.0 c.if-a-b.false) c.same_type.ensures
-

@@ -5,16 +5,12 @@ use lib.Ieee.{Float, nan, inf, fin, ne, is_nan}
 use lib.Dec.{T}
 use mathlib.Core.Bool.{not, false}
 use mathlib.Core.Path.{◌≡◌}
-use Rattle.disp_structs.proofs.floats.bits_of.Reads as reads
-use Rattle.disp_structs.proofs.floats.bits_of.Lts as lts
 use Rattle.disp_structs.proofs.floats.bits_of.Goals as goal
 
 number : (x : Float) → ne x x ≡ false → T (not (is_nan x))
 unfolding ne is_nan
 number nan h = let z : ◌≡◌ {A = ℕ} 0 1 = cc in absurd (omega arith)
-
 number (inf s) h = tt
-
 number (fin s m e) h = tt
 
 pub returns-then-x : goal.returns-then-x
@@ -27,4 +23,3 @@ float_to_bits-result c = number c.args.x c.if-x.false
 pub returns : goal.returns
 unfolding bits_of
 returns c = rw c.if-x.false
-

@@ -1,8 +1,4 @@
 use Rattle.disp_structs.specs.Floats.{near_float}
-use borrow.Author.Rules.{rules}
-use Rattle.disp_structs.proofs.floats.near.Reads as reads
-use Rattle.disp_structs.proofs.floats.near.Lts as lts
-use Rattle.disp_structs.proofs.floats.magnitude.Reads as magnitude-reads
 use Rattle.disp_structs.proofs.floats.near.Goals as goal
 
 pub returns-then-magnitude : goal.returns-then-magnitude
@@ -16,4 +12,3 @@ returns-then-s c = rw (← c.magnitude.ensures, c.if-magnitude.false, c.if-s.tru
 pub returns : goal.returns
 unfolding near_float
 returns c = rw (← c.magnitude.ensures, c.if-magnitude.false, c.if-s.false, ← c.magnitude-2.ensures)
-

@@ -4,8 +4,6 @@ use lib.Ieee.Bits.{nan_bits_above}
 use lib.Arith.{le→nltb}
 use Prim.Native.Nat.{◌%◌}
 use native.Mathlib.Omega.{arith}
-use Rattle.disp_structs.proofs.floats.real_of.Reads as reads
-use Rattle.disp_structs.proofs.floats.real_of.Lts as lts
 use Rattle.disp_structs.proofs.floats.real_of.Goals as goal
 
 pub float_from_bits-result : goal.float_from_bits-result
@@ -18,4 +16,3 @@ returns-then-b-le9218868437227405312 c = simp (le-leb _ _ c.if-b-le9218868437227
 pub returns-else-b-le9218868437227405312 : goal.returns-else-b-le9218868437227405312
 unfolding real_of
 returns-else-b-le9218868437227405312 c = simp (lt-leb _ _ c.if-b-le9218868437227405312.false)
-

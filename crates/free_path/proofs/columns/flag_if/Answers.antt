@@ -1,4 +1,3 @@
-use Rattle.std.proofs.Common.{rules}
 use Rattle.free_path.proofs.columns.flag_if.Goals as goal
 
 pub returns-then-is_flagged : goal.returns-then-is_flagged

@@ -1,4 +1,4 @@
-use Rattle.std.proofs.Common.{◌≡◌, ◌+◌, ◌-◌, cond, length, drop, sym, refl, ap, ◌∙◌, arith, rules}
+use Rattle.std.proofs.Common.{◌+◌, cond, drop, sym, refl, ap, ◌∙◌, arith, rules}
 use Rattle.link_rules.specs.declared.link_idx.LinkIdx.{LinkIdx}
 use Rattle.free_path.specs.Columns.{links, flagged, flag_link, flag_links, kept}
 use Rattle.free_path.proofs.ColumnLaws.{known-turn, known-end}

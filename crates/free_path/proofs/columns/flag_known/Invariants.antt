@@ -1,7 +1,5 @@
-use Rattle.std.proofs.Common.{◌≡◌, ◌+◌, ◌-◌, cond, length, drop, sym, refl, ap, ◌∙◌, arith, rules}
-use Rattle.link_rules.specs.declared.link_idx.LinkIdx.{LinkIdx}
-use Rattle.free_path.specs.Columns.{links, flagged, flag_link, flag_links, kept}
-use Rattle.free_path.proofs.ColumnLaws.{known-turn, known-end}
+use Rattle.std.proofs.Common.{◌≡◌, ◌-◌, length, drop}
+use Rattle.free_path.specs.Columns.{links, flagged, flag_links, kept}
 use Rattle.free_path.proofs.columns.flag_known.Given as goal
 
 abbrev pub invariant-loop-i : goal.invariant-loop-i

@@ -1,6 +1,6 @@
 use Rattle.free_path.specs.Columns.{flag_link}
 use lib.Seq.{set_out}
-use Rattle.std.proofs.Common.{rules, eq-eqb, ne_eqb}
+use Rattle.std.proofs.Common.{eq-eqb, ne_eqb}
 use Rattle.free_path.proofs.columns.flag_link.Goals as goal
 
 pub returns-then-i-eq0 : goal.returns-then-i-eq0

@@ -1,7 +1,6 @@
-use Rattle.std.proofs.Common.{◌≡◌, ◌+◌, ◌-◌, length, drop, sym, refl, ap, ◌∙◌, arith, rules}
-use Rattle.free_path.specs.Columns.{link_at, flag_link, flag_links}
+use Rattle.std.proofs.Common.{◌≡◌, ◌-◌, length, drop}
+use Rattle.free_path.specs.Columns.{link_at, flag_links}
 use Rattle.disp_structs.specs.Listed.{listed}
-use Rattle.free_path.proofs.ColumnLaws.{flags-turn, flags-end}
 use Rattle.free_path.proofs.columns.flag_links.Given as goal
 
 abbrev pub invariant-loop-i : goal.invariant-loop-i

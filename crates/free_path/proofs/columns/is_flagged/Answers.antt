@@ -1,5 +1,4 @@
 use lib.ListN.{get_or-eq_default}
-use Rattle.std.proofs.Common.{rules}
 use Rattle.free_path.proofs.columns.is_flagged.Goals as goal
 
 pub returns-then-flags-i : goal.returns-then-flags-i

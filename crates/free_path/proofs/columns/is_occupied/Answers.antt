@@ -1,5 +1,4 @@
 use Rattle.link_rules.specs.LinkIdx.{occupied}
-use Rattle.std.proofs.Common.{rules}
 use Rattle.free_path.proofs.columns.is_occupied.Goals as goal
 
 pub returns : goal.returns

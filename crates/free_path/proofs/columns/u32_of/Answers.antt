@@ -1,5 +1,4 @@
 use lib.ListN.{get_or-eq_default}
-use Rattle.std.proofs.Common.{rules}
 use Rattle.free_path.proofs.columns.u32_of.Goals as goal
 
 pub returns-then-col-i : goal.returns-then-col-i

@@ -1,4 +1,4 @@
-use Rattle.std.proofs.Common.{◌≡◌, ◌-◌, ◌≤◌, length, get_or, take, sym, refl, ◌∙◌, add-one, arith, take_all, take-suc, take-suc-set, rules}
+use Rattle.std.proofs.Common.{get_or, sym, refl, ◌∙◌, add-one, arith, take_all, take-suc, take-suc-set, rules}
 use Rattle.free_path.proofs.columns.widen.Goals as goal
 
 pub returns-then-to-n : goal.returns-then-to-n

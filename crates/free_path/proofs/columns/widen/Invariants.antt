@@ -1,4 +1,4 @@
-use Rattle.std.proofs.Common.{◌≡◌, ◌-◌, ◌≤◌, length, get_or, take, sym, refl, ◌∙◌, add-one, arith, take_all, take-suc, take-suc-set, rules}
+use Rattle.std.proofs.Common.{◌≡◌, ◌-◌, ◌≤◌, length, take}
 use Rattle.free_path.proofs.columns.widen.Given as goal
 
 abbrev pub invariant-loop-i : goal.invariant-loop-i

@@ -1,4 +1,4 @@
-use Rattle.std.proofs.Common.{arith, rules}
+use Rattle.std.proofs.Common.{arith}
 use Rattle.free_path.proofs.SentinelLaws.{sentinel_past, sentinel-other, sentinel-none, sentinel-last, sentinel-off, sentinel_on}
 use Rattle.free_path.proofs.link_opt_type.calc_idx_sentinels.Goals as goal
 

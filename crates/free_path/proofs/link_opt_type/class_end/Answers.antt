@@ -1,4 +1,4 @@
-use Rattle.std.proofs.Common.{sym, ap, ◌∙◌, rules}
+use Rattle.std.proofs.Common.{sym, ap, ◌∙◌}
 use Rattle.free_path.specs.LinkOptType.{class_end}
 use Rattle.free_path.proofs.link_opt_type.class_end.Goals as goal
 

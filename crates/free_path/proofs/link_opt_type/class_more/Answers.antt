@@ -1,4 +1,4 @@
-use Rattle.std.proofs.Common.{sym, ap, ◌∙◌, ap₂, rules}
+use Rattle.std.proofs.Common.{sym, ap, ◌∙◌, ap₂}
 use Rattle.free_path.specs.LinkOptType.{class_more}
 use Rattle.free_path.specs.declared.link_opt_type.LinkOptType.TheVariants.{Range}
 use Rattle.free_path.proofs.link_opt_type.class_more.Goals as goal

@@ -1,4 +1,4 @@
-use Rattle.std.proofs.Common.{sym, ap, ◌∙◌, rules}
+use Rattle.std.proofs.Common.{sym, ap, ◌∙◌}
 use Rattle.disp_structs.specs.Listed.{listed}
 use Rattle.free_path.specs.Base.{ok}
 use Rattle.free_path.specs.Columns.{link_at}

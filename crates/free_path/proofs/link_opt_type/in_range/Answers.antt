@@ -1,4 +1,4 @@
-use Rattle.std.proofs.Common.{ℕ, leb, ap, rules}
+use Rattle.std.proofs.Common.{ℕ, leb, ap}
 use Rattle.free_path.proofs.link_opt_type.in_range.Goals as goal
 
 pub returns : goal.returns

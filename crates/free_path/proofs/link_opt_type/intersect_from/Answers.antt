@@ -1,7 +1,6 @@
-use Rattle.std.proofs.Common.{◌≡◌, ◌-◌, ◌≤◌, sym, refl, ap, ◌∙◌, arith, rules}
-use Rattle.free_path.specs.LinkOptType.{stops, intersect}
+use Rattle.std.proofs.Common.{sym, refl, ap, ◌∙◌, arith, rules}
+use Rattle.free_path.specs.LinkOptType.{stops}
 use Rattle.free_path.specs.Columns.{link_at}
-use Rattle.disp_structs.specs.Listed.{listed}
 use Rattle.free_path.proofs.ColumnLaws.{passes_hit, passes_miss, passes-end}
 use Rattle.free_path.proofs.link_opt_type.intersect_from.Goals as goal
 

@@ -1,8 +1,7 @@
-use Rattle.std.proofs.Common.{◌≡◌, ◌-◌, ◌≤◌, sym, refl, ap, ◌∙◌, arith, rules}
-use Rattle.free_path.specs.LinkOptType.{stops, intersect}
+use Rattle.std.proofs.Common.{◌≡◌, ◌-◌, ◌≤◌}
+use Rattle.free_path.specs.LinkOptType.{intersect}
 use Rattle.free_path.specs.Columns.{link_at}
 use Rattle.disp_structs.specs.Listed.{listed}
-use Rattle.free_path.proofs.ColumnLaws.{passes_hit, passes_miss, passes-end}
 use Rattle.free_path.proofs.link_opt_type.intersect_from.Given as goal
 
 abbrev pub invariant-loop-i : goal.invariant-loop-i

@@ -1,4 +1,4 @@
-use Rattle.std.proofs.Common.{◌&&◌, sym, ap, ◌∙◌, ap₂, rules}
+use Rattle.std.proofs.Common.{◌&&◌, sym, ap, ◌∙◌, ap₂}
 use Rattle.free_path.specs.LinkOptType.{stops}
 use Rattle.free_path.proofs.link_opt_type.stops_at.Goals as goal
 

@@ -1,4 +1,4 @@
-use Rattle.std.proofs.Common.{ℕ, get_or, ap, ◌∙◌, rules}
+use Rattle.std.proofs.Common.{get_or, ap, ◌∙◌}
 use Rattle.link_rules.specs.declared.link_idx.LinkIdx.{LinkIdx}
 use Rattle.free_path.specs.Columns.{tr}
 use Rattle.free_path.proofs.SentinelLaws.{met-none, met_there}

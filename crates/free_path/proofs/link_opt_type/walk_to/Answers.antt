@@ -1,6 +1,4 @@
-use Rattle.std.proofs.Common.{◌≡◌, ◌-◌, eqb, sym, refl, ◌∙◌, arith, rules, eq-eqb, ne_eqb}
-use Rattle.free_path.specs.Base.{walk_from}
-use Rattle.free_path.specs.Columns.{entries}
+use Rattle.std.proofs.Common.{eqb, sym, refl, ◌∙◌, arith, eq-eqb, ne_eqb}
 use Rattle.free_path.proofs.ColumnLaws.{walk_hit, walk_miss, walk_none}
 use Rattle.free_path.proofs.link_opt_type.walk_to.Goals as goal
 

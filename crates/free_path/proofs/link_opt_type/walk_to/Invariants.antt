@@ -1,7 +1,6 @@
-use Rattle.std.proofs.Common.{◌≡◌, ◌-◌, eqb, sym, refl, ◌∙◌, arith, rules, eq-eqb, ne_eqb}
+use Rattle.std.proofs.Common.{◌≡◌, ◌-◌, eqb}
 use Rattle.free_path.specs.Base.{walk_from}
 use Rattle.free_path.specs.Columns.{entries}
-use Rattle.free_path.proofs.ColumnLaws.{walk_hit, walk_miss, walk_none}
 use Rattle.free_path.proofs.link_opt_type.walk_to.Given as goal
 
 abbrev pub invariant-loop-j : goal.invariant-loop-j

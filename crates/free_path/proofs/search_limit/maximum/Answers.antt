@@ -1,4 +1,4 @@
-use Rattle.std.proofs.Common.{◌<◌, ◌≤◌, subst, rules}
+use Rattle.std.proofs.Common.{◌<◌, ◌≤◌, subst}
 use Rattle.free_path.proofs.SearchLimitLaws.{first_nan, second_nan, second-larger, first-larger, plus-first, minus-second}
 use Rattle.free_path.proofs.search_limit.maximum.Goals as goal
 

@@ -1,4 +1,4 @@
-use Rattle.std.proofs.Common.{rules, eq-eqb, ne_eqb}
+use Rattle.std.proofs.Common.{eq-eqb, ne_eqb}
 use Rattle.link_rules.specs.LinkIdx.{occupied}
 use Rattle.free_path.specs.Validate.{stray_link}
 use Rattle.free_path.proofs.ColumnLaws.{and-true, and-false}

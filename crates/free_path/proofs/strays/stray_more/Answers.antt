@@ -1,4 +1,4 @@
-use Rattle.std.proofs.Common.{add-zero, rules}
+use Rattle.std.proofs.Common.{add-zero}
 use Rattle.free_path.proofs.strays.stray_more.Goals as goal
 
 pub returns-then-is_stray : goal.returns-then-is_stray

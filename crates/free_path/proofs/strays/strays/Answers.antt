@@ -1,5 +1,5 @@
 use Rattle.free_path.proofs.ValidateLaws.{one_more}
-use Rattle.std.proofs.Common.{◌≡◌, ◌+◌, ◌-◌, ◌≤◌, cond, drop, ap, ◌∙◌, arith, rules}
+use Rattle.std.proofs.Common.{◌+◌, cond, drop, ap, ◌∙◌, arith, rules}
 use Rattle.link_rules.specs.declared.link_idx.LinkIdx.{LinkIdx}
 use Rattle.free_path.specs.Base.{count}
 use Rattle.free_path.specs.Validate.{stray_link}

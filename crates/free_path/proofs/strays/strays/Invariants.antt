@@ -1,11 +1,8 @@
-use Rattle.free_path.proofs.ValidateLaws.{one_more}
-use Rattle.std.proofs.Common.{◌≡◌, ◌+◌, ◌-◌, ◌≤◌, cond, drop, ap, ◌∙◌, arith, rules}
-use Rattle.link_rules.specs.declared.link_idx.LinkIdx.{LinkIdx}
+use Rattle.std.proofs.Common.{◌≡◌, ◌+◌, ◌-◌, ◌≤◌, drop}
 use Rattle.free_path.specs.Base.{count}
 use Rattle.free_path.specs.Validate.{stray_link}
 use Rattle.free_path.specs.Columns.{link_at, flagged}
 use Rattle.disp_structs.specs.Listed.{listed}
-use Rattle.free_path.proofs.ColumnLaws.{count_turn, count-end}
 use Rattle.free_path.proofs.strays.strays.Given as goal
 
 abbrev pub invariant-loop-i : goal.invariant-loop-i

@@ -1,4 +1,4 @@
-use Rattle.std.proofs.Common.{◌∙◌, rules}
+use Rattle.std.proofs.Common.{◌∙◌}
 use Rattle.free_path.proofs.PoolLaws.{all_order, all_large, all_place, all_full, all_go}
 use Rattle.free_path.proofs.train_idxs_view.add_all_blocking_trains.Goals as goal
 

@@ -1,4 +1,4 @@
-use Rattle.std.proofs.Common.{take, ◌∙◌, rules}
+use Rattle.std.proofs.Common.{take, ◌∙◌}
 use Rattle.free_path.specs.Columns.{trains}
 use Rattle.free_path.proofs.PoolLaws.{block_order, block_place, block_added, block_full, block_stop, block_go}
 use Rattle.free_path.proofs.train_idxs_view.add_blocking_trains.Goals as goal

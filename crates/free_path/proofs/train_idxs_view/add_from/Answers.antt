@@ -1,5 +1,4 @@
-use Rattle.std.proofs.Common.{◌≡◌, ◌-◌, ◌≤◌, length, take, sym, refl, ◌∙◌, arith, rules}
-use Rattle.free_path.specs.TrainIdxsView.{add_from}
+use Rattle.std.proofs.Common.{take, sym, refl, ◌∙◌, arith, rules}
 use Rattle.free_path.specs.Columns.{trains}
 use Rattle.free_path.proofs.PoolLaws.{from_end, from_stop, from-turn}
 use Rattle.free_path.proofs.train_idxs_view.add_from.Goals as goal

@@ -1,7 +1,6 @@
-use Rattle.std.proofs.Common.{◌≡◌, ◌-◌, ◌≤◌, length, take, sym, refl, ◌∙◌, arith, rules}
+use Rattle.std.proofs.Common.{◌≡◌, ◌-◌, ◌≤◌, length, take}
 use Rattle.free_path.specs.TrainIdxsView.{add_from}
 use Rattle.free_path.specs.Columns.{trains}
-use Rattle.free_path.proofs.PoolLaws.{from_end, from_stop, from-turn}
 use Rattle.free_path.proofs.train_idxs_view.add_from.Given as goal
 
 abbrev pub invariant-loop-i : goal.invariant-loop-i

@@ -1,4 +1,4 @@
-use Rattle.std.proofs.Common.{sym, ◌∙◌, rules}
+use Rattle.std.proofs.Common.{sym, ◌∙◌}
 use Rattle.free_path.proofs.PoolLaws.{cat_left, cat_right, cat_by_end, cat_by_add, cat_large, cat_small}
 use Rattle.free_path.proofs.train_idxs_view.concat_in.Goals as goal
 

@@ -1,4 +1,4 @@
-use Rattle.std.proofs.Common.{◌≡◌, ◌+◌, ◌-◌, ◌≤◌, ◌++◌, length, take, drop, append-nil, add-zero, arith, rules}
+use Rattle.std.proofs.Common.{◌≡◌, ◌+◌, ◌-◌, take, append-nil, add-zero, arith, rules}
 use Rattle.free_path.specs.Columns.{trains}
 use Rattle.free_path.proofs.CountLaws.{counted}
 use Rattle.free_path.proofs.PoolLaws.{trains-length, copy_turn}

@@ -1,7 +1,5 @@
-use Rattle.std.proofs.Common.{◌≡◌, ◌+◌, ◌-◌, ◌≤◌, ◌++◌, length, take, drop, append-nil, add-zero, arith, rules}
+use Rattle.std.proofs.Common.{◌≡◌, ◌+◌, ◌-◌, ◌≤◌, ◌++◌, length, take, drop}
 use Rattle.free_path.specs.Columns.{trains}
-use Rattle.free_path.proofs.CountLaws.{counted}
-use Rattle.free_path.proofs.PoolLaws.{trains-length, copy_turn}
 use Rattle.free_path.proofs.train_idxs_view.extend.Given as goal
 
 abbrev pub invariant-loop-j : goal.invariant-loop-j

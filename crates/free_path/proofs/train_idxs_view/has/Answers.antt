@@ -1,6 +1,5 @@
-use Rattle.std.proofs.Common.{◌≡◌, ◌-◌, sym, refl, ◌∙◌, arith, rules}
+use Rattle.std.proofs.Common.{sym, refl, ◌∙◌, arith}
 use Rattle.link_rules.specs.LinkIdx.{same_train, no_train}
-use Rattle.free_path.specs.Base.{any, part}
 use Rattle.free_path.specs.Columns.{tr, trains}
 use Rattle.free_path.proofs.CountLaws.{any-end}
 use Rattle.free_path.proofs.PoolLaws.{has_hit, has_miss}

@@ -1,9 +1,7 @@
-use Rattle.std.proofs.Common.{◌≡◌, ◌-◌, sym, refl, ◌∙◌, arith, rules}
-use Rattle.link_rules.specs.LinkIdx.{same_train, no_train}
+use Rattle.std.proofs.Common.{◌≡◌, ◌-◌}
+use Rattle.link_rules.specs.LinkIdx.{same_train}
 use Rattle.free_path.specs.Base.{any, part}
 use Rattle.free_path.specs.Columns.{tr, trains}
-use Rattle.free_path.proofs.CountLaws.{any-end}
-use Rattle.free_path.proofs.PoolLaws.{has_hit, has_miss}
 use Rattle.free_path.proofs.train_idxs_view.has.Given as goal
 
 abbrev pub invariant-loop-i : goal.invariant-loop-i

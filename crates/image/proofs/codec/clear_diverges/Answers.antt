@@ -35,4 +35,3 @@ returns c = let a = c.args in
     ∙ ap₂ (λ (k at : ℕ). zero_words (diverge_words false * k) at bs) (c.count_from-2.ensures ∙ ap (λ (q : ℕ). q - a.m) c.diverge_room-q.ensures)
     (c.diverge_place-at.ensures ∙ ap₂ (λ (v : Bool) (e : ℕ). diverge_place v e a.m) w.ensures c.est_count.ensures)
     ∙ ap (λ (v : Bool). zero_words (diverge_words v * (diverge_room bs - a.m)) (diverge_place (is_wide bs) (est_count bs) a.m) bs) (sym c.if-wide.false ∙ w.ensures)
-

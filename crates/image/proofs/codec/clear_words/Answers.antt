@@ -3,7 +3,6 @@ use Prim.Native.Nat.{◌+◌, ◌*◌, ◌-◌}
 use native.Mathlib.Omega.{arith}
 use borrow.Rule.Slice.PartMut.{mid_len, Post-is}
 use Rattle.image.proofs.Writers.{zero_run}
-use borrow.Author.Rules.{rules}
 use Rattle.image.proofs.codec.clear_words.Goals as goal
 
 pub returns : goal.returns
@@ -13,4 +12,3 @@ returns c = let a = c.args in
     let d : e - a.at ≡ 4 * a.k = omega arith in
     rw (c.zero_all.ensures, mid_len a.at e bs (omega arith), Post-is a.at e bs (omega arith), d)
     (sym (zero_run a.k a.at bs (omega arith)))
-

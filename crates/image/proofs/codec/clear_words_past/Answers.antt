@@ -1,6 +1,4 @@
 use Rattle.image.specs.Image.{zero_words}
-use Prim.Native.Nat.{◌-◌, ◌≤◌}
-use lib.ListN.{length}
 use mathlib.Core.Path.{◌≡◌, refl}
 use native.Mathlib.Omega.{arith}
 use native.Mathlib.Numerals.{add-one}
@@ -17,4 +15,3 @@ loop-i-preserved c = (search rules, search rules, rw add-one (cc))
 
 pub returns : goal.returns
 returns c = let e : c.loop-i.i ≡ c.args.k = omega arith in cc
-

@@ -1,6 +1,5 @@
 use native.Mathlib.Omega.{arith}
 use Rattle.image.specs.Fields.{diverge_words}
-use borrow.Author.Rules.{rules}
 use Rattle.image.proofs.codec.diverge_place.Goals as goal
 
 pub returns-then-wide : goal.returns-then-wide
@@ -10,4 +9,3 @@ returns-then-wide c = rw c.if-wide.true (omega arith)
 pub returns : goal.returns
 unfolding diverge_words
 returns c = rw c.if-wide.false (omega arith)
-

@@ -29,4 +29,3 @@ returns c = let a = c.args in
     ap₂ (λ (t n : ℕ). node_of t n) c.u16_at-2.ensures c.u16_at-3.ensures
     ∙ ap (diverge_from false bs) c.diverge_place-at.ensures
     ∙ ap (λ (v : Bool). diverge_from v bs (diverge_place a.wide a.e a.i)) (sym c.if-wide.false)
-

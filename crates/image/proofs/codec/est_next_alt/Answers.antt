@@ -1,8 +1,6 @@
 use Rattle.image.specs.Image.{est_from}
-use borrow.Author.Rules.{rules}
 use Rattle.image.proofs.codec.est_next_alt.Goals as goal
 
 pub returns : goal.returns
 unfolding est_from
 returns c = cc
-

@@ -1,8 +1,6 @@
 use Rattle.image.specs.Image.{node_from}
-use borrow.Author.Rules.{rules}
 use Rattle.image.proofs.codec.node_est_idx.Goals as goal
 
 pub returns : goal.returns
 unfolding node_from
 returns c = cc
-

@@ -1,8 +1,6 @@
 use Rattle.image.specs.Image.{path_header}
-use borrow.Author.Rules.{rules}
 use Rattle.image.proofs.codec.path_header.Goals as goal
 
 pub returns : goal.returns
 unfolding path_header
 returns c = cc
-

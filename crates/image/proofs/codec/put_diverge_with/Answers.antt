@@ -1,4 +1,4 @@
-use mathlib.Core.Path.{◌≡◌, refl, sym, ap, ap₂, ◌∙◌}
+use mathlib.Core.Path.{◌≡◌, refl, sym, ap, ◌∙◌}
 use mathlib.Core.Bool.{Bool, true, false}
 use mathlib.Core.List.{List}
 use Prim.Native.Nat.{ℕ, ◌+◌}
@@ -45,4 +45,3 @@ returns c = let a = c.args in
     ∙ sym (put-none (p.result + 4) (put_le 2 n (p.result + 2) (put_le 2 a.x.train_idx.0 p.result bs)))
     ∙ ap (λ (k : ℕ). put_diverge false a.x k bs) p.ensures
     ∙ ap (λ (v : Bool). put_diverge v a.x (diverge_place a.wide a.e a.i) bs) (sym c.if-wide.false)
-

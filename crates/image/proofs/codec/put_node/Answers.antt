@@ -1,4 +1,3 @@
-use borrow.Author.Rules.{rules}
 use Rattle.image.proofs.codec.put_node.Goals as goal
 
 pub returns-then-img-at : goal.returns-then-img-at
@@ -6,4 +5,3 @@ returns-then-img-at c = cc
 
 pub returns : goal.returns
 returns c = cc
-

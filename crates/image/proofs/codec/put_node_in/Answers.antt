@@ -1,8 +1,6 @@
 use Rattle.image.specs.Image.{put_node}
-use borrow.Author.Rules.{rules}
 use Rattle.image.proofs.codec.put_node_in.Goals as goal
 
 pub returns : goal.returns
 unfolding put_node
 returns c = cc
-

@@ -2,7 +2,6 @@ use Rattle.image.specs.Image.{est_from}
 use mathlib.Core.Path.{sym, ◌∙◌}
 use native.Mathlib.Omega.{arith}
 use Rattle.image.proofs.RecordLaws.{whole-est, whole_est_past}
-use borrow.Author.Rules.{rules}
 use Rattle.image.proofs.codec.whole_est.Goals as goal
 
 pub returns-then-img-at : goal.returns-then-img-at
@@ -11,4 +10,3 @@ returns-then-img-at c = c.zero_est.ensures ∙ sym (whole_est_past c.args.img.no
 pub returns : goal.returns
 unfolding est_from
 returns c = rw (whole-est c.args.img.now c.args.i (omega (arith, c.if-img-at.false, c.est_place-at.ensures))) (cc)
-

@@ -2,7 +2,6 @@ use Rattle.image.specs.Image.{node_from}
 use mathlib.Core.Path.{sym, ◌∙◌}
 use native.Mathlib.Omega.{arith}
 use Rattle.image.proofs.RecordLaws.{whole-node, whole_node_past}
-use borrow.Author.Rules.{rules}
 use Rattle.image.proofs.codec.whole_node.Goals as goal
 
 pub returns-then-img-at : goal.returns-then-img-at
@@ -11,4 +10,3 @@ returns-then-img-at c = c.zero_node.ensures ∙ sym (whole_node_past c.args.img.
 pub returns : goal.returns
 unfolding node_from
 returns c = rw (whole-node c.args.img.now c.args.i (omega (arith, c.if-img-at.false, c.node_place-at.ensures, c.est_count.ensures))) (cc)
-

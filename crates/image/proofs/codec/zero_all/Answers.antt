@@ -1,6 +1,6 @@
 use mathlib.Core.Path.{◌≡◌, refl, sym, ap, ◌∙◌}
 use mathlib.Core.List.{List, [], ◌∷◌, ◌++◌}
-use Prim.Native.Nat.{ℕ, ◌-◌, ◌≤◌}
+use Prim.Native.Nat.{ℕ}
 use native.Mathlib.Numerals.{add-one}
 use native.Mathlib.Omega.{arith}
 use lib.ListN.{length, take, set, replicate, replicate-append-replicate}
@@ -19,4 +19,3 @@ pub returns : goal.returns
 returns c = let l = c.loop-i in
     let e : l.i ≡ length c.args.s.now = omega arith in
     sym (take_all l.i l.s (omega arith)) ∙ (l.invariant.2 ∙ ap (λ (n : ℕ). replicate n 0) e)
-

@@ -1,9 +1,7 @@
 use Rattle.link_rules.specs.Octets.{le_at}
 use Rattle.image.specs.Image.{type_of, est_from}
-use borrow.Author.Rules.{rules}
 use Rattle.image.proofs.codec.zero_est.Goals as goal
 
 pub returns : goal.returns
 unfolding est_from le_at type_of
 returns c = cc
-

@@ -23,4 +23,3 @@ returns-then-head_passes c = rw (le-leb _ _ c.if-links-lt2.false, le-leb _ _ c.i
 pub returns : goal.returns
 unfolding all_fit
 returns c = rw (le-leb _ _ c.if-links-lt2.false, le-leb _ _ c.if-links-gt4000.false, ← c.head_passes.ensures, c.if-head_passes.false)
-

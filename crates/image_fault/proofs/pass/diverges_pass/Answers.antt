@@ -1,5 +1,4 @@
 use Rattle.image_fault.specs.AllFit.{diverges_pass}
-use borrow.Author.Rules.{rules}
 use Rattle.image_fault.proofs.pass.diverges_pass.Goals as goal
 
 pub diverges_fit-requires : goal.diverges_fit-requires
@@ -16,4 +15,3 @@ returns-then-diverges_fit c = rw (← c.requires, ← c.diverges_fit.ensures, c.
 pub returns : goal.returns
 unfolding diverges_pass
 returns c = rw (← c.requires, ← c.diverges_fit.ensures, c.if-diverges_fit.false)
-

@@ -1,8 +1,7 @@
 use Rattle.link_rules.proofs.TableLaws.{all_turn, all_more, all_fails}
 use Rattle.link_rules.specs.Network.{all_below}
 use mathlib.Core.Path.{refl, ◌≡◌, sym, ap, ◌∙◌}
-use mathlib.Core.Bool.{Bool, true, false, false≢true, ◌&&◌}
-use Prim.Native.Nat.{◌-◌, ◌≤◌}
+use mathlib.Core.Bool.{Bool, false≢true, ◌&&◌}
 use native.Mathlib.Omega.{arith}
 use Rattle.image_fault.specs.AllFit.{est_passes}
 use Rattle.image_fault.specs.CodeFacts.{leads_on}
@@ -28,4 +27,3 @@ returns-else-est_passes c = let a = c.args in
 pub returns : goal.returns
 returns c = let e : c.loop-i.i ≡ c.args.e = omega arith in
     (rw (← e) (sym c.loop-i.invariant.1), λ _. rw (← e) c.loop-i.invariant.2)
-

@@ -1,12 +1,9 @@
-use Rattle.link_rules.proofs.TableLaws.{all_turn, all_more, all_fails}
 use Rattle.link_rules.specs.Network.{all_below}
-use mathlib.Core.Path.{refl, ◌≡◌, sym, ap, ◌∙◌}
-use mathlib.Core.Bool.{Bool, true, false, false≢true, ◌&&◌}
+use mathlib.Core.Path.{◌≡◌}
+use mathlib.Core.Bool.{true}
 use Prim.Native.Nat.{◌-◌, ◌≤◌}
-use native.Mathlib.Omega.{arith}
 use Rattle.image_fault.specs.AllFit.{est_passes}
 use Rattle.image_fault.specs.CodeFacts.{leads_on}
-use borrow.Author.Rules.{rules}
 use Rattle.image_fault.proofs.pass.ests_pass.Given as goal
 
 abbrev pub invariant-loop-i : goal.invariant-loop-i
@@ -14,4 +11,3 @@ invariant-loop-i l = (l.i ≤ l.e) × (all_below l.i (est_passes l.img l.links) 
 
 abbrev pub decreases-loop-i : goal.decreases-loop-i
 decreases-loop-i l = l.e - l.i
-

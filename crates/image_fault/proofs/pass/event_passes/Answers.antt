@@ -17,4 +17,3 @@ returns-then-kind-eq0 c = rw (le-leb _ _ c.if-kind-gt2.false, lt-ltb _ _ c.if-li
 pub returns : goal.returns
 unfolding event_passes
 returns c = rw (le-leb _ _ c.if-kind-gt2.false, lt-ltb _ _ c.if-links-link.false, ne_eqb _ _ c.if-kind-eq0.false)
-

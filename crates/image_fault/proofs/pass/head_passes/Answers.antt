@@ -1,5 +1,4 @@
 use Rattle.image_fault.specs.AllFit.{head_passes}
-use borrow.Author.Rules.{rules}
 use Rattle.image_fault.proofs.pass.head_passes.Goals as goal
 
 pub returns-then-header_fits : goal.returns-then-header_fits
@@ -21,4 +20,3 @@ returns-then-counts_fit c = rw (← c.counts_fit.ensures, c.if-counts_fit.true, 
 pub returns : goal.returns
 unfolding head_passes
 returns c = rw (← c.counts_fit.ensures, c.if-counts_fit.false)
-

@@ -1,10 +1,8 @@
 use mathlib.Core.Path.{sym, ap, ◌∙◌}
-use Prim.Native.Nat.{ℕ}
 use lib.Dec.{eqb}
 use Rattle.link_rules.specs.declared.refusal.Refusal.{Refusal}
 use Rattle.image_fault.specs.AllFit.{acyclic}
 use Rattle.image_fault.proofs.Ascent.{ascends_none}
-use borrow.Author.Rules.{rules}
 use Rattle.image_fault.proofs.pass.is_acyclic.Goals as goal
 
 pub returns-then-ascend : goal.returns-then-ascend
@@ -16,4 +14,3 @@ returns-then-ascend c = let a = c.args in
 pub returns : goal.returns
 unfolding acyclic
 returns c = rw (← c.lowest_on_cycle-f.ensures)
-

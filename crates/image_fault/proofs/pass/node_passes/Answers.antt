@@ -1,6 +1,5 @@
 use Rattle.image_fault.specs.AllFit.{node_passes}
 use borrow.Author.Tests.{lt-ltb, le-ltb, le-leb, lt-leb}
-use borrow.Author.Rules.{rules}
 use Rattle.image_fault.proofs.pass.node_passes.Goals as goal
 
 pub returns-then-img-at : goal.returns-then-img-at
@@ -26,4 +25,3 @@ returns-then-float_fits c = rw (← c.requires, ← c.node_place-at.ensures, le-
 pub returns : goal.returns
 unfolding node_passes
 returns c = rw (← c.requires, ← c.node_place-at.ensures, le-leb _ _ c.if-img-at.false, ← c.u64_at.ensures, ← c.float_fits.ensures, c.if-float_fits.false)
-

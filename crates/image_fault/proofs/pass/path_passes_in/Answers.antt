@@ -1,4 +1,4 @@
-use Rattle.image_fault.proofs.ArrivalLaws.{Flagged, flagged-none, flagged_more, route_is}
+use Rattle.image_fault.proofs.ArrivalLaws.{flagged-none, flagged_more, route_is}
 use Rattle.image_fault.proofs.PassLaws.{pass_link, path_pass, path_stop}
 use Rattle.link_rules.proofs.TableLaws.{all_more, all_fails}
 use Rattle.link_rules.specs.Network.{all_below}
@@ -6,7 +6,7 @@ use Rattle.image.specs.Image.{node_at}
 use Rattle.image_fault.specs.AllFit.{path_passes}
 use mathlib.Core.Path.{◌≡◌, refl, sym, ◌∙◌}
 use mathlib.Core.Bool.{true, false}
-use Prim.Native.Nat.{◌+◌, ◌-◌, ◌≤◌, ◌<◌}
+use Prim.Native.Nat.{◌+◌, ◌-◌, ◌<◌}
 use lib.ListN.{length, length-set}
 use native.Mathlib.Omega.{arith}
 use borrow.Author.Rules.{rules}
@@ -65,4 +65,3 @@ returns-else-node_passes c = let o = c.args in
 
 pub returns : goal.returns
 returns c = let e : c.loop-i.i ≡ c.args.n = omega arith in rw (← e) (sym c.loop-i.invariant.4)
-

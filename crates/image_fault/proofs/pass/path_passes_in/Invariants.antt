@@ -1,15 +1,11 @@
-use Rattle.image_fault.proofs.ArrivalLaws.{Flagged, flagged-none, flagged_more, route_is}
-use Rattle.image_fault.proofs.PassLaws.{pass_link, path_pass, path_stop}
-use Rattle.link_rules.proofs.TableLaws.{all_more, all_fails}
+use Rattle.image_fault.proofs.ArrivalLaws.{Flagged}
 use Rattle.link_rules.specs.Network.{all_below}
 use Rattle.image.specs.Image.{node_at}
 use Rattle.image_fault.specs.AllFit.{path_passes}
-use mathlib.Core.Path.{◌≡◌, refl, sym, ◌∙◌}
-use mathlib.Core.Bool.{true, false}
-use Prim.Native.Nat.{◌+◌, ◌-◌, ◌≤◌, ◌<◌}
-use lib.ListN.{length, length-set}
-use native.Mathlib.Omega.{arith}
-use borrow.Author.Rules.{rules}
+use mathlib.Core.Path.{◌≡◌}
+use mathlib.Core.Bool.{true}
+use Prim.Native.Nat.{◌-◌, ◌≤◌, ◌<◌}
+use lib.ListN.{length}
 use Rattle.image_fault.proofs.pass.path_passes_in.Given as goal
 
 abbrev pub invariant-loop-i : goal.invariant-loop-i
@@ -17,4 +13,3 @@ invariant-loop-i l = (l.i ≤ l.n) × (length l.seen ≡ length l.initial.seen) 
 
 abbrev pub decreases-loop-i : goal.decreases-loop-i
 decreases-loop-i l = l.n - l.i
-

@@ -1,6 +1,5 @@
 use native.Mathlib.Omega.{arith}
 use Rattle.image_fault.specs.AllFit.{records_pass}
-use borrow.Author.Rules.{rules}
 use Rattle.image_fault.proofs.pass.records_pass.Goals as goal
 
 pub is_acyclic-requires : goal.is_acyclic-requires
@@ -21,4 +20,3 @@ returns-then-ests c = rw (← c.est_count-e.ensures, ← c.ests_pass-ests.ensure
 pub returns : goal.returns
 unfolding records_pass
 returns c = rw (← c.est_count-e.ensures, ← c.ests_pass-ests.ensures.0, c.if-ests.false)
-

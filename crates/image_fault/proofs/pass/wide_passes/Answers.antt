@@ -1,5 +1,4 @@
 use Rattle.image_fault.specs.AllFit.{wide_passes}
-use borrow.Author.Rules.{rules}
 use Rattle.image_fault.proofs.pass.wide_passes.Goals as goal
 
 pub returns-then-diverge_spare_fits : goal.returns-then-diverge_spare_fits
@@ -9,4 +8,3 @@ returns-then-diverge_spare_fits c = rw (← c.diverge_spare_fits.ensures, c.if-d
 pub returns : goal.returns
 unfolding wide_passes
 returns c = rw (← c.diverge_spare_fits.ensures, c.if-diverge_spare_fits.false)
-

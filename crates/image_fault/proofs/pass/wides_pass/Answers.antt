@@ -1,8 +1,6 @@
 use Rattle.link_rules.proofs.TableLaws.{all_more, all_fails}
 use Rattle.link_rules.specs.Network.{all_below}
 use mathlib.Core.Path.{refl, ◌≡◌, sym, ◌∙◌}
-use mathlib.Core.Bool.{true}
-use Prim.Native.Nat.{◌-◌, ◌≤◌}
 use native.Mathlib.Omega.{arith}
 use Rattle.image_fault.specs.AllFit.{wide_passes}
 use borrow.Author.Rules.{rules}
@@ -20,4 +18,3 @@ returns-else-wide_passes c = sym (all_fails (wide_passes c.args.img.now) c.args.
 
 pub returns : goal.returns
 returns c = let e : c.loop-i.i ≡ c.args.m = omega arith in rw (← e) (sym c.loop-i.invariant.1)
-

@@ -1,4 +1,4 @@
-use Rattle.std.proofs.Common.{◌≡◌, ℕ, ◌+◌, ◌-◌, ◌≤◌, length, sym, refl, ◌∙◌, ap₂, add-zero, arith, rules}
+use Rattle.std.proofs.Common.{ℕ, sym, refl, ◌∙◌, ap₂, add-zero, arith, rules}
 use Rattle.link_rules.specs.LinkIdx.{wide_train}
 use native.Mathlib.Nat.{sub-zero}
 use Rattle.link_rules.specs.Network.{lockouts}
@@ -19,4 +19,3 @@ returns c = let a = c.args in
     let s = c.start_at-start in
     sym (hold-end a.table.now n.result s.result c.loop-j.j c.loop-j.occupancy (wide_train a.train) (omega arith))
     ∙ c.loop-j.invariant.2 ∙ ap₂ (λ (x y : ℕ). hold_all a.occupancy.now (lockouts a.table.now x y) (wide_train a.train)) n.ensures s.ensures
-

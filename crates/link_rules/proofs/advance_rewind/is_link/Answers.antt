@@ -1,4 +1,4 @@
-use Rattle.std.proofs.Common.{rules, eq-eqb, ne_eqb}
+use Rattle.std.proofs.Common.{eq-eqb, ne_eqb}
 use Rattle.link_rules.specs.AdvanceRewind.{is_link}
 use Rattle.link_rules.proofs.advance_rewind.is_link.Goals as goal
 
@@ -9,4 +9,3 @@ returns-then-link-eq0 c = rw (eq-eqb c.args.link.0 0 c.if-link-eq0.true)
 pub returns : goal.returns
 unfolding is_link
 returns c = rw (ne_eqb c.args.link.0 0 c.if-link-eq0.false, c.link_count.ensures)
-

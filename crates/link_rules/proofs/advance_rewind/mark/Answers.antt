@@ -1,4 +1,4 @@
-use Rattle.std.proofs.Common.{Bool, ap, ◌∙◌, rules}
+use Rattle.std.proofs.Common.{Bool, ap, ◌∙◌}
 use Rattle.link_rules.specs.LinkIdx.{wide_train}
 use Rattle.link_rules.specs.AdvanceRewind.{mark_judged}
 use Rattle.link_rules.proofs.MarkLaws.{judged_once}
@@ -9,4 +9,3 @@ returns c = let a = c.args in
     c.mark_judged.ensures
     ∙ (ap (λ (b : Bool). mark_judged b a.table.now a.occupancy.now a.link (wide_train a.train)) c.table_fits.ensures
     ∙ judged_once a.table.now a.occupancy.now a.link (wide_train a.train))
-

@@ -1,5 +1,5 @@
 use Rattle.link_rules.specs.LinkIdx.{wide_train}
-use Rattle.std.proofs.Common.{ℕ, sym, ap, ◌∙◌, rules}
+use Rattle.std.proofs.Common.{ℕ, sym, ap, ◌∙◌}
 use Rattle.link_rules.specs.AdvanceRewind.{marked, marked_by, mark_judged, update_links_blocked}
 use Rattle.link_rules.specs.declared.refusal.Answer.TheVariants.{Done}
 use Rattle.link_rules.proofs.MarkLaws.{refused_by}
@@ -17,4 +17,3 @@ unfolding mark_judged
 returns c = let a = c.args in
     ap (marked Done) c.update_links_blocked.ensures
     ∙ ap (λ (n : ℕ). marked_by n a.occupancy.now (update_links_blocked a.table.now a.occupancy.now a.link (wide_train a.train))) (sym c.if-number-ne0.false ∙ c.mark_refusal-number.ensures)
-

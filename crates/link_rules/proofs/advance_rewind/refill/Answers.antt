@@ -1,4 +1,4 @@
-use Rattle.std.proofs.Common.{◌≡◌, ℕ, ◌+◌, ◌-◌, ◌≤◌, List, get_or, set, sym, refl, ◌∙◌, ap₂, add-zero, arith, rules}
+use Rattle.std.proofs.Common.{◌≡◌, ℕ, ◌+◌, List, get_or, set, sym, refl, ◌∙◌, ap₂, add-zero, arith, rules}
 use native.Mathlib.Nat.{sub-zero}
 use Rattle.link_rules.specs.Network.{lockouts, lockout_at}
 use Rattle.link_rules.specs.AdvanceRewind.{refilled}
@@ -34,4 +34,3 @@ returns c = let a = c.args in
     c.loop-j.invariant.1
     ∙ sym (refill_end a.table.now n.result s.result c.loop-j.j a.occupancy.now a.link (omega arith))
     ∙ c.loop-j.invariant.2 ∙ ap₂ (λ (x y : ℕ). refilled a.occupancy.now a.link (lockouts a.table.now x y)) n.ensures s.ensures
-

@@ -1,8 +1,6 @@
-use Rattle.std.proofs.Common.{◌≡◌, ℕ, ◌+◌, ◌-◌, ◌≤◌, List, get_or, set, sym, refl, ◌∙◌, ap₂, add-zero, arith, rules}
-use native.Mathlib.Nat.{sub-zero}
-use Rattle.link_rules.specs.Network.{lockouts, lockout_at}
+use Rattle.std.proofs.Common.{◌≡◌, ◌+◌, ◌-◌, ◌≤◌}
+use Rattle.link_rules.specs.Network.{lockouts}
 use Rattle.link_rules.specs.AdvanceRewind.{refilled}
-use Rattle.link_rules.proofs.MarkLaws.{refill_on, refill_stop, refill_end}
 use Rattle.link_rules.proofs.advance_rewind.refill.Given as goal
 
 abbrev pub invariant-loop-j : goal.invariant-loop-j
@@ -10,4 +8,3 @@ invariant-loop-j l = (l.j ≤ l.n) × (l.occupancy ≡ l.initial.occupancy) × (
 
 abbrev pub decreases-loop-j : goal.decreases-loop-j
 decreases-loop-j l = l.n - l.j
-

@@ -1,4 +1,4 @@
-use Rattle.std.proofs.Common.{length, arith, rules, le-ltb, lt-ltb}
+use Rattle.std.proofs.Common.{length, arith, le-ltb, lt-ltb}
 use Rattle.link_rules.specs.Network.{link_at}
 use Rattle.link_rules.specs.AdvanceRewind.{reset_link_train_idx}
 use Rattle.link_rules.proofs.advance_rewind.reset_link_train_idx.Goals as goal
@@ -12,4 +12,3 @@ pub returns : goal.returns
 unfolding reset_link_train_idx
 returns c = let a = c.args in
     rw (lt-ltb 1 (length (link_at a.table.now a.link).link_idxs_lockout) (omega arith)) c.refill.ensures
-

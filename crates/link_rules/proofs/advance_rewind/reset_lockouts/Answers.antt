@@ -1,4 +1,4 @@
-use Rattle.std.proofs.Common.{◌≡◌, ℕ, ◌+◌, ◌-◌, ◌≤◌, length, sym, refl, ◌∙◌, ap₂, add-zero, arith, rules}
+use Rattle.std.proofs.Common.{ℕ, sym, refl, ◌∙◌, ap₂, add-zero, arith, rules}
 use native.Mathlib.Nat.{sub-zero}
 use Rattle.link_rules.specs.Network.{lockouts}
 use Rattle.link_rules.specs.AdvanceRewind.{reset_all}
@@ -18,4 +18,3 @@ returns c = let a = c.args in
     let s = c.start_at-start in
     sym (reset_end a.table.now n.result s.result c.loop-j.j c.loop-j.occupancy (omega arith))
     ∙ c.loop-j.invariant.2 ∙ ap₂ (λ (x y : ℕ). reset_all a.table.now a.occupancy.now (lockouts a.table.now x y)) n.ensures s.ensures
-

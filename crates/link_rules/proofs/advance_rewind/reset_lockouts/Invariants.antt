@@ -1,8 +1,6 @@
-use Rattle.std.proofs.Common.{◌≡◌, ℕ, ◌+◌, ◌-◌, ◌≤◌, length, sym, refl, ◌∙◌, ap₂, add-zero, arith, rules}
-use native.Mathlib.Nat.{sub-zero}
+use Rattle.std.proofs.Common.{◌≡◌, ◌+◌, ◌-◌, ◌≤◌, length}
 use Rattle.link_rules.specs.Network.{lockouts}
 use Rattle.link_rules.specs.AdvanceRewind.{reset_all}
-use Rattle.link_rules.proofs.MarkLaws.{reset_turn, reset_end}
 use Rattle.link_rules.proofs.advance_rewind.reset_lockouts.Given as goal
 
 abbrev pub invariant-loop-j : goal.invariant-loop-j
@@ -10,4 +8,3 @@ invariant-loop-j l = (l.j ≤ l.n) × (length l.occupancy ≡ length l.initial.o
 
 abbrev pub decreases-loop-j : goal.decreases-loop-j
 decreases-loop-j l = l.n - l.j
-

@@ -1,4 +1,4 @@
-use Rattle.std.proofs.Common.{◌+◌, ◌*◌, arith, rules, eq-eqb, ne_eqb, le-leb}
+use Rattle.std.proofs.Common.{◌+◌, ◌*◌, arith, eq-eqb, ne_eqb, le-leb}
 use Rattle.link_rules.specs.Octets.{le_at}
 use borrow.Author.Tests.{lt-leb}
 use Rattle.link_rules.specs.Network.{header_fits}
@@ -33,4 +33,3 @@ pub returns : goal.returns
 unfolding header_fits
 returns c = let t = c.args.table.now in
     rw (le-leb 2 (le_at 4 t 4) (omega arith), le-leb (le_at 4 t 4) 4000 (omega arith), le-leb (le_at 4 t 8) 4096 (omega arith), eq-eqb (le_at 4 t 12) (16 + 12 * le_at 4 t 4) (omega arith), eq-eqb (le_at 4 t 0) (16 + 12 * le_at 4 t 4 + 4 * le_at 4 t 8) (omega arith), ← c.u32_at-size.ensures)
-

@@ -1,5 +1,5 @@
-use Rattle.std.proofs.Common.{◌≡◌, ℕ, ◌+◌, ◌-◌, ◌*◌, ◌≤◌, ◌&&◌, length, sym, refl, ap, ◌∙◌, ap₂, arith, rules}
-use Rattle.link_rules.specs.Network.{link_count, lockout_count, all_below, lockout_fits}
+use Rattle.std.proofs.Common.{◌≡◌, ℕ, ◌&&◌, sym, refl, ap, ◌∙◌, ap₂, arith, rules}
+use Rattle.link_rules.specs.Network.{all_below, lockout_fits}
 use Rattle.link_rules.proofs.TableLaws.{all_turn, header-length}
 use Rattle.link_rules.proofs.network.lockouts_fit.Goals as goal
 
@@ -20,4 +20,3 @@ pub returns : goal.returns
 returns c = let i = c.loop-j.invariant in
     let e : c.loop-j.j ≡ c.u32_at-n.result = omega arith in
     i.4 ∙ ap (λ (n : ℕ). all_below n (lockout_fits c.args.table.now)) (e ∙ c.u32_at-n.ensures)
-

@@ -1,6 +1,5 @@
-use Rattle.std.proofs.Common.{◌≡◌, ℕ, ◌+◌, ◌-◌, ◌*◌, ◌≤◌, ◌&&◌, length, sym, refl, ap, ◌∙◌, ap₂, arith, rules}
+use Rattle.std.proofs.Common.{◌≡◌, ◌+◌, ◌-◌, ◌*◌, ◌≤◌, length}
 use Rattle.link_rules.specs.Network.{link_count, lockout_count, all_below, lockout_fits}
-use Rattle.link_rules.proofs.TableLaws.{all_turn, header-length}
 use Rattle.link_rules.proofs.network.lockouts_fit.Given as goal
 
 abbrev pub invariant-loop-j : goal.invariant-loop-j
@@ -8,4 +7,3 @@ invariant-loop-j l = (l.j ≤ l.n) × (l.links ≡ link_count l.table) × (l.n �
 
 abbrev pub decreases-loop-j : goal.decreases-loop-j
 decreases-loop-j l = l.n - l.j
-

@@ -1,4 +1,4 @@
-use Rattle.std.proofs.Common.{◌≡◌, ◌+◌, ◌*◌, ◌&&◌, ltb, leb, ap, ◌∙◌, ap₂, arith, rules}
+use Rattle.std.proofs.Common.{◌≡◌, ◌+◌, ◌*◌, ◌&&◌, ltb, leb, ap, ◌∙◌, ap₂, arith}
 use Rattle.link_rules.specs.Octets.{le_at}
 use Rattle.link_rules.specs.Network.{record_fits}
 use Rattle.link_rules.proofs.TableLaws.{span_within}
@@ -13,4 +13,3 @@ returns c = let a = c.args in
     let n : 16 + 12 * a.l + 8 ≡ 24 + 12 * a.l = omega arith in
     let span = span_within c.u32_in-start.result c.u32_in-count.result a.lockouts c.wrapping_sub_u32-left.result (omega arith) (omega arith) c.wrapping_sub_u32-left.ensures.value in
     c.both-2.ensures ∙ ap₂ ◌&&◌ (ap₂ ltb c.u32_in-flip.ensures pre.0) (c.both.ensures ∙ span ∙ ap₂ leb (ap₂ ◌+◌ (c.u32_in-start.ensures ∙ ap (le_at 4 t) s) (c.u32_in-count.ensures ∙ ap (le_at 4 t) n)) pre.1)
-

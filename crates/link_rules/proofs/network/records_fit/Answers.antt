@@ -1,5 +1,5 @@
-use Rattle.std.proofs.Common.{◌≡◌, ℕ, ◌+◌, ◌-◌, ◌*◌, ◌≤◌, ◌&&◌, length, sym, refl, ap, ◌∙◌, ap₂, arith, rules}
-use Rattle.link_rules.specs.Network.{link_count, lockout_count, all_below, record_fits}
+use Rattle.std.proofs.Common.{◌≡◌, ℕ, ◌&&◌, sym, refl, ap, ◌∙◌, ap₂, arith, rules}
+use Rattle.link_rules.specs.Network.{all_below, record_fits}
 use Rattle.link_rules.proofs.TableLaws.{all_turn, header-length}
 use Rattle.link_rules.proofs.network.records_fit.Goals as goal
 
@@ -20,4 +20,3 @@ pub returns : goal.returns
 returns c = let i = c.loop-l.invariant in
     let e : c.loop-l.l ≡ c.link_count-links.result = omega arith in
     i.4 ∙ ap (λ (n : ℕ). all_below n (record_fits c.args.table.now)) (e ∙ c.link_count-links.ensures)
-

@@ -1,6 +1,5 @@
-use Rattle.std.proofs.Common.{◌≡◌, ℕ, ◌+◌, ◌-◌, ◌*◌, ◌≤◌, ◌&&◌, length, sym, refl, ap, ◌∙◌, ap₂, arith, rules}
+use Rattle.std.proofs.Common.{◌≡◌, ◌+◌, ◌-◌, ◌*◌, ◌≤◌, length}
 use Rattle.link_rules.specs.Network.{link_count, lockout_count, all_below, record_fits}
-use Rattle.link_rules.proofs.TableLaws.{all_turn, header-length}
 use Rattle.link_rules.proofs.network.records_fit.Given as goal
 
 abbrev pub invariant-loop-l : goal.invariant-loop-l
@@ -8,4 +7,3 @@ invariant-loop-l l = (l.l ≤ l.links) × (l.links ≡ link_count l.table) × (l
 
 abbrev pub decreases-loop-l : goal.decreases-loop-l
 decreases-loop-l l = l.links - l.l
-

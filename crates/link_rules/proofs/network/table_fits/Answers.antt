@@ -1,4 +1,4 @@
-use Rattle.std.proofs.Common.{sym, ◌∙◌, rules}
+use Rattle.std.proofs.Common.{sym, ◌∙◌}
 use Rattle.link_rules.specs.Network.{table_fits}
 use Rattle.link_rules.proofs.network.table_fits.Goals as goal
 
@@ -19,4 +19,3 @@ lockouts_fit-requires c = sym c.header_fits.ensures ∙ c.if-not-header_fits.fal
 pub returns : goal.returns
 unfolding table_fits
 returns c = rw (sym c.header_fits.ensures ∙ c.if-not-header_fits.false, sym c.records_fit.ensures ∙ c.if-not-records_fit.false) c.lockouts_fit.ensures
-

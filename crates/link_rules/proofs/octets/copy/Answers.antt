@@ -1,4 +1,4 @@
-use Rattle.std.proofs.Common.{◌≡◌, ◌-◌, ◌≤◌, length, get_or, take, sym, refl, ◌∙◌, add-one, arith, take_all, take-suc, take-suc-set, rules}
+use Rattle.std.proofs.Common.{get_or, sym, refl, ◌∙◌, add-one, arith, take_all, take-suc, take-suc-set, rules}
 use Rattle.link_rules.proofs.octets.copy.Goals as goal
 
 pub loop-i-init : goal.loop-i-init
@@ -16,4 +16,3 @@ pub returns : goal.returns
 returns c = let g = c.loop-i in
     let s = c.args.from.now in
     sym (take_all g.i g.to (omega arith)) ∙ g.invariant.2 ∙ take_all g.i s (omega arith)
-

@@ -1,4 +1,4 @@
-use Rattle.std.proofs.Common.{◌≡◌, ◌-◌, ◌≤◌, length, get_or, take, sym, refl, ◌∙◌, add-one, arith, take_all, take-suc, take-suc-set, rules}
+use Rattle.std.proofs.Common.{◌≡◌, ◌-◌, ◌≤◌, length, take}
 use Rattle.link_rules.proofs.octets.copy.Given as goal
 
 abbrev pub invariant-loop-i : goal.invariant-loop-i
@@ -6,4 +6,3 @@ invariant-loop-i l = (l.i ≤ length l.from) × (length l.to ≡ length l.from) 
 
 abbrev pub decreases-loop-i : goal.decreases-loop-i
 decreases-loop-i l = length l.from - l.i
-

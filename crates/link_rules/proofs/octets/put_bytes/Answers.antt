@@ -1,4 +1,4 @@
-use Rattle.std.proofs.Common.{◌+◌, length, sym, arith, rules}
+use Rattle.std.proofs.Common.{◌+◌, length, sym, arith}
 use borrow.Rule.Slice.PartMut.{Post-is}
 use Rattle.link_rules.specs.Octets.{put_bytes}
 use Rattle.link_rules.proofs.OctetLaws.{put-none, put_some}
@@ -14,4 +14,3 @@ pub returns : goal.returns
 unfolding put_bytes
 returns c = let a = c.args in
     rw (c.copy.ensures, Post-is a.k (a.k + length a.from.now) a.to.now (omega arith), put_some a.k a.from.now a.to.now (omega (arith, c.if-to-k.false, c.if-to-k-2.false)))
-

@@ -1,4 +1,4 @@
-use Rattle.std.proofs.Common.{◌+◌, ◌/◌, ◌^◌, sym, arith, rules}
+use Rattle.std.proofs.Common.{◌+◌, ◌/◌, ◌^◌, sym, arith}
 use Rattle.link_rules.specs.Octets.{put_le}
 use Rattle.link_rules.proofs.OctetLaws.{put_past, put-add, put_mod, length-put}
 use Rattle.link_rules.proofs.octets.put_u64.Goals as goal
@@ -13,4 +13,3 @@ returns-then-s-at-lt4 c = let a = c.args in
 pub returns : goal.returns
 returns c = let a = c.args in
     cc (put-add 4 4 a.x a.at a.s.now, put_mod 4 a.x a.at a.s.now)
-

@@ -1,4 +1,4 @@
-use Rattle.std.proofs.Common.{◌+◌, sym, arith, rules}
+use Rattle.std.proofs.Common.{◌+◌, sym, arith}
 use Rattle.link_rules.specs.Octets.{le_at}
 use Rattle.link_rules.proofs.OctetLaws.{le_past}
 use Rattle.link_rules.proofs.octets.u16_at.Goals as goal
@@ -12,4 +12,3 @@ overflow_cast-result c = omega (arith, c.shared_slice_known-then-s-at-lt2-1.give
 pub returns-then-s-at-lt2 : goal.returns-then-s-at-lt2
 unfolding le_at
 returns-then-s-at-lt2 c = let a = c.args in omega (arith, le_past 1 a.s.now (a.at + 1) (omega arith))
-

@@ -1,4 +1,4 @@
-use Rattle.std.proofs.Common.{◌+◌, arith, rules}
+use Rattle.std.proofs.Common.{◌+◌, arith}
 use Rattle.link_rules.specs.Octets.{le_at}
 use Rattle.link_rules.proofs.octets.u16_in.Goals as goal
 
@@ -17,4 +17,3 @@ overflow_add-result-2 c = omega (arith, c.shared_slice_known-2-1.given (c.args.a
 pub returns : goal.returns
 unfolding le_at
 returns c = omega arith
-

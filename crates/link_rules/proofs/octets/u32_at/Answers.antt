@@ -1,4 +1,4 @@
-use Rattle.std.proofs.Common.{◌+◌, sym, arith, rules}
+use Rattle.std.proofs.Common.{◌+◌, sym, arith}
 use Rattle.link_rules.proofs.OctetLaws.{le_add, le_past}
 use Rattle.link_rules.proofs.octets.u32_at.Goals as goal
 
@@ -11,4 +11,3 @@ returns-then-left-lt2 c = let a = c.args in
 
 pub returns-then-left-lt4 : goal.returns-then-left-lt4
 returns-then-left-lt4 c = let a = c.args in omega (arith, le_add 2 2 a.s.now a.at)
-

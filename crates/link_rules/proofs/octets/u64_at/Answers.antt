@@ -1,4 +1,4 @@
-use Rattle.std.proofs.Common.{◌+◌, sym, arith, rules}
+use Rattle.std.proofs.Common.{◌+◌, sym, arith}
 use Rattle.link_rules.proofs.OctetLaws.{le_add, le_past}
 use Rattle.link_rules.proofs.octets.u64_at.Goals as goal
 
@@ -14,4 +14,3 @@ returns-then-left-lt8 c = let a = c.args in omega (arith, le_add 4 4 a.s.now a.a
 
 pub returns : goal.returns
 returns c = let a = c.args in omega (arith, le_add 4 4 a.s.now a.at)
-

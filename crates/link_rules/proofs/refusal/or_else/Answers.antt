@@ -6,4 +6,3 @@ returns-then-a-eq0 c = rw (eq-eqb c.args.a.number 0 c.if-a-eq0.true)
 
 pub returns : goal.returns
 returns c = rw (ne_eqb c.args.a.number 0 c.if-a-eq0.false)
-

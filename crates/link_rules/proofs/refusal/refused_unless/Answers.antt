@@ -1,4 +1,3 @@
-
 use Rattle.link_rules.proofs.refusal.refused_unless.Goals as goal
 
 pub returns-then-fits : goal.returns-then-fits
@@ -6,4 +5,3 @@ returns-then-fits c = rw c.if-fits.true
 
 pub returns : goal.returns
 returns c = rw c.if-fits.false
-

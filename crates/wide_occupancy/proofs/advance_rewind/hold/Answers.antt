@@ -1,6 +1,5 @@
 use mathlib.Core.Path.{sym}
 use lib.Seq.{set_out}
-use borrow.Author.Rules.{rules}
 use Rattle.wide_occupancy.proofs.advance_rewind.hold.Goals as goal
 
 pub returns-else-at-occupancy : goal.returns-else-at-occupancy

@@ -1,12 +1,8 @@
-use mathlib.Core.Path.{◌≡◌, refl, sym, ap₂, ◌∙◌}
-use Prim.Native.Nat.{ℕ, ◌+◌, ◌-◌, ◌≤◌}
+use mathlib.Core.Path.{◌≡◌}
+use Prim.Native.Nat.{◌+◌, ◌-◌, ◌≤◌}
 use lib.ListN.{length}
-use native.Mathlib.Omega.{arith}
-use native.Mathlib.Nat.{sub-zero, add-zero}
-use borrow.Author.Rules.{rules}
 use Rattle.link_rules.specs.Network.{lockouts}
 use Rattle.link_rules.specs.AdvanceRewind.{hold_all}
-use Rattle.link_rules.proofs.MarkLaws.{hold-turn, hold-end}
 use Rattle.wide_occupancy.proofs.advance_rewind.hold_lockouts.Given as goal
 
 abbrev pub invariant-loop-j : goal.invariant-loop-j

@@ -1,6 +1,5 @@
 use borrow.Author.Tests.{eq-eqb, ne_eqb}
 use Rattle.link_rules.specs.AdvanceRewind.{is_link}
-use borrow.Author.Rules.{rules}
 use Rattle.wide_occupancy.proofs.advance_rewind.is_link.Goals as goal
 
 pub returns-then-link-eq0 : goal.returns-then-link-eq0

@@ -1,5 +1,4 @@
 use Rattle.wide_occupancy.specs.WideOccupancy.{mark_wide_refusal}
-use borrow.Author.Rules.{rules}
 use Rattle.wide_occupancy.proofs.advance_rewind.mark_refusal.Goals as goal
 
 pub returns : goal.returns

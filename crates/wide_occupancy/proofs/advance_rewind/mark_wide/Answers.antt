@@ -4,7 +4,6 @@ use Rattle.link_rules.specs.AdvanceRewind.{marked, marked_by, update_links_block
 use Rattle.link_rules.specs.declared.refusal.Answer.TheVariants.{Done}
 use Rattle.link_rules.proofs.MarkLaws.{refused_by}
 use Rattle.wide_occupancy.specs.WideOccupancy.{mark_wide_of}
-use borrow.Author.Rules.{rules}
 use Rattle.wide_occupancy.proofs.advance_rewind.mark_wide.Goals as goal
 
 pub returns-then-number-ne0 : goal.returns-then-number-ne0

@@ -3,7 +3,6 @@ use native.Mathlib.Omega.{arith}
 use borrow.Author.Tests.{lt-ltb, le-ltb}
 use Rattle.link_rules.specs.Network.{link_at}
 use Rattle.link_rules.specs.AdvanceRewind.{reset_link_train_idx}
-use borrow.Author.Rules.{rules}
 use Rattle.wide_occupancy.proofs.advance_rewind.reset_link_train_idx.Goals as goal
 
 pub returns-then-lockout_len-le1 : goal.returns-then-lockout_len-le1

@@ -1,6 +1,5 @@
 use borrow.Author.Tests.{eq-eqb, ne_eqb}
 use Rattle.link_rules.specs.AdvanceRewind.{hold_all, reset_all, update_links_blocked}
-use borrow.Author.Rules.{rules}
 use Rattle.wide_occupancy.proofs.advance_rewind.update_links_blocked.Goals as goal
 
 pub returns-then-train-eq0 : goal.returns-then-train-eq0

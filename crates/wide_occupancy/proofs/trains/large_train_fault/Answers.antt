@@ -1,4 +1,3 @@
-use borrow.Author.Rules.{rules}
 use Rattle.wide_occupancy.proofs.trains.large_train_fault.Goals as goal
 
 pub returns : goal.returns

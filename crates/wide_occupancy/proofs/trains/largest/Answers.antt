@@ -1,11 +1,10 @@
-use mathlib.Core.Path.{◌≡◌, sym, ap, ◌∙◌}
-use Prim.Native.Nat.{ℕ, ◌+◌, ◌-◌, max, ◌≤◌}
+use mathlib.Core.Path.{sym, ap, ◌∙◌}
+use Prim.Native.Nat.{ℕ, ◌+◌, max}
 use native.Mathlib.Omega.{arith}
 use native.Mathlib.Nat.{zero-max}
-use lib.ListN.{length, drop}
+use lib.ListN.{drop}
 use Rattle.wide_occupancy.specs.WideOccupancy.{largest}
 use Rattle.wide_occupancy.proofs.TrainLaws.{largest-turn, largest-end}
-use borrow.Author.Rules.{rules}
 use Rattle.wide_occupancy.proofs.trains.largest.Goals as goal
 
 pub loop-i-init : goal.loop-i-init

@@ -1,11 +1,7 @@
-use mathlib.Core.Path.{◌≡◌, sym, ap, ◌∙◌}
-use Prim.Native.Nat.{ℕ, ◌+◌, ◌-◌, max, ◌≤◌}
-use native.Mathlib.Omega.{arith}
-use native.Mathlib.Nat.{zero-max}
+use mathlib.Core.Path.{◌≡◌}
+use Prim.Native.Nat.{◌-◌, max, ◌≤◌}
 use lib.ListN.{length, drop}
 use Rattle.wide_occupancy.specs.WideOccupancy.{largest}
-use Rattle.wide_occupancy.proofs.TrainLaws.{largest-turn, largest-end}
-use borrow.Author.Rules.{rules}
 use Rattle.wide_occupancy.proofs.trains.largest.Given as goal
 
 abbrev pub invariant-loop-i : goal.invariant-loop-i

@@ -1,6 +1,5 @@
-use Rattle.std.proofs.Common.{◌≡◌, ◌+◌, ◌-◌, length, drop, sym, refl, ap, ◌∙◌, arith, rules}
+use Rattle.std.proofs.Common.{◌+◌, drop, sym, refl, ap, ◌∙◌, arith}
 use Rattle.free_path.specs.LinkOptType.{class_walk, class_end, link_opt_type_of}
-use Rattle.free_path.specs.declared.link_opt_type.LinkOptType.TheVariants.{None}
 use Rattle.free_path.specs.Columns.{links, flagged}
 use Rattle.free_path.proofs.ColumnLaws.{class-turn, class-done}
 use Rattle.free_path.proofs.link_opt_type.LinkOptType.new.Goals as goal
