@@ -14,12 +14,9 @@ use Rattle.link_rules.specs.Refusals.{no_refusal}
 use Rattle.link_rules.proofs.OctetLaws.{Bytes, le_cong, le_past, le_put_same, le_put_other, length-put, get_d_put}
 use Rattle.disp_structs.specs.Floats.{real_of}
 use Rattle.disp_structs.specs.Listed.{listed}
-use Rattle.disp_structs.specs.Train.{Train}
-use Rattle.disp_structs.specs.declared.EstTime.{EstTime}
 use Rattle.disp_structs.proofs.ListedLaws.{listed-length, listed_same, listed_at}
 use Rattle.est_times.proofs.Counting.{same_or_not}
-use Rattle.image.specs.Fields.{diverge_words}
-use Rattle.image.specs.Image.{est_count, path_count_of, diverge_count_of, diverge_room, is_wide, est_place, node_place, diverge_offset, diverge_place, image_size, largest_of, largest_train, est_at}
+use Rattle.image.specs.Image.{est_count, path_count_of, diverge_count_of, diverge_room, is_wide, est_place, node_place, diverge_offset, diverge_place, image_size, largest_of, est_at}
 use Rattle.image.specs.Codec.{decoded, wide_number, stored_into, encoded}
 use Rattle.image.proofs.WidthLaws.{words_twice}
 use Rattle.image.proofs.Writers.{side}

@@ -8,7 +8,6 @@ use lib.Dec.{lit<}
 use lib.ListN.{length, get_or}
 use Rattle.link_rules.specs.Octets.{le_at}
 use Rattle.link_rules.specs.Refusals.{no_refusal}
-use Rattle.link_rules.specs.declared.refusal.Refusal.{Refusal}
 use Rattle.link_rules.proofs.OctetLaws.{le_lt}
 use Rattle.disp_structs.specs.Floats.{real_of, bits_of}
 use Rattle.disp_structs.specs.Train.{Train}

@@ -19,7 +19,7 @@ use Rattle.image_fault.specs.ImageFault.{first_unfit, counts_fit, parts_fit, tra
 use Rattle.link_rules.specs.Refusals.{no_refusal, refused}
 use Rattle.update_definition.specs.Update.{Success}
 use Rattle.update_laws.proofs.Build.{train, metres, est, node, dive, everything}
-use Rattle.update_definition.specs.UpdateImage.{UpdatedImage, links_below, call_fault, update_fault_in, update_fault, updated_image_in, updated_image}
+use Rattle.update_definition.specs.UpdateImage.{UpdatedImage, links_below, call_fault, update_fault_in, updated_image_in, updated_image}
 use Rattle.track_profile.specs.Profile.{units_of, in_profile, offset_at, image_in_profile, profile_fault}
 use Rattle.track_profile.specs.ExactSteps.{names_next, names_alt}
 

@@ -1,7 +1,7 @@
 -- A train that is Blocked is held by a train that is not 0: the view of a node of the old path is not empty where it blocks. Assumes nothing.
 use mathlib.Core.Path.{◌≡◌, refl, sym, ap, subst, ◌∙◌}
 use mathlib.Core.Logic.{◌⊎◌, inl, inr, ⊎_elim}
-use mathlib.Core.Bool.{true, false, cond, ◌&&◌, ◌||◌}
+use mathlib.Core.Bool.{true, false, ◌&&◌}
 use mathlib.Core.List.{List, [], ◌∷◌, ◌++◌}
 use Prim.Native.Nat.{ℕ, zero, suc, ◌+◌, ◌-◌, ◌≤◌, ◌<◌}
 use native.Mathlib.Omega.{arith}
@@ -30,7 +30,7 @@ use Rattle.update_definition.specs.Accepted.{Each, Leads, Accepted}
 use Rattle.update_laws.specs.Turns.{SomeTrain, Stands, Looks, Rewound, Did, Turned, After}
 use Rattle.update_laws.specs.Turns.Looks.{passes, blocks}
 use Rattle.update_laws.specs.Turns.Did.{pops, shortens, gives_up, alternates, changes, saves, empties, advances, joins}
-use Rattle.update_laws.specs.Good.{PoolGood, Blocking, ViewsGood, StackGood, Good}
+use Rattle.update_laws.specs.Good.{PoolGood, Blocking, Good}
 use Rattle.update_laws.specs.AfterRound.{AtEnd}
 use Rattle.update_laws.proofs.Answers.{no_ok, ok_same, bind_ok, need-ok, room-ok, cond_cases, before-ok, slice-ok}
 use Rattle.update_laws.proofs.Lists.{at_some, at_last, each_append, each-one, each_take}

@@ -19,7 +19,7 @@ use Rattle.free_path.specs.declared.link_opt_type.LinkOptType.TheVariants.{None,
 use Rattle.free_path.proofs.ListLaws.{All}
 use Rattle.free_path.proofs.PlainLaws.{Link32, same_index}
 use Rattle.free_path.proofs.MapLaws.{map-id, id-map, bind_same}
-use Rattle.update_definition.specs.Update.{Given, apart, search_begin, meeting, split_point, met_before, round_met, Entry, path_ends, searches, begin_at, begin_of, end_from, round_of, steps_in, round_steps, strays_of}
+use Rattle.update_definition.specs.Update.{Given, apart, search_begin, meeting, split_point, met_before, round_met, Entry, path_ends, searches, begin_of, end_from, round_of, steps_in, round_steps, strays_of}
 use Rattle.update_laws.proofs.RoundRenumbering.{given}
 
 apart_plain : (c : LinkOptType) (on : LinkIdx → Bool) → apart (plainly c) on ≡ apart c on

@@ -22,10 +22,10 @@ use Rattle.free_path.specs.declared.link_opt_type.LinkOptType.TheVariants.{None,
 use Rattle.free_path.specs.Renumbered.{r_class}
 use Rattle.free_path.proofs.PathRenumbering.{contains_r, links_on_path_r, link_idx_path_r, find_train_intersect_r, train_met_r, calc_idx_sentinels_r}
 use Rattle.free_path.proofs.MapLaws.{map_res, map-id, id-map, bind-map, bind_same, need-map, cond_map, at_map, before-map, walk_from-map}
-use Rattle.update_definition.specs.State.{Round, Search, Turn, go_on, ends, Ended, at_end}
+use Rattle.update_definition.specs.State.{Round, Search, Turn, go_on, ends, Ended}
 use Rattle.update_definition.specs.Look.{Here, look_here, stored_trains, occupied_next, move_of}
 use Rattle.update_definition.specs.Moves.{not_fake}
-use Rattle.update_definition.specs.Update.{do_move, search_step, search_from, steps_after, steps_from, turn_limit, Given, apart, search_begin, meeting, split_point, met_before, round_met, at_sentinel, div_point, save_point, search_at, round_at, Begin, Entry, path_ends, searches, begin_at, begin_of, end_from, round_of, steps_in, round_steps}
+use Rattle.update_definition.specs.Update.{do_move, search_step, search_from, steps_after, steps_from, turn_limit, Given, apart, search_begin, meeting, split_point, met_before, round_met, at_sentinel, div_point, save_point, search_at, round_at, Entry, path_ends, searches, begin_at, begin_of, end_from, round_of, steps_in, round_steps}
 use Rattle.update_definition.specs.declared.Move.{Move}
 use Rattle.update_definition.specs.declared.Move.TheVariants.{Rewind, Alternate, ChangeDiverge, PushSaved, BlockEmpty, Advance, Join}
 use Rattle.update_laws.proofs.StateRenumbering.{r_round, r_search, r_here, r_ended, r_turn, no_train_r}

@@ -1,5 +1,5 @@
 -- How far an update of an accepted train counts: at most as many rounds as the limit, at most 512 strays at each count, at most 1,024 errors. Assumes nothing.
-use mathlib.Core.Path.{◌≡◌, refl, sym, ap, ◌∙◌}
+use mathlib.Core.Path.{◌≡◌, refl}
 use mathlib.Core.Bool.{Bool, true, false, cond}
 use mathlib.Core.List.{List, [], ◌∷◌}
 use Prim.Native.Nat.{ℕ, zero, suc, ◌+◌, ◌*◌, ◌≤◌}
@@ -13,15 +13,13 @@ use Rattle.disp_structs.specs.declared.EstTime.{EstTime}
 use Rattle.disp_structs.specs.declared.DispNode.{DispNode}
 use Rattle.tally.specs.Tally.{counted}
 use Rattle.tally.specs.declared.Tally.{Tally}
-use Rattle.free_path.specs.Base.{Res, ok, no, need, at, count}
+use Rattle.free_path.specs.Base.{Res, ok, no, at, count}
 use Rattle.free_path.specs.Validate.{known, is_stray, strays, bad_step, bad_steps, bad_path, in_conflict, validate_free_path}
 use Rattle.free_path.specs.LinkOptType.{contains}
 use Rattle.update_definition.specs.State.{Ended, at_end, blocked_at, again}
-use Rattle.update_definition.specs.Update.{Given, Status, Success, Blocked, Faulty, Refused, Answer, Updated, Between, between, refused, strays_of, faults_of, finish, after_round, searched, due, rounds_from, round_of, given_of, start_of, update_from, update_free_path}
+use Rattle.update_definition.specs.Update.{Given, Status, Success, Blocked, Faulty, Refused, Answer, Updated, Between, between, strays_of, faults_of, finish, after_round, searched, due, rounds_from, round_of, given_of, start_of, update_from, update_free_path}
 use Rattle.update_definition.specs.Accepted.{Accepted}
-use Rattle.update_laws.specs.AfterRound.{EndsGood}
 use Rattle.update_laws.proofs.Answers.{ok_same, bind_ok, need-ok}
-use Rattle.update_laws.proofs.Rounds.{round_good}
 use Rattle.update_laws.proofs.Updates.{TopGood, top_hands, top_start}
 
 -- ---- counts over a path

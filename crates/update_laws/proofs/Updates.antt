@@ -4,7 +4,7 @@ use mathlib.Core.Logic.{◌⊎◌, inl, inr, ⊎_elim}
 use mathlib.Core.Path.{◌≡◌, refl, sym, ap, ◌∙◌, subst}
 use mathlib.Core.Bool.{Bool, true, false, cond}
 use mathlib.Core.List.{List, [], ◌∷◌}
-use Prim.Native.Nat.{ℕ, zero, suc, ◌+◌, ◌-◌, ◌<◌, ◌≤◌}
+use Prim.Native.Nat.{ℕ, zero, suc, ◌-◌, ◌<◌, ◌≤◌}
 use native.Mathlib.Omega.{arith}
 use lib.ListN.{length, get_or}
 use Rattle.link_rules.specs.LinkIdx.{no_train}
@@ -19,7 +19,7 @@ use Rattle.free_path.specs.Base.{Res, ok, no, at}
 use Rattle.update_definition.specs.State.{Ended, at_end, blocked_at, again, with_div_nodes}
 use Rattle.update_definition.specs.Update.{Given, Status, Blocked, Updated, Between, between, refused, strays_of, faults_of, finish, after_round, searched, due, rounds_from, round_of, adjust_sentinel, given_of, start_of, update_from, update_free_path, turn_limit}
 use Rattle.update_definition.specs.Accepted.{Each, Accepted, DivsAccepted}
-use Rattle.update_definition.specs.Fits.{TrainsUpTo, TrainsWithin, NodeFits, FitsWith, Fits}
+use Rattle.update_definition.specs.Fits.{TrainsWithin, NodeFits, FitsWith, Fits}
 use Rattle.update_laws.specs.Turns.{SomeTrain}
 use Rattle.update_laws.specs.AfterRound.{SameTrip, StaysAccepted, EndsGood, Leaves}
 use Rattle.update_laws.specs.FitsGood.{DivWith, EntriesWith, EndsWith, TrainFits}

@@ -12,7 +12,7 @@ use Rattle.link_rules.specs.Renumbering.{Renumbering}
 use Rattle.link_rules.specs.Matching.{OccupanciesMatch}
 use Rattle.link_rules.proofs.OctetLaws.{Bytes}
 use Rattle.link_rules.proofs.RenumberingLaws.{below}
-use Rattle.image.specs.Image.{is_wide, largest_of, largest_train}
+use Rattle.image.specs.Image.{is_wide, largest_train}
 use Rattle.image.proofs.MatchLaws.{wide_match}
 use Rattle.image_fault.specs.ImageFault.{fault_with}
 use Rattle.link_rules.specs.Refusals.{no_refusal, refused_unless}

@@ -23,7 +23,7 @@ use Rattle.image.specs.Fields.{diverge_words}
 use Rattle.image.specs.Image.{type_of, is_wide, largest_of, path_header, est_from, node_from, diverge_from, put_node, put_diverge, zero_words, put_path_header}
 use Rattle.image.specs.Codec.{decoded, put_each, put_records, put_changes}
 use Rattle.image_fault.specs.ImageFault.{first_unfit, counts_fit, parts_fit, train_fits, est_type_fits, node_type_fits, diverge_spare_fits, zero_word, unused_zero, records_fit, image_fits, float_fits, time_fits, dist_fits, event_fits, est_links_fit, est_fits, node_fits, indices_fit, header_fits, diverge_train_fits, trains_fault, value_fault, cycle_fault, steps_to as steps, comes_from, ends_at, arrives_on, arrived, first_arrival, on_route, inner_fits, diverge_fits, route_fault, fault_with}
-use Rattle.update_definition.specs.UpdateImage.{links_below, call_fault, update_fault_in, update_fault, updated_image_in, updated_image}
+use Rattle.update_definition.specs.UpdateImage.{links_below, call_fault, update_fault_in, updated_image_in}
 use Rattle.yard_check.specs.Yard.{part_end, part_of, with_part, part_fits, yard_fits}
 use Rattle.yard_check.specs.Check.{slots_fault, report_fault, check_fault, put_row, is_finished, visited, slot_visit, yard_after, report_after, how_many, first_not, answer_of, checked_with}
 

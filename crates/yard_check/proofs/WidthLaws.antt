@@ -1,13 +1,12 @@
 -- The widths of a yard's images (document 02, Q-6): the largest train that every image holds, refusal 22 of a check, and that a check keeps the widths. Assumes nothing.
-use mathlib.Core.Path.{◌≡◌, refl, sym, ap, subst, ◌∙◌}
+use mathlib.Core.Path.{◌≡◌, refl, sym, ap, ◌∙◌}
 use mathlib.Core.Bool.{Bool, true, false, not}
 use mathlib.Core.List.{List, [], ◌∷◌}
-use Prim.Native.Nat.{ℕ, suc, max, ◌≤◌, ◌<◌}
+use Prim.Native.Nat.{ℕ, suc, max, ◌≤◌}
 use native.Mathlib.Omega.{arith}
 use lib.Dec.{leb, eqb}
-use lib.ListN.{length}
-use borrow.Author.Tests.{eqb-true, leb-true, le-leb, ne_eqb, eq-eqb}
-use Rattle.link_rules.specs.Refusals.{no_refusal, refused, refused_unless}
+use borrow.Author.Tests.{eqb-true, leb-true, le-leb, ne_eqb}
+use Rattle.link_rules.specs.Refusals.{no_refusal, refused_unless}
 use Rattle.image.specs.Image.{is_wide, largest_of, largest_train}
 use Rattle.image_fault.specs.declared.Widths.{Widths}
 use Rattle.image_fault.specs.declared.Widths.TheVariants.{Narrow, Either}
@@ -17,12 +16,12 @@ use Rattle.update_definition.specs.Fits.{TrainsUpTo}
 use Rattle.update_definition.specs.UpdateImage.{entries_up_to, given_fault}
 use Rattle.update_laws.proofs.BytesAccepted.{narrow-held}
 use Rattle.yard_check.specs.Yard.{slot_count, part_of, yard_fits}
-use Rattle.yard_check.specs.Check.{CheckArgs, wide_count, largest_held, wide_rows, held_fault, check_fault, slot_image, yard_after, Checked, checked_with}
+use Rattle.yard_check.specs.Check.{CheckArgs, wide_count, largest_held, wide_rows, held_fault, check_fault, slot_image, Checked, checked_with}
 use Rattle.yard_check.specs.YardMatch.{TrainsHeld}
 use Rattle.yard_check.specs.DemandThree.{largest_in, EntriesOfType}
 use Rattle.yard_check.proofs.SlotLaws.{many_same, many_all, many_none}
 use Rattle.yard_check.proofs.VisitLaws.{images_fit, slot-width}
-use Rattle.yard_check.proofs.YardLaws.{Fits, fits, part-done}
+use Rattle.yard_check.proofs.YardLaws.{fits, part-done}
 use Rattle.yard_check.proofs.CheckLaws.{taken, by, slots_kept}
 
 -- ---- the largest train that every image holds

@@ -1,6 +1,5 @@
 use mathlib.Core.Path.{sym, ◌∙◌}
 use Rattle.bundle_check.proofs.PlaceLaws.{fitting, misfit}
-use borrow.Author.Rules.{rules}
 use Rattle.bundle_check.proofs.check_bundle.Goals as goal
 
 -- src/lib.rt:112:9
@@ -13,4 +12,3 @@ returns-then-bundle_fits c = c.check_fitting.ensures ∙ sym (fitting c.args.bun
 
 pub returns : goal.returns
 returns c = sym (misfit c.args.bundle.now c.args.report.now (sym c.bundle_fits.ensures ∙ c.if-bundle_fits.false))
-

@@ -2,7 +2,6 @@ use mathlib.Core.Path.{sym, ◌∙◌}
 use lib.Seq.{length-take-le}
 use Rattle.sheet_text.proofs.BundleLaws.{parts}
 use Rattle.bundle_check.proofs.PlaceLaws.{room-occupancy, room-blocking}
-use borrow.Author.Rules.{rules}
 use Rattle.bundle_check.proofs.check_fitting.Goals as goal
 
 -- src/lib.rt:104:24
@@ -29,4 +28,3 @@ check_read-requires c = let p = parts c.args.bundle.now c.requires in
       blocking-links = length-take-le _ c.blocking_room-blocking.result (room-blocking _ _ p c.u32_at-count.ensures c.blocking_room-blocking.ensures) ∙ c.u32_at-count.ensures;
       yard-within = p.yard-within;
     }
-

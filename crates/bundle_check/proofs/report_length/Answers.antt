@@ -6,7 +6,6 @@ use lib.ListN.{length, take, drop}
 use Rattle.yard_check.specs.Check.{row_size}
 use Rattle.sheet_text.proofs.BundleLaws.{report-few}
 use Rattle.bundle_check.proofs.PlaceLaws.{report-none, report-from}
-use borrow.Author.Rules.{rules}
 use Rattle.bundle_check.proofs.report_length.Goals as goal
 
 pub returns-then-bundle-at : goal.returns-then-bundle-at
@@ -21,4 +20,3 @@ returns c = let b = c.args.bundle.now in
       value = ap (λ (n : ℕ). row_size false * n) (c.report_slots.ensures ∙ e);
       upper_bound = omega (arith, c.report_slots.ensures, report-few (take (length b - at) (drop at b)));
     }
-

@@ -4,7 +4,6 @@ use Rattle.link_rules.specs.AdvanceRewind.{marked, marked_by, update_links_block
 use Rattle.link_rules.specs.declared.refusal.Answer.TheVariants.{Done}
 use Rattle.link_rules.proofs.MarkLaws.{refused_by}
 use Rattle.candidate.specs.Candidate.{train_given, act_of}
-use borrow.Author.Rules.{rules}
 use Rattle.candidate.proofs.act.Goals as goal
 
 pub returns-then-number-ne0 : goal.returns-then-number-ne0
@@ -20,4 +19,3 @@ returns c = let a = c.args in
     let after = update_links_blocked a.table.now a.occupancy.now a.link (train_given a.slot a.marks) in
     ap (marked Done) (c.update_links_blocked.ensures ∙ ap (update_links_blocked a.table.now a.occupancy.now a.link) c.train_of.ensures)
     ∙ ap (λ (n : ℕ). marked_by n a.occupancy.now after) (sym c.if-number-ne0.false ∙ c.act_refusal-number.ensures)
-

@@ -1,7 +1,6 @@
 use mathlib.Core.Path.{sym, ◌∙◌}
 use mathlib.Core.Bool.{true, false}
 use Rattle.candidate.proofs.CandidateLaws.{act_refused, act_by}
-use borrow.Author.Rules.{rules}
 use Rattle.candidate.proofs.act_refusal.Goals as goal
 
 pub returns-then-fault-ne0 : goal.returns-then-fault-ne0
@@ -22,4 +21,3 @@ returns c = let a = c.args in
     let i = c.candidate_image in
     act_by a.table.now a.occupancy.now a.yard.now a.slot a.link f.result f.ensures false i.result.now
     c.if-fault-ne0.false i.ensures (sym c.arrives.ensures ∙ c.if-arrives.false)
-

@@ -1,7 +1,6 @@
 use mathlib.Core.Path.{sym, ap, ◌∙◌}
 use Rattle.candidate.specs.Candidate.{link_taken}
 use Rattle.candidate.proofs.CandidateLaws.{taken_yes, taken_none}
-use borrow.Author.Rules.{rules}
 use Rattle.candidate.proofs.node_taken.Goals as goal
 
 pub returns-then-is_arrive : goal.returns-then-is_arrive
@@ -15,4 +14,3 @@ returns c = let a = c.args in
     let e = c.node_link_event-event in
     taken_none a.occupancy.now e.result (sym c.is_arrive.ensures ∙ c.if-is_arrive.false)
     ∙ ap (link_taken a.occupancy.now) e.ensures
-

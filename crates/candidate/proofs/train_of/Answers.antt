@@ -1,4 +1,3 @@
-
 use Rattle.candidate.proofs.train_of.Goals as goal
 
 pub returns-then-marks : goal.returns-then-marks
@@ -6,4 +5,3 @@ returns-then-marks c = rw c.if-marks.true
 
 pub returns : goal.returns
 returns c = rw c.if-marks.false
-

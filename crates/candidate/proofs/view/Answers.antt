@@ -4,7 +4,6 @@ use Prim.Native.Nat.{ℕ}
 use Rattle.image.specs.Image.{node_at}
 use Rattle.candidate.specs.Candidate.{link_taken}
 use Rattle.candidate.proofs.CandidateLaws.{view-refused, view-shown}
-use borrow.Author.Rules.{rules}
 use Rattle.candidate.proofs.view.Goals as goal
 
 pub returns-then-fault-ne0 : goal.returns-then-fault-ne0
@@ -21,4 +20,3 @@ returns c = let a = c.args in
     c.if-fault-ne0.false i.ensures
     (c.node_taken.ensures ∙ ap (λ (img : List ℕ). link_taken a.occupancy.now (node_at img a.node).link_event) (j.ensures ∙ sym i.ensures))
     c.show.ensures
-

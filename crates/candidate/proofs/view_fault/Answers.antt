@@ -1,8 +1,6 @@
 use Rattle.candidate.specs.Candidate.{view_fault}
-use borrow.Author.Rules.{rules}
 use Rattle.candidate.proofs.view_fault.Goals as goal
 
 pub returns : goal.returns
 unfolding view_fault
 returns c = cc
-

@@ -1,6 +1,6 @@
 use mathlib.Core.Path.{◌≡◌, refl, sym, ap, ◌∙◌}
 use mathlib.Core.Bool.{true}
-use Prim.Native.Nat.{ℕ, ◌-◌, ◌≤◌}
+use Prim.Native.Nat.{ℕ}
 use native.Mathlib.Omega.{arith}
 use Rattle.link_rules.specs.Network.{all_below}
 use Rattle.link_rules.proofs.TableLaws.{all_more, all_fails}
@@ -30,4 +30,3 @@ returns c = let a = c.args in
     let l = c.loop-i in
     let e : l.i ≡ a.count = omega (arith, l.invariant.0, c.loop-i-test.false) in
     sym (ap (λ (n : ℕ). all_below n (carried_fits a.yard.now a.wide.now)) (sym e) ∙ l.invariant.1)
-

@@ -7,7 +7,6 @@ use Rattle.link_rules.specs.Octets.{put_le}
 use Rattle.link_rules.proofs.OctetLaws.{put_mod}
 use Rattle.yard_check.specs.Yard.{slot_count}
 use Rattle.carry.specs.Carry.{wide_end, with_offsets, begun}
-use borrow.Author.Rules.{rules}
 use Rattle.carry.proofs.begin.Goals as goal
 
 pub wide_end-size-requires : goal.wide_end-size-requires
@@ -25,4 +24,3 @@ returns c = let a = c.args in
     (c.put_u32.ensures
     ∙ (put_mod 4 c.wide_end-size.result 0 _
     ∙ ap₂ (λ (n : ℕ) (x : List ℕ). put_le 4 n 0 x) (c.wide_end-size.ensures.0 ∙ ap (wide_end Y) s) (c.zero_all.ensures ∙ ap (λ (n : ℕ). replicate n 0) c.requires.2))))
-

@@ -1,6 +1,5 @@
 use mathlib.Core.Path.{◌∙◌}
 use Rattle.carry.proofs.LayoutLaws.{begun_first, begun-later}
-use borrow.Author.Rules.{rules}
 use Rattle.carry.proofs.begin_by.Goals as goal
 
 pub returns-then-count-eq0 : goal.returns-then-count-eq0
@@ -8,4 +7,3 @@ returns-then-count-eq0 c = let a = c.args in c.begin.ensures ∙ begun_first a.c
 
 pub returns : goal.returns
 returns c = let a = c.args in begun-later a.count a.yard.now a.wide.now c.if-count-eq0.false
-

@@ -33,4 +33,3 @@ returns-else-all_carried c = rw (sym c.header_fits.ensures ∙ c.if-header_fits.
 pub returns-else-header_fits : goal.returns-else-header_fits
 unfolding begun_fits
 returns-else-header_fits c = rw (sym c.header_fits.ensures ∙ c.if-header_fits.false)
-

@@ -7,7 +7,6 @@ use Rattle.link_rules.specs.declared.refusal.Refusal.{Refusal}
 use Rattle.link_rules.specs.declared.refusal.Answer.TheVariants as Stepped
 use Rattle.carry.specs.Carry.{with_widened, carrying}
 use Rattle.carry.proofs.LayoutLaws.{yard-few, passed, second-room, next-accepted, carried-refused, carried-done}
-use borrow.Author.Rules.{rules}
 use Rattle.carry.proofs.carry.Goals as goal
 
 pub returns-then-f-ne0 : goal.returns-then-f-ne0
@@ -42,4 +41,3 @@ returns c = let a = c.args in
     let q = ap (λ (x : Refusal). x.number) (sym c.carry_fault-f.ensures) ∙ c.if-f-ne0.false in
     ap₂ (λ (x y : List ℕ). carrying Stepped.Done x y) (c.carry_image.ensures ∙ ap (with_widened a.yard.now a.count) c.begin_by.ensures) c.carry_occupancy.ensures
     ∙ carried-done a.yard.now a.occupancy.now a.count a.wide_yard.now a.wide_occupancy.now q
-

@@ -2,7 +2,6 @@ use mathlib.Core.Path.{sym, ap, ◌∙◌}
 use native.Mathlib.Omega.{arith}
 use Rattle.link_rules.specs.declared.refusal.Refusal.{Refusal}
 use Rattle.carry.proofs.LayoutLaws.{lengths_clean, carry_short, carry_slots, carry_yard, yard-few}
-use borrow.Author.Rules.{rules}
 use Rattle.carry.proofs.carry_fault.Goals as goal
 
 pub returns-then-f-ne0 : goal.returns-then-f-ne0
@@ -26,4 +25,3 @@ returns-then-yard_fits c = let a = c.args in
 pub returns : goal.returns
 returns c = let a = c.args in
     c.refused_unless.ensures ∙ carry_yard a.yard.now a.l a.count a.wide.now a.m (ap (λ (x : Refusal). x.number) (sym c.lengths_fault-f.ensures) ∙ c.if-f-ne0.false) (sym c.yard_fits.ensures ∙ c.if-yard_fits.false)
-

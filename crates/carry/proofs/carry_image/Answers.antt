@@ -6,7 +6,6 @@ use borrow.Rule.Slice.PartMut.{Post-is}
 use Rattle.yard_check.specs.Yard.{slot_count, part_of}
 use Rattle.carry.specs.Carry.{wide_end}
 use Rattle.carry.proofs.LayoutLaws.{end_mono, into_part}
-use borrow.Author.Rules.{rules}
 use Rattle.carry.proofs.carry_image.Goals as goal
 
 pub slice_bounds-widen-count : goal.slice_bounds-widen-count
@@ -32,4 +31,3 @@ returns c = let a = c.args in
     rw (c.widen-f.ensures.1, Post-is A E a.wide.now (omega (arith, c.wide_end-a.ensures.0, c.wide_end-e.ensures.0, end_mono a.yard.now a.n (a.n + 1) (omega arith))))
     (into_part a.yard.now a.wide.now a.n A E c.part.result.now c.wide_end-a.ensures.0 (c.wide_end-e.ensures.0 ∙ ap (wide_end a.yard.now) (add-one a.n))
     (c.part.ensures ∙ ap (part_of a.yard.now) (add-one a.n)) p.4 p.2 p.3)
-

@@ -1,6 +1,5 @@
 use mathlib.Core.Path.{◌∙◌}
 use Rattle.carry.proofs.LayoutLaws.{occupancy-first, occupancy-later}
-use borrow.Author.Rules.{rules}
 use Rattle.carry.proofs.carry_occupancy.Goals as goal
 
 pub returns-then-count-eq0 : goal.returns-then-count-eq0
@@ -9,4 +8,3 @@ returns-then-count-eq0 c = let a = c.args in
 
 pub returns : goal.returns
 returns c = let a = c.args in occupancy-later a.count a.occupancy.now a.to.now c.if-count-eq0.false
-

@@ -4,7 +4,6 @@ use borrow.Author.Tests.{eq-eqb, ne_eqb}
 use Rattle.link_rules.specs.Octets.{le_at}
 use Rattle.yard_check.specs.Yard.{slot_count}
 use Rattle.carry.specs.Carry.{wide_end, second_header_fits}
-use borrow.Author.Rules.{rules}
 use Rattle.carry.proofs.header_fits.Goals as goal
 
 pub wide_end-size-requires : goal.wide_end-size-requires
@@ -33,4 +32,3 @@ returns c = let a = c.args in
     let e = c.wide_end-size.ensures.0 ∙ ap (wide_end Y) c.slot_count-slots.ensures in
     rw (eq-eqb (le_at 4 W 0) (wide_end Y (slot_count Y)) (sym c.u32_at.ensures ∙ (c.if-u32_at-size.false ∙ e)), eq-eqb (slot_count W) (slot_count Y) (sym c.slot_count.ensures ∙ (c.if-slot_count-slots.false ∙ c.slot_count-slots.ensures)))
     c.offsets_fit.ensures
-

@@ -1,11 +1,9 @@
-use mathlib.Core.Path.{◌≡◌, sym, ap, ◌∙◌}
+use mathlib.Core.Path.{sym, ap, ◌∙◌}
 use Prim.Native.Nat.{ℕ, ◌-◌}
 use native.Mathlib.Omega.{arith}
 use Rattle.link_rules.specs.declared.refusal.Refusal.{Refusal}
-use Rattle.yard_check.specs.Yard.{slot_count}
 use Rattle.carry.specs.Carry.{images_fault}
 use Rattle.carry.proofs.LayoutLaws.{images-end, images_pass, images_stop}
-use borrow.Author.Rules.{rules}
 use Rattle.carry.proofs.images_fault.Goals as goal
 
 pub loop-t-init : goal.loop-t-init
@@ -28,4 +26,3 @@ pub returns : goal.returns
 returns c = let a = c.args in
     let l = c.loop-t in
     c.refused_unless.ensures ∙ (sym (images-end a.yard.now a.l c.slot_count-slots.result l.t (omega (arith, c.loop-t-test.false))) ∙ l.invariant)
-

@@ -1,11 +1,7 @@
-use mathlib.Core.Path.{◌≡◌, sym, ap, ◌∙◌}
-use Prim.Native.Nat.{ℕ, ◌-◌}
-use native.Mathlib.Omega.{arith}
-use Rattle.link_rules.specs.declared.refusal.Refusal.{Refusal}
+use mathlib.Core.Path.{◌≡◌}
+use Prim.Native.Nat.{◌-◌}
 use Rattle.yard_check.specs.Yard.{slot_count}
 use Rattle.carry.specs.Carry.{images_fault}
-use Rattle.carry.proofs.LayoutLaws.{images-end, images_pass, images_stop}
-use borrow.Author.Rules.{rules}
 use Rattle.carry.proofs.images_fault.Given as goal
 
 abbrev pub invariant-loop-t : goal.invariant-loop-t
@@ -13,4 +9,3 @@ invariant-loop-t l = images_fault l.yard l.l (l.slots - l.t) l.t ≡ images_faul
 
 abbrev pub decreases-loop-t : goal.decreases-loop-t
 decreases-loop-t l = l.slots - l.t
-

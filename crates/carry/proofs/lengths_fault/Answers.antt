@@ -1,7 +1,6 @@
 use mathlib.Core.Path.{◌∙◌}
 use native.Mathlib.Omega.{arith}
 use Rattle.carry.proofs.LayoutLaws.{lengths_low, lengths_high, lengths_equal}
-use borrow.Author.Rules.{rules}
 use Rattle.carry.proofs.lengths_fault.Goals as goal
 
 pub returns-then-l-lt2 : goal.returns-then-l-lt2
@@ -14,4 +13,3 @@ returns-then-l-gt4000 c = let a = c.args in
 pub returns : goal.returns
 returns c = let a = c.args in
     c.refused_unless-2.ensures ∙ lengths_equal a.l a.m (omega (arith, c.if-l-lt2.false)) (omega (arith, c.if-l-gt4000.false))
-

@@ -1,6 +1,6 @@
 use mathlib.Core.Path.{◌≡◌, refl, sym, ap, ◌∙◌}
 use mathlib.Core.Bool.{true}
-use Prim.Native.Nat.{ℕ, ◌-◌, ◌≤◌}
+use Prim.Native.Nat.{ℕ}
 use native.Mathlib.Omega.{arith}
 use Rattle.link_rules.specs.Network.{all_below}
 use Rattle.link_rules.proofs.TableLaws.{all_more, all_fails}
@@ -31,4 +31,3 @@ returns c = let a = c.args in
     let l = c.loop-i in
     let e : l.i ≡ slot_count a.yard.now = omega (arith, l.invariant.0, c.loop-i-test.false, c.slot_count-slots.ensures) in
     sym (ap (λ (n : ℕ). all_below n (offset_fits a.yard.now a.wide.now)) (sym e) ∙ l.invariant.1)
-

@@ -3,7 +3,6 @@ use Prim.Native.Nat.{ℕ, suc, ◌+◌, ◌*◌, ◌%◌}
 use native.Mathlib.Omega.{arith}
 use Rattle.link_rules.specs.Octets.{put_le}
 use Rattle.link_rules.proofs.OctetLaws.{put_mod}
-use borrow.Author.Rules.{rules}
 use Rattle.carry.proofs.put_offset.Goals as goal
 
 pub returns : goal.returns
@@ -14,4 +13,3 @@ returns c = let a = c.args in
     c.put_u32.ensures
     ∙ (ap (λ (n : ℕ). put_le 4 (w.result % 4294967296) n W) k
     ∙ (put_mod 4 w.result (4 + 4 * suc a.i) W ∙ ap (λ (n : ℕ). put_le 4 n (4 + 4 * suc a.i) W) w.ensures.0))
-

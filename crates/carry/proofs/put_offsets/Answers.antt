@@ -1,8 +1,7 @@
 use mathlib.Core.Path.{◌≡◌, refl, sym, ap, ◌∙◌}
 use mathlib.Core.List.{List}
-use Prim.Native.Nat.{ℕ, suc, ◌+◌, ◌*◌, ◌-◌, ◌≤◌}
+use Prim.Native.Nat.{ℕ, suc, ◌+◌, ◌*◌}
 use native.Mathlib.Omega.{arith}
-use lib.ListN.{length}
 use Rattle.link_rules.specs.Octets.{put_le}
 use Rattle.yard_check.specs.Yard.{slot_count}
 use Rattle.carry.specs.Carry.{wide_end, with_offsets}
@@ -27,4 +26,3 @@ returns c = let a = c.args in
     let l = c.loop-i in
     let e : l.i ≡ slot_count a.yard.now = omega (arith, l.invariant.0, l.invariant.1, c.loop-i-test.false) in
     l.invariant.2 ∙ ap (λ (n : ℕ). with_offsets a.yard.now n a.wide.now) e
-

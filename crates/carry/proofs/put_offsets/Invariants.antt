@@ -1,13 +1,8 @@
-use mathlib.Core.Path.{◌≡◌, refl, sym, ap, ◌∙◌}
-use mathlib.Core.List.{List}
-use Prim.Native.Nat.{ℕ, suc, ◌+◌, ◌*◌, ◌-◌, ◌≤◌}
-use native.Mathlib.Omega.{arith}
+use mathlib.Core.Path.{◌≡◌}
+use Prim.Native.Nat.{◌-◌, ◌≤◌}
 use lib.ListN.{length}
-use Rattle.link_rules.specs.Octets.{put_le}
 use Rattle.yard_check.specs.Yard.{slot_count}
-use Rattle.carry.specs.Carry.{wide_end, with_offsets}
-use Rattle.carry.proofs.LayoutLaws.{offsets-turn}
-use borrow.Author.Rules.{rules}
+use Rattle.carry.specs.Carry.{with_offsets}
 use Rattle.carry.proofs.put_offsets.Given as goal
 
 abbrev pub invariant-loop-i : goal.invariant-loop-i
@@ -15,4 +10,3 @@ invariant-loop-i l = (l.i ≤ l.slots) × (l.slots ≡ slot_count l.yard) × (l.
 
 abbrev pub decreases-loop-i : goal.decreases-loop-i
 decreases-loop-i l = l.slots - l.i
-

@@ -4,7 +4,6 @@ use lib.ListN.{length}
 use borrow.Author.Tests.{eq-eqb, ne_eqb, lt-ltb, le-ltb}
 use Rattle.yard_check.specs.Yard.{slot_count}
 use Rattle.carry.specs.Carry.{wide_end, second_fits}
-use borrow.Author.Rules.{rules}
 use Rattle.carry.proofs.second_fits.Goals as goal
 
 pub returns-then-slots-count : goal.returns-then-slots-count
@@ -42,4 +41,3 @@ returns c = let a = c.args in
     let e = c.wide_end.ensures.0 ∙ ap (wide_end Y) c.slot_count-slots.ensures in
     rw (lt-ltb a.count (slot_count Y) (omega (arith, c.slot_count-slots.ensures, c.if-slots-count.false)), eq-eqb (length a.wide.now) (wide_end Y (slot_count Y)) (c.if-wide-wide_end.false ∙ e), ne_eqb a.count 0 c.if-count-eq0.false)
     c.begun_fits.ensures
-

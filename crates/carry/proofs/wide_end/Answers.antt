@@ -1,10 +1,8 @@
 use mathlib.Core.Path.{◌≡◌, sym, ap, ap₂, ◌∙◌}
-use Prim.Native.Nat.{ℕ, ◌+◌, ◌*◌, ◌-◌, ◌≤◌, ◌<◌}
+use Prim.Native.Nat.{ℕ, ◌+◌, ◌*◌}
 use native.Mathlib.Omega.{arith}
-use lib.ListN.{length}
 use Rattle.carry.specs.Carry.{wide_end}
 use Rattle.carry.proofs.LayoutLaws.{end_zero, end-turn}
-use borrow.Author.Rules.{rules}
 use Rattle.carry.proofs.wide_end.Goals as goal
 
 pub loop-i-init : goal.loop-i-init
@@ -37,4 +35,3 @@ returns c = let a = c.args in
     let l = c.loop-i in
     let e : l.i ≡ a.n = omega (arith, l.invariant.0, c.loop-i-test.false) in
     (l.invariant.3 ∙ ap (wide_end a.yard.now) e, omega (arith, l.invariant.4, e))
-

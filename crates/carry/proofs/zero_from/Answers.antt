@@ -1,10 +1,8 @@
 use mathlib.Core.Path.{◌≡◌, refl, sym, ap, ◌∙◌}
-use mathlib.Core.Bool.{Bool, true}
-use mathlib.Core.List.{List}
-use Prim.Native.Nat.{ℕ, ◌+◌, ◌-◌, ◌≤◌}
+use mathlib.Core.Bool.{true}
+use Prim.Native.Nat.{ℕ, ◌-◌}
 use native.Mathlib.Omega.{arith}
-use lib.Dec.{eqb}
-use lib.ListN.{length, get_or}
+use lib.ListN.{length}
 use borrow.Author.Tests.{eq-eqb, ne_eqb}
 use Rattle.link_rules.specs.Network.{all_below}
 use Rattle.link_rules.proofs.TableLaws.{all_more, all_fails}
@@ -34,4 +32,3 @@ returns c = let a = c.args in
     let l = c.loop-i in
     let e : l.i ≡ length a.bs.now - a.a = omega (arith, l.invariant.0, l.invariant.1, c.loop-i-test.false) in
     sym (ap (λ (n : ℕ). all_below n (is_zero a.a a.bs.now)) (sym e) ∙ l.invariant.2)
-

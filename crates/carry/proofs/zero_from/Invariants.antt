@@ -1,15 +1,10 @@
-use mathlib.Core.Path.{◌≡◌, refl, sym, ap, ◌∙◌}
+use mathlib.Core.Path.{◌≡◌}
 use mathlib.Core.Bool.{Bool, true}
 use mathlib.Core.List.{List}
 use Prim.Native.Nat.{ℕ, ◌+◌, ◌-◌, ◌≤◌}
-use native.Mathlib.Omega.{arith}
 use lib.Dec.{eqb}
 use lib.ListN.{length, get_or}
-use borrow.Author.Tests.{eq-eqb, ne_eqb}
 use Rattle.link_rules.specs.Network.{all_below}
-use Rattle.link_rules.proofs.TableLaws.{all_more, all_fails}
-use Rattle.carry.specs.Carry.{zero_from}
-use borrow.Author.Rules.{rules}
 use Rattle.carry.proofs.zero_from.Given as goal
 
 abbrev pub is_zero : ℕ → List ℕ → ℕ → Bool
@@ -20,4 +15,3 @@ invariant-loop-i l = (l.i ≤ l.left) × (l.left + l.a ≡ length l.bs) × (all_
 
 abbrev pub decreases-loop-i : goal.decreases-loop-i
 decreases-loop-i l = l.left - l.i
-

@@ -6,7 +6,6 @@ use Rattle.yard_check.specs.Yard.{part_of}
 use Rattle.ceiling.specs.Ceiling.{ceiling_of}
 use Rattle.ceiling.specs.declared.StepCeiling.{StepCeiling}
 use Rattle.ceiling.proofs.CeilingLaws.{ceiling_few}
-use borrow.Author.Rules.{rules}
 use Rattle.ceiling.proofs.slot_ceiling.Goals as goal
 
 pub overflow_mul-result : goal.overflow_mul-result
@@ -20,4 +19,3 @@ overflow_mul-result c = let a = c.args in
 pub returns : goal.returns
 returns c = let a = c.args in
     ap (λ (y : StepCeiling). y.steps * a.limit) (c.ceiling-c.ensures ∙ ap ceiling_of c.part.ensures)
-

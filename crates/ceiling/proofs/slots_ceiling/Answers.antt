@@ -1,10 +1,9 @@
 use mathlib.Core.Path.{◌≡◌, refl, ap, ap₂, ◌∙◌}
-use Prim.Native.Nat.{ℕ, ◌+◌, ◌*◌, ◌-◌, ◌≤◌}
+use Prim.Native.Nat.{ℕ, ◌+◌}
 use native.Mathlib.Omega.{arith}
 use Rattle.yard_check.specs.Yard.{part_of}
 use Rattle.ceiling.specs.Ceiling.{slots_ceiling}
 use Rattle.ceiling.proofs.CeilingLaws.{slot-few, slots-turn}
-use borrow.Author.Rules.{rules}
 use Rattle.ceiling.proofs.slots_ceiling.Goals as goal
 
 pub loop-t-init : goal.loop-t-init
@@ -28,4 +27,3 @@ pub returns : goal.returns
 returns c = let l = c.loop-t in
     let e : l.t ≡ c.args.slots = omega (arith, l.invariant.0, c.loop-t-test.false) in
     l.invariant.1 ∙ ap (slots_ceiling c.args.yard.now c.args.limit) e
-

@@ -11,7 +11,6 @@ use Rattle.image_fault.specs.declared.Widths.TheVariants.{Either}
 use Rattle.image_fault.proofs.AcceptLaws.{accepted_in, fits-counts, good-image}
 use Rattle.image_store.specs.Stored.{diverges_into}
 use Rattle.conversion.proofs.ConvertedBytes.{written}
-use borrow.Author.Rules.{rules}
 use Rattle.conversion.proofs.convert.Goals as goal
 
 pub overflow_cast-size : goal.overflow_cast-size
@@ -49,4 +48,3 @@ returns c = let a = c.args in
     copied.ensures.0 (λ i l. copied.ensures.1 i (omega (arith, front))) (λ i l. copied.ensures.2 i (omega (arith, front)))
     (c.put_u16.ensures ∙ ap₂ (λ (w : ℕ) (x : List ℕ). put_le 2 w 42 x) c.wide_number.ensures (c.put_u32.ensures ∙ ap (λ (n : ℕ). put_le 4 n 0 o2) size))
     (c.put_diverges.ensures ∙ ap (λ (m : ℕ). diverges_into (is_wide o4) (listed m (diverge_at img)) o4) c.diverge_count.ensures)
-

@@ -1,9 +1,9 @@
 use borrow.Author.Rules.{rules}
 use mathlib.Core.Path.{◌≡◌, refl, ◌∙◌}
 use mathlib.Core.Logic.{⊎_elim}
-use Prim.Native.Nat.{ℕ, ◌-◌, ◌≤◌, ◌<◌}
+use Prim.Native.Nat.{◌≤◌, ◌<◌}
 use native.Mathlib.Omega.{arith}
-use lib.ListN.{length, get_or, length-set}
+use lib.ListN.{get_or, length-set}
 use lib.Seq.{get_or-set_same, get_or-set_other}
 use Rattle.image.proofs.Writers.{side}
 use Rattle.conversion.proofs.copy_front.Goals as goal
@@ -31,4 +31,3 @@ shape_of-out c = c.loop-i.invariant.1
 pub returns : goal.returns
 returns c = let g = c.loop-i in
     (g.invariant.1, λ j l. g.invariant.2 j (omega arith), λ j l. g.invariant.3 j (omega arith))
-

@@ -5,7 +5,6 @@ use Rattle.link_rules.specs.declared.refusal.Refusal.{Refusal}
 use Rattle.image.specs.Codec.{decoded, encoded}
 use Rattle.conversion.specs.Conversion.{narrow_fault}
 use Rattle.conversion.proofs.ConversionLaws.{narrow_clean, left-done, left_was}
-use borrow.Author.Rules.{rules}
 use Rattle.conversion.proofs.narrow.Goals as goal
 
 pub returns-then-f-ne0 : goal.returns-then-f-ne0
@@ -26,4 +25,3 @@ returns c = let a = c.args in
     let out = a.out.now in
     let z = sym (ap (λ (x : Refusal). x.number) e) ∙ c.if-f-ne0.false in
     (e, c.convert.ensures ∙ sym (left-done (narrow_fault img (length out)) (encoded false (decoded img)) out z))
-

@@ -8,7 +8,6 @@ use Rattle.link_rules.specs.declared.refusal.Refusal.{Refusal}
 use Rattle.image_fault.specs.ImageFault.{fault_with}
 use Rattle.image_fault.specs.declared.Widths.TheVariants.{Either}
 use Rattle.conversion.specs.Conversion.{fits_narrow, narrow_fault}
-use borrow.Author.Rules.{rules}
 use Rattle.conversion.proofs.narrow_fault.Goals as goal
 
 pub returns-then-f-ne0 : goal.returns-then-f-ne0
@@ -28,4 +27,3 @@ returns c = let img = c.args.image.now in
     let small = c.trains_fit-fits.ensures ∙ ap (λ (m : ℕ). all_below m (fits_narrow img)) c.diverge_count.ensures in
     rw (← (f.ensures ∙ ap (λ (x : Refusal). fault_with Either x img 4000) own), eq-eqb f.result.number 0 c.if-f-ne0.false)
     (c.refused_unless-2.ensures ∙ ap (λ (t : Bool). refused_unless t 23) small)
-

@@ -1,6 +1,6 @@
 use borrow.Author.Rules.{rules}
 use mathlib.Core.Path.{◌≡◌, refl, ap, ◌∙◌}
-use Prim.Native.Nat.{ℕ, ◌-◌, ◌≤◌}
+use Prim.Native.Nat.{ℕ}
 use native.Mathlib.Omega.{arith}
 use lib.ListN.{length}
 use Rattle.disp_structs.specs.Listed.{listed}
@@ -31,4 +31,3 @@ returns c = let l = c.loop-i in
     let a = c.args in
     let e : l.i ≡ a.count = omega arith in
     l.invariant.1 ∙ ap (λ (i : ℕ). diverges_into (is_wide a.out.now) (listed i (diverge_at a.image.now)) a.out.now) e
-

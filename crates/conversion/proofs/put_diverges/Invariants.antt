@@ -1,13 +1,8 @@
-use borrow.Author.Rules.{rules}
-use mathlib.Core.Path.{◌≡◌, refl, ap, ◌∙◌}
-use Prim.Native.Nat.{ℕ, ◌-◌, ◌≤◌}
-use native.Mathlib.Omega.{arith}
-use lib.ListN.{length}
+use mathlib.Core.Path.{◌≡◌}
+use Prim.Native.Nat.{◌-◌, ◌≤◌}
 use Rattle.disp_structs.specs.Listed.{listed}
 use Rattle.image.specs.Image.{is_wide, diverge_at}
-use Rattle.image.specs.Codec.{put_each}
 use Rattle.image_store.specs.Stored.{diverges_into}
-use Rattle.image_store.proofs.StoreLaws.{diverges_long, diverges_next}
 use Rattle.conversion.proofs.put_diverges.Given as goal
 
 abbrev pub invariant-loop-i : goal.invariant-loop-i
@@ -15,4 +10,3 @@ invariant-loop-i l = (l.i ≤ l.count) × (l.out ≡ diverges_into (is_wide l.in
 
 abbrev pub decreases-loop-i : goal.decreases-loop-i
 decreases-loop-i l = l.count - l.i
-

@@ -2,7 +2,6 @@ use Rattle.link_rules.proofs.TableLaws.{all_more, all_fails}
 use Rattle.link_rules.specs.Network.{all_below}
 use mathlib.Core.Path.{refl, ◌≡◌, sym, ◌∙◌}
 use mathlib.Core.Bool.{true}
-use Prim.Native.Nat.{◌-◌, ◌≤◌}
 use native.Mathlib.Omega.{arith}
 use borrow.Author.Rules.{rules}
 use Rattle.conversion.specs.Conversion.{fits_narrow}
@@ -20,4 +19,3 @@ returns-else-fits_narrow c = sym (all_fails (fits_narrow c.args.image.now) c.arg
 
 pub returns : goal.returns
 returns c = let e : c.loop-i.i ≡ c.args.m = omega arith in rw (← e) (sym c.loop-i.invariant.1)
-

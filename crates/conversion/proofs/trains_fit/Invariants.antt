@@ -1,10 +1,7 @@
-use Rattle.link_rules.proofs.TableLaws.{all_more, all_fails}
 use Rattle.link_rules.specs.Network.{all_below}
-use mathlib.Core.Path.{refl, ◌≡◌, sym, ◌∙◌}
+use mathlib.Core.Path.{◌≡◌}
 use mathlib.Core.Bool.{true}
 use Prim.Native.Nat.{◌-◌, ◌≤◌}
-use native.Mathlib.Omega.{arith}
-use borrow.Author.Rules.{rules}
 use Rattle.conversion.specs.Conversion.{fits_narrow}
 use Rattle.conversion.proofs.trains_fit.Given as goal
 
@@ -13,4 +10,3 @@ invariant-loop-i l = (l.i ≤ l.m) × (all_below l.i (fits_narrow l.image) ≡ t
 
 abbrev pub decreases-loop-i : goal.decreases-loop-i
 decreases-loop-i l = l.m - l.i
-

@@ -7,7 +7,6 @@ use Rattle.image_fault.specs.ImageFault.{fault_with}
 use Rattle.image_fault.specs.declared.Widths.TheVariants.{Narrow}
 use Rattle.conversion.specs.Conversion.{widen_fault}
 use Rattle.conversion.proofs.ConversionLaws.{widen_clean, left-done, left_was}
-use borrow.Author.Rules.{rules}
 use Rattle.conversion.proofs.widen.Goals as goal
 
 pub returns-then-f-ne0 : goal.returns-then-f-ne0
@@ -32,4 +31,3 @@ returns c = let a = c.args in
     let out = a.out.now in
     let z = sym (ap (λ (x : Refusal). x.number) e) ∙ c.if-f-ne0.false in
     (e, c.convert.ensures ∙ sym (left-done (widen_fault img (length out)) (encoded true (decoded img)) out z))
-

@@ -3,7 +3,6 @@ use mathlib.Core.Bool.{Bool}
 use Rattle.game.specs.Game.{verdict_of}
 use Rattle.game.specs.declared.Verdict.{Verdict}
 use Rattle.free_path_c.specs.Words.{fault_word, verdict_words, game_with}
-use borrow.Author.Rules.{rules}
 use Rattle.free_path_c.proofs.lavtoeu_closer_can_force.Goals as goal
 
 pub returns : goal.returns
@@ -13,4 +12,3 @@ returns c = let a = c.args in
       word = c.fault_word.ensures ∙ ap (λ (v : Verdict). fault_word v.fault) e;
       words = c.put_verdict.ensures ∙ ap (λ (v : Verdict). verdict_words v a.answer.now) e;
     }
-

@@ -1,7 +1,6 @@
 use mathlib.Core.Path.{◌∙◌, ap}
 use Rattle.sitting.specs.Replay.{Replayed}
 use Rattle.free_path_c.specs.Words.{answer_word}
-use borrow.Author.Rules.{rules}
 use Rattle.free_path_c.proofs.lavtoeu_replay.Goals as goal
 
 pub returns : goal.returns
@@ -12,4 +11,3 @@ returns c = let e = c.replay.ensures in
       entries = ap (λ (k : Replayed). k.occupancy) e;
       numbers = ap (λ (k : Replayed). k.list) e;
     }
-

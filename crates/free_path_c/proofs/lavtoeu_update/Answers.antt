@@ -2,7 +2,6 @@ use mathlib.Core.Path.{◌∙◌, ap}
 use mathlib.Core.Bool.{Bool}
 use Rattle.update_definition.specs.UpdateImage.{UpdatedImage, updated_image}
 use Rattle.free_path_c.specs.Words.{status_word, update_words}
-use borrow.Author.Rules.{rules}
 use Rattle.free_path_c.proofs.lavtoeu_update.Goals as goal
 
 pub returns : goal.returns
@@ -16,4 +15,3 @@ returns c = let a = c.args in
       bytes = ap (λ (u : UpdatedImage). u.image) e;
       words = w.1 ∙ ap (λ (u : UpdatedImage). update_words u a.answer.now) e;
     }
-

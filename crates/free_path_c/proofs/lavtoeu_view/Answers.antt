@@ -1,7 +1,6 @@
 use mathlib.Core.Path.{ap, ◌∙◌}
 use Rattle.candidate.specs.Candidate.{View}
 use Rattle.free_path_c.specs.Words.{fault_word, view_words}
-use borrow.Author.Rules.{rules}
 use Rattle.free_path_c.proofs.lavtoeu_view.Goals as goal
 
 pub returns : goal.returns
@@ -12,4 +11,3 @@ returns c = let a = c.args in
       record_bytes = ap (λ (v : View). v.bytes) e;
       words = c.put_view.ensures ∙ ap (λ (v : View). view_words v.answer.fault.number v.answer.taken a.answer.now) e;
     }
-

@@ -1,7 +1,6 @@
 use mathlib.Core.Path.{◌∙◌, ap}
 use Rattle.ceiling.specs.declared.StepCeiling.{StepCeiling}
 use Rattle.free_path_c.specs.Words.{fault_word, ceiling_words}
-use borrow.Author.Rules.{rules}
 use Rattle.free_path_c.proofs.lavtoeu_yard_ceiling.Goals as goal
 
 pub returns : goal.returns
@@ -11,4 +10,3 @@ returns c = let a = c.args in
       word = c.fault_word.ensures ∙ ap (λ (k : StepCeiling). fault_word k.fault) e;
       words = c.put_ceiling.ensures ∙ ap (λ (k : StepCeiling). ceiling_words k.fault.number k.steps a.answer.now) e;
     }
-

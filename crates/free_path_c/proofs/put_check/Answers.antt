@@ -4,7 +4,6 @@ use mathlib.Core.List.{List}
 use Rattle.yard_check.specs.declared.check.Answer.{Answer}
 use Rattle.yard_check.specs.Checks.{answered_of}
 use Rattle.free_path_c.specs.Words.{check_words}
-use borrow.Author.Rules.{rules}
 use Rattle.free_path_c.proofs.put_check.Goals as goal
 
 told : (ws : List ℕ) {x y : Answer} → x ≡ y → check_words (answered_of y) ws ≡ check_words (answered_of x) ws
@@ -16,4 +15,3 @@ returns-in-Erred c = c.put_words.ensures ∙ told c.args.answer.now c.in-Erred.i
 pub returns-in-Done : goal.returns-in-Done
 returns-in-Done c = (rw c.bit_of.ensures at c.put_words-in-Done.ensures)
     ∙ told c.args.answer.now c.in-Done.is
-

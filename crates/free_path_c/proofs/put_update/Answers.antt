@@ -1,5 +1,4 @@
 use mathlib.Core.Path.{◌∙◌}
-use borrow.Author.Rules.{rules}
 use Rattle.free_path_c.proofs.put_update.Goals as goal
 
 pub shape_of-answer : goal.shape_of-answer
@@ -27,4 +26,3 @@ returns c = (
     c.code_of.ensures,
   ),
 )
-

@@ -1,7 +1,6 @@
 use mathlib.Core.Path.{◌≡◌, refl}
 use mathlib.Core.List.{List}
 use Prim.Native.Nat.{ℕ, zero, suc}
-use borrow.Author.Rules.{rules}
 use Rattle.free_path_c.specs.Words.{ceiling_words}
 use Rattle.free_path_c.proofs.put_verdict.Goals as goal
 
@@ -9,7 +8,6 @@ use Rattle.free_path_c.proofs.put_verdict.Goals as goal
 
 left : (k n : ℕ) (ws : List ℕ) → (k ≡ 0 → ⊥) → ws ≡ ceiling_words k n ws
 left zero n ws z = absurd (z refl)
-
 left (suc k) n ws z = refl
 
 pub returns-then-v-eq0 : goal.returns-then-v-eq0
@@ -17,4 +15,3 @@ returns-then-v-eq0 c = rw (c.if-v-eq0.true, ← c.bit_of.ensures) c.put_word.ens
 
 pub returns : goal.returns
 returns c = left _ _ _ c.if-v-eq0.false
-

@@ -1,6 +1,5 @@
 use native.Mathlib.Omega.{arith}
 use lib.ListN.{length-take}
-use borrow.Author.Rules.{rules}
 use Rattle.game.specs.Sets.{game_of}
 use Rattle.game.proofs.VerdictLaws.{start_judged}
 use Rattle.game.proofs.can_force.Goals as goal
@@ -18,4 +17,3 @@ pub returns : goal.returns
 returns c = let a = c.args in
     let last = c.last_verdicts-last in
     start_judged (game_of a.image.now a.occ.now a.o a.links.now) a.turns last.result c.judge-t.result c.requires.fitting last.ensures c.judge-t.ensures
-

@@ -1,6 +1,5 @@
 use mathlib.Core.Path.{sym, ap, ◌∙◌}
 use native.Mathlib.Omega.{arith}
-use borrow.Author.Rules.{rules}
 use Rattle.link_rules.specs.declared.refusal.Refusal.{Refusal}
 use Rattle.game.specs.Game.{Game}
 use Rattle.game.specs.Sets.{game_of}
@@ -25,4 +24,3 @@ returns c = let a = c.args in
     let f = c.game_fault-f in
     let g : Game = game_of a.image.now a.occ.now (record { moved = a.moved; local = a.local; limit = a.limit }) a.links.now in
     c.told-2.ensures ∙ told-judged g a.turns f.result f.ensures c.if-f-ne0.false c.can_force.result c.can_force.ensures
-

@@ -1,9 +1,8 @@
-use mathlib.Core.Path.{◌≡◌, refl}
-use Prim.Native.Nat.{◌-◌, ◌≤◌}
+use mathlib.Core.Path.{refl}
 use native.Mathlib.Omega.{arith}
-use lib.ListN.{length, length-set, replicate}
+use lib.ListN.{length-set, replicate}
 use borrow.Author.Rules.{rules}
-use Rattle.game.specs.Sets.{Verdicts, game_of, wins_with}
+use Rattle.game.specs.Sets.{game_of, wins_with}
 use Rattle.game.proofs.TableLaws.{verdicts_none, verdicts_more}
 use Rattle.game.proofs.last_verdicts.Goals as goal
 
@@ -29,4 +28,3 @@ loop-c-preserved c = let w = c.wins_with-win in
 pub returns : goal.returns
 returns c = let l = c.loop-c in
     λ i h. l.invariant.4 i (omega arith)
-

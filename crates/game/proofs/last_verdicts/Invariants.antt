@@ -1,10 +1,7 @@
-use mathlib.Core.Path.{◌≡◌, refl}
+use mathlib.Core.Path.{◌≡◌}
 use Prim.Native.Nat.{◌-◌, ◌≤◌}
-use native.Mathlib.Omega.{arith}
-use lib.ListN.{length, length-set, replicate}
-use borrow.Author.Rules.{rules}
+use lib.ListN.{length}
 use Rattle.game.specs.Sets.{Verdicts, game_of, wins_with}
-use Rattle.game.proofs.TableLaws.{verdicts_none, verdicts_more}
 use Rattle.game.proofs.last_verdicts.Given as goal
 
 abbrev pub invariant-loop-c : goal.invariant-loop-c
@@ -12,4 +9,3 @@ invariant-loop-c l = (l.c ≤ l.n) × (length l.out ≡ 256) × (length l.img �
 
 abbrev pub decreases-loop-c : goal.decreases-loop-c
 decreases-loop-c l = l.n - l.c
-

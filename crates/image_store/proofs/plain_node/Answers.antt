@@ -1,6 +1,5 @@
 use Rattle.image_store.specs.Plain.{plain_node}
 use borrow.Author.Tests.{le-leb, lt-leb}
-use borrow.Author.Rules.{rules}
 use Rattle.image_store.proofs.plain_node.Goals as goal
 
 pub returns-then-img-at : goal.returns-then-img-at
@@ -18,4 +17,3 @@ returns-then-u64_at-gt9218868437227405312-2 c = rw (le-leb _ _ c.if-img-at.false
 pub returns : goal.returns
 unfolding plain_node
 returns c = rw (le-leb _ _ c.if-img-at.false, ← c.u64_at.ensures, le-leb _ _ c.if-u64_at-gt9218868437227405312.false, ← c.u64_at-2.ensures, le-leb _ _ c.if-u64_at-gt9218868437227405312-2.false, ← c.u64_at-3.ensures)
-

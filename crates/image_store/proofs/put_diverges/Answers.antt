@@ -1,5 +1,5 @@
 use mathlib.Core.Path.{◌≡◌, refl, ap, ap₂, ◌∙◌}
-use Prim.Native.Nat.{ℕ, ◌-◌, ◌≤◌}
+use Prim.Native.Nat.{ℕ}
 use native.Mathlib.Omega.{arith}
 use lib.ListN.{length}
 use Rattle.disp_structs.specs.Listed.{listed}
@@ -36,4 +36,3 @@ returns c = let l = c.loop-i in
     let a = c.args in
     let e : l.i ≡ a.m = omega arith in
     l.invariant.1 ∙ ap (λ (i : ℕ). diverges_into (is_wide a.image.now) (listed i (div_at a.dt.now a.dn.now)) a.image.now) e
-

@@ -1,14 +1,9 @@
-use mathlib.Core.Path.{◌≡◌, refl, ap, ap₂, ◌∙◌}
-use Prim.Native.Nat.{ℕ, ◌-◌, ◌≤◌}
-use native.Mathlib.Omega.{arith}
-use lib.ListN.{length}
+use mathlib.Core.Path.{◌≡◌}
+use Prim.Native.Nat.{◌-◌, ◌≤◌}
 use Rattle.disp_structs.specs.Listed.{listed}
-use Rattle.free_path.specs.Columns.{div_at, tr}
+use Rattle.free_path.specs.Columns.{div_at}
 use Rattle.image.specs.Image.{is_wide}
-use Rattle.image.specs.Codec.{put_each}
 use Rattle.image_store.specs.Stored.{diverges_into}
-use Rattle.image_store.proofs.StoreLaws.{diverges_long, diverges_more}
-use borrow.Author.Rules.{rules}
 use Rattle.image_store.proofs.put_diverges.Given as goal
 
 abbrev pub invariant-loop-i : goal.invariant-loop-i
@@ -16,4 +11,3 @@ invariant-loop-i l = (l.i ≤ l.m) × (l.image ≡ diverges_into (is_wide l.init
 
 abbrev pub decreases-loop-i : goal.decreases-loop-i
 decreases-loop-i l = l.m - l.i
-

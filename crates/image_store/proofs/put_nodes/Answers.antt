@@ -1,5 +1,5 @@
 use mathlib.Core.Path.{◌≡◌, refl, ap, ◌∙◌}
-use Prim.Native.Nat.{ℕ, ◌-◌, ◌≤◌}
+use Prim.Native.Nat.{ℕ}
 use native.Mathlib.Omega.{arith}
 use lib.ListN.{length}
 use Rattle.disp_structs.specs.Listed.{listed}
@@ -28,4 +28,3 @@ returns c = let l = c.loop-i in
     let a = c.args in
     let e : l.i ≡ a.n = omega arith in
     l.invariant.1 ∙ ap (λ (i : ℕ). put_each put_node 32 (listed i (node_at a.img.now)) (node_place (est_count a.image.now) 0) a.image.now) e
-

@@ -1,12 +1,8 @@
-use mathlib.Core.Path.{◌≡◌, refl, ap, ◌∙◌}
-use Prim.Native.Nat.{ℕ, ◌-◌, ◌≤◌}
-use native.Mathlib.Omega.{arith}
-use lib.ListN.{length}
+use mathlib.Core.Path.{◌≡◌}
+use Prim.Native.Nat.{◌-◌, ◌≤◌}
 use Rattle.disp_structs.specs.Listed.{listed}
 use Rattle.image.specs.Image.{est_count, node_place, node_at, put_node}
 use Rattle.image.specs.Codec.{put_each}
-use Rattle.image_store.proofs.StoreLaws.{nodes-long, nodes-next}
-use borrow.Author.Rules.{rules}
 use Rattle.image_store.proofs.put_nodes.Given as goal
 
 abbrev pub invariant-loop-i : goal.invariant-loop-i
@@ -14,4 +10,3 @@ invariant-loop-i l = (l.i ≤ l.n) × (l.image ≡ put_each put_node 32 (listed 
 
 abbrev pub decreases-loop-i : goal.decreases-loop-i
 decreases-loop-i l = l.n - l.i
-

@@ -1,8 +1,6 @@
 use Rattle.image_store.specs.Stored.{words_into}
-use borrow.Author.Rules.{rules}
 use Rattle.image_store.proofs.put_words.Goals as goal
 
 pub returns : goal.returns
 unfolding words_into
 returns c = cc
-

@@ -1,5 +1,4 @@
 use Rattle.image_store.proofs.StoreLaws.{stored_behind}
-use borrow.Author.Rules.{rules}
 use Rattle.image_store.proofs.store.Goals as goal
 
 pub returns : goal.returns
@@ -7,4 +6,3 @@ returns c = let a = c.args in
     let p = c.put_nodes in
     let k = c.clear_nodes in
     stored_behind a.img.now a.dt.now a.dn.now a.h a.image.now p.new.image k.new.img _ p.ensures k.ensures c.store_diverges.ensures
-

@@ -3,7 +3,6 @@ use lib.ListN.{length}
 use Rattle.link_rules.specs.declared.refusal.Refusal.{Refusal}
 use Rattle.link_index.specs.LinkIndex.{leaves}
 use Rattle.link_index.proofs.IndexLaws.{build_refused, build_fits, fault-low}
-use borrow.Author.Rules.{rules}
 use Rattle.link_index.proofs.build_index.Goals as goal
 
 pub returns-then-fault-ne0 : goal.returns-then-fault-ne0
@@ -20,4 +19,3 @@ pub returns : goal.returns
 returns c = let a = c.args in
     let f = c.build_fault-fault in
     ap (leaves f.result) c.build_slots.ensures ∙ build_fits a.yard.now a.index.now f.result f.ensures c.if-fault-ne0.false
-

@@ -6,4 +6,3 @@ returns-then-links-lt2 c = rw (lt-leb 2 c.args.links c.if-links-lt2.true)
 
 pub returns : goal.returns
 returns c = rw (le-leb 2 c.args.links c.if-links-lt2.false)
-

@@ -9,7 +9,6 @@ use Rattle.link_rules.specs.Refusals.{no_refusal, refused}
 use Rattle.link_rules.specs.declared.refusal.Refusal.{Refusal}
 use Rattle.path_page.specs.Page.{drawing_rule, most_links, printed}
 use Rattle.path_page.proofs.PageLaws.{offset_reached, lines_put, image-refused, too_short, not-refused, stays, done}
-use borrow.Author.Rules.{rules}
 use Rattle.path_page.proofs.page.Goals as goal
 
 pub returns-then-fault-ne0 : goal.returns-then-fault-ne0
@@ -49,4 +48,3 @@ returns c = let a = c.args in
       lines_put drawing_rule (node_at img) n.result page room c.put_lines.ensures
           ∙ (ap (λ (k : ℕ). printed drawing_rule (node_at img) k page) n.ensures ∙ done drawing_rule img page (ap (λ (g : Refusal). g.number) e)),
     )
-

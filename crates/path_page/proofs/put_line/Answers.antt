@@ -1,6 +1,5 @@
 use Rattle.text.proofs.TextLaws.{then, put_is}
 use Rattle.path_page.proofs.PageLaws.{fields}
-use borrow.Author.Rules.{rules}
 use Rattle.path_page.proofs.put_line.Goals as goal
 
 pub returns : goal.returns
@@ -11,4 +10,3 @@ returns c = let a = c.args in
     (then c.put_kind-c.ensures
     (then c.put_field-d.ensures
     (then c.put_signed-e.ensures c.put_byte.ensures)))))
-

@@ -1,10 +1,7 @@
 use mathlib.Core.Path.{◌≡◌, refl, ap, ◌∙◌}
-use Prim.Native.Nat.{◌-◌, ◌≤◌}
 use native.Mathlib.Omega.{arith}
-use lib.ListN.{length}
 use borrow.Author.Rules.{rules}
 use Rattle.image.specs.Image.{node_at}
-use Rattle.text.specs.Text.{text_of, Put}
 use Rattle.text.proofs.TextLaws.{put_is}
 use Rattle.path_page.specs.Page.{page_lines}
 use Rattle.path_page.proofs.PageLaws.{lines_none, lines_turn}
@@ -26,4 +23,3 @@ returns c = let l = c.loop-i in
     let a = c.args in
     let e : a.n ≡ l.i = omega (arith, c.loop-i-test.false, l.invariant.0) in
     put_is (ap (page_lines a.ties (node_at a.image.now)) e) l.invariant.2
-

@@ -1,5 +1,4 @@
 use mathlib.Core.Path.{ap, ◌∙◌}
-use borrow.Author.Rules.{rules}
 use Rattle.disp_structs.specs.Floats.{in_reach}
 use Rattle.disp_structs.specs.declared.DispNode.{DispNode}
 use Rattle.image.specs.Image.{node_at}
@@ -15,4 +14,3 @@ returns c = let a = c.args in
     let x = node_at a.image.now a.i in
     let o = c.node_of-x in
     put_is (line_by a.ties a.i x o.result c.whole_metres-offset.result o.ensures c.whole_metres-offset.ensures) c.put_line.ensures
-

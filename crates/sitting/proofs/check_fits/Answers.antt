@@ -1,7 +1,6 @@
 use borrow.Author.Tests.{eq-eqb, ne_eqb, le-leb, lt-leb}
 use native.Mathlib.Omega.{arith}
 use Rattle.sitting.specs.Replay.{check_fits}
-use borrow.Author.Rules.{rules}
 use Rattle.sitting.proofs.check_fits.Goals as goal
 
 -- src/lib.rt:77:9
@@ -21,4 +20,3 @@ pub returns : goal.returns
 unfolding check_fits
 returns c = let s = c.args.s in
     rw (eq-eqb s.kind 1 c.if-s-ne1.false, le-leb s.local 1 (omega (arith, c.if-s-gt1.false)))
-

@@ -2,7 +2,6 @@ use mathlib.Core.Path.{sym}
 use native.Mathlib.Omega.{arith}
 use lib.Seq.{length-take-le}
 use Rattle.sitting.proofs.StepLaws.{check_whole, check-lent}
-use borrow.Author.Rules.{rules}
 use Rattle.sitting.proofs.check_step.Goals as goal
 
 -- src/lib.rt:235:9
@@ -18,4 +17,3 @@ returns c = let a = c.args in
     let n = c.links_read-n.ensures in
     check_whole a.recording.now a.s a.yard.now a.occupancy.now _ a.rows _ _ n
     (check-lent a.recording.now a.s a.yard.now a.occupancy.now _ a.rows c.links_room-blocking.result c.report_room-report.result _ _ (omega (arith, n, c.links_room-blocking.ensures)) (omega (arith, c.requires, c.report_room-report.ensures)) c.check_read.ensures)
-

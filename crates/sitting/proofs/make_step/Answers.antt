@@ -1,5 +1,4 @@
 use Rattle.sitting.proofs.StepLaws.{step_marked, step_checked}
-use borrow.Author.Rules.{rules}
 use Rattle.sitting.proofs.make_step.Goals as goal
 
 -- src/lib.rt:267:9
@@ -19,4 +18,3 @@ check_step-requires c = c.requires.room
 pub returns : goal.returns
 returns c = let a = c.args in
     step_checked a.recording.now a.s a.yard.now a.occupancy.now a.j.report a.table.now _ _ c.if-s-eq0.false c.check_step.ensures
-

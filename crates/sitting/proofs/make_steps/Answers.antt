@@ -1,11 +1,8 @@
-use mathlib.Core.Path.{◌≡◌, refl}
-use mathlib.Core.List.{map}
-use Prim.Native.Nat.{◌-◌, ◌≤◌}
+use mathlib.Core.Path.{refl}
 use native.Mathlib.Omega.{arith}
-use lib.ListN.{length, take, length-set}
+use lib.ListN.{length-set}
 use borrow.Author.Rules.{rules}
-use Rattle.sitting.specs.Replay.{step_number, last_world, world_of}
-use Rattle.sitting.specs.Steps.{first_outcomes}
+use Rattle.sitting.specs.Replay.{world_of}
 use Rattle.sitting.proofs.StepLaws.{world-turn, numbers-turn, none_made, all_made}
 use Rattle.sitting.proofs.make_steps.Goals as goal
 
@@ -38,4 +35,3 @@ pub returns : goal.returns
 returns c = let a = c.args in
     let l = c.loop-i in
     all_made a.recording.now a.j.report a.table.now a.occupancy.now a.yard.now a.list.now l.occupancy l.yard l.list l.i (omega (arith, l.invariant.0, l.invariant.1, c.loop-i-test.false)) l.invariant.1 l.invariant.4 l.invariant.5
-

@@ -1,12 +1,9 @@
-use mathlib.Core.Path.{◌≡◌, refl}
+use mathlib.Core.Path.{◌≡◌}
 use mathlib.Core.List.{map}
 use Prim.Native.Nat.{◌-◌, ◌≤◌}
-use native.Mathlib.Omega.{arith}
-use lib.ListN.{length, take, length-set}
-use borrow.Author.Rules.{rules}
+use lib.ListN.{length, take}
 use Rattle.sitting.specs.Replay.{step_number, last_world, world_of}
 use Rattle.sitting.specs.Steps.{first_outcomes}
-use Rattle.sitting.proofs.StepLaws.{world-turn, numbers-turn, none_made, all_made}
 use Rattle.sitting.proofs.make_steps.Given as goal
 
 abbrev pub invariant-loop-i : goal.invariant-loop-i
@@ -16,4 +13,3 @@ invariant-loop-i l = (l.i ≤ length l.initial.list) × (length l.list ≡ lengt
 
 abbrev pub decreases-loop-i : goal.decreases-loop-i
 decreases-loop-i l = length l.initial.list - l.i
-

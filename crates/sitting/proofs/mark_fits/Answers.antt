@@ -25,4 +25,3 @@ pub returns : goal.returns
 unfolding mark_fits
 returns c = let s = c.args.s in
     rw (eq-eqb s.count 0 c.if-s-ne0.false, eq-eqb s.begin 0 c.if-s-ne0-2.false, eq-eqb s.limit 0 c.if-s-ne0-3.false)
-

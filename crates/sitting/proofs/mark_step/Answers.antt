@@ -5,7 +5,6 @@ use Rattle.link_rules.specs.declared.link_idx.LinkIdx.{LinkIdx}
 use Rattle.link_rules.specs.declared.link_idx.TrainIdx.{TrainIdx}
 use Rattle.link_rules.proofs.MarkLaws.{judged_once}
 use Rattle.sitting.proofs.StepLaws.{marked-made}
-use borrow.Author.Rules.{rules}
 use Rattle.sitting.proofs.mark_step.Goals as goal
 
 pub returns : goal.returns
@@ -16,4 +15,3 @@ returns c = let a = c.args in
     let t : TrainIdx = record { 0 = a.s.train } in
     let once = ap (λ (b : Bool). mark_judged b table occ l t) c.requires ∙ judged_once table occ l t in
     marked-made table a.s occ _ _ _ (c.mark_judged.ensures ∙ once) c.mark_number.ensures
-

@@ -6,7 +6,6 @@ use lib.ListN.{length}
 use Rattle.link_rules.specs.Octets.{le_at}
 use Rattle.link_rules.specs.Network.{all_below}
 use Rattle.sitting.specs.Replay.{step_at, step_fits, recording_fits}
-use borrow.Author.Rules.{rules}
 use Rattle.sitting.proofs.recording_fits.Goals as goal
 
 -- src/lib.rt:119:38
@@ -28,4 +27,3 @@ returns c = let r = c.args.recording.now in
     let k = c.u32_at-links.ensures in
     rw (eq-eqb (le_at 4 r 0) (length r) (omega (arith, c.if-u32_at-recording.false, c.u32_at.ensures)), eq-eqb (length r) (12 + 20 * le_at 4 r 4 + 4 * le_at 4 r 8) (omega (arith, c.if-recording-n.false, n, k)))
     (c.steps_fit.ensures ∙ (ap (λ (m : ℕ). all_below m (λ i. step_fits c.u32_at-links.result (step_at r i))) n ∙ ap (λ (m : ℕ). all_below (le_at 4 r 4) (λ i. step_fits m (step_at r i))) k))
-

@@ -6,7 +6,6 @@ use Rattle.link_rules.specs.Octets.{le_at}
 use Rattle.link_rules.specs.declared.refusal.Answer as Mark
 use Rattle.sitting.specs.Steps.{replayed_of}
 use Rattle.sitting.proofs.StepLaws.{replay_refused, list_unfit, list_fit, replay_made}
-use borrow.Author.Rules.{rules}
 use Rattle.sitting.proofs.replay.Goals as goal
 
 -- src/lib.rt:316:8
@@ -42,4 +41,3 @@ returns c = let a = c.args in
     let occ = a.occupancy.now in
     let list = a.list.now in
     ap (λ (x : Mark.Answer). replayed_of x yard occ list) c.malformed-2.ensures ∙ sym (replay_refused r table yard occ list (list_fit r table yard occ list false (omega (arith, c.if-u32_at-list.false, c.u32_at.ensures)) (sym c.recording_fits.ensures ∙ c.if-recording_fits.false)))
-

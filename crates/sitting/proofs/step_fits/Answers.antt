@@ -1,6 +1,5 @@
 use borrow.Author.Tests.{eq-eqb, ne_eqb}
 use Rattle.sitting.specs.Replay.{step_fits}
-use borrow.Author.Rules.{rules}
 use Rattle.sitting.proofs.step_fits.Goals as goal
 
 -- src/lib.rt:91:5
@@ -13,4 +12,3 @@ pub returns : goal.returns
 unfolding step_fits
 returns c = let s = c.args.s in
     rw (ne_eqb s.kind 0 c.if-s-eq0.false) c.check_fits.ensures
-

@@ -1,10 +1,7 @@
-use mathlib.Core.Path.{refl, ◌≡◌, sym, ap, ◌∙◌}
+use mathlib.Core.Path.{◌≡◌}
 use mathlib.Core.Bool.{true}
 use Prim.Native.Nat.{◌-◌, ◌≤◌}
-use native.Mathlib.Omega.{arith}
-use borrow.Author.Rules.{rules}
 use Rattle.link_rules.specs.Network.{all_below}
-use Rattle.link_rules.proofs.TableLaws.{all_more, all_fails}
 use Rattle.sitting.specs.Replay.{step_at, step_fits}
 use Rattle.sitting.proofs.steps_fit.Given as goal
 
@@ -13,4 +10,3 @@ invariant-loop-i l = (l.i ≤ l.n) × (all_below l.i (λ k. step_fits l.links (s
 
 abbrev pub decreases-loop-i : goal.decreases-loop-i
 decreases-loop-i l = l.n - l.i
-

@@ -1,9 +1,6 @@
 use mathlib.Core.Path.{◌≡◌, refl, ap, ◌∙◌}
-use Prim.Native.Nat.{◌-◌, ◌≤◌}
 use native.Mathlib.Omega.{arith}
-use lib.ListN.{length}
 use borrow.Author.Rules.{rules}
-use Rattle.text.specs.Text.{text_of, Put}
 use Rattle.text.specs.Columns.{blanks}
 use Rattle.text.proofs.TextLaws.{nothing, put_is}
 use Rattle.text.proofs.ColumnLaws.{blank_turn}
@@ -20,4 +17,3 @@ pub returns : goal.returns
 returns c = let l = c.loop-i in
     let e : c.args.w ≡ l.i = omega (arith, c.loop-i-test.false, l.invariant.0) in
     put_is (ap blanks e) l.invariant.2
-

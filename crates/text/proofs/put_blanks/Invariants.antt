@@ -1,12 +1,8 @@
-use mathlib.Core.Path.{◌≡◌, refl, ap, ◌∙◌}
+use mathlib.Core.Path.{◌≡◌}
 use Prim.Native.Nat.{◌-◌, ◌≤◌}
-use native.Mathlib.Omega.{arith}
 use lib.ListN.{length}
-use borrow.Author.Rules.{rules}
 use Rattle.text.specs.Text.{text_of, Put}
 use Rattle.text.specs.Columns.{blanks}
-use Rattle.text.proofs.TextLaws.{nothing, put_is}
-use Rattle.text.proofs.ColumnLaws.{blank_turn}
 use Rattle.text.proofs.put_blanks.Given as goal
 
 abbrev pub invariant-loop-i : goal.invariant-loop-i
@@ -14,4 +10,3 @@ invariant-loop-i l = (l.i ≤ l.w) × (length l.text ≡ length l.initial.text) 
 
 abbrev pub decreases-loop-i : goal.decreases-loop-i
 decreases-loop-i l = l.w - l.i
-

@@ -1,4 +1,3 @@
-use borrow.Author.Rules.{rules}
 use Rattle.text.proofs.TextLaws.{put_in, put-none}
 use Rattle.text.proofs.put_byte.Goals as goal
 
@@ -7,4 +6,3 @@ returns-then-count-text c = let a = c.args in put_in a.count a.text.now a.byte c
 
 pub returns : goal.returns
 returns c = let a = c.args in put-none a.count a.text.now a.byte c.if-count-text.false
-

@@ -1,8 +1,5 @@
-use mathlib.Core.Path.{◌≡◌, refl, ◌∙◌}
-use Prim.Native.Nat.{◌-◌, ◌≤◌}
-use lib.ListN.{length, take}
+use mathlib.Core.Path.{refl, ◌∙◌}
 use borrow.Author.Rules.{rules}
-use Rattle.text.specs.Text.{text_of, Put}
 use Rattle.text.proofs.TextLaws.{nothing, bytes-turn, bytes-end}
 use Rattle.text.proofs.put_bytes.Goals as goal
 
@@ -15,4 +12,3 @@ loop-i-preserved c = let inv = c.loop-i.invariant in
 
 pub returns : goal.returns
 returns c = bytes-end c.args.bytes.now c.loop-i.i (search rules) c.loop-i.invariant.2
-

@@ -1,7 +1,5 @@
 use Rattle.text.proofs.TextLaws.{then}
-use borrow.Author.Rules.{rules}
 use Rattle.text.proofs.put_column.Goals as goal
 
 pub returns : goal.returns
 returns c = then c.put_byte-n.ensures c.put_decimal.ensures
-

@@ -1,5 +1,4 @@
 use mathlib.Core.Path.{ap}
-use borrow.Author.Rules.{rules}
 use Rattle.text.specs.Columns.{lead_in}
 use Rattle.text.proofs.TextLaws.{put_is}
 use Rattle.text.proofs.ColumnLaws.{lead_none, lead_minus}
@@ -15,4 +14,3 @@ returns-then-minus c = let w = c.args.w in
 
 pub returns : goal.returns
 returns c = put_is (ap (lead_in c.args.w) c.if-minus.false) c.put_blanks.ensures
-

@@ -1,6 +1,4 @@
 use mathlib.Core.Path.{refl}
-use borrow.Author.Rules.{rules}
-use borrow.Author.Tests.{not-true, not-false}
 use Rattle.image.specs.Image.{path_count_of}
 use Rattle.track_profile.proofs.ImageLaws.{image-is}
 use Rattle.track_profile.proofs.image_in_profile.Goals as goal
@@ -47,4 +45,3 @@ returns c = let image = c.args.image.now in
       c.if-not-in_profile-2.false,
       ← c.records_in_profile-2.ensures,
     )
-

@@ -12,4 +12,3 @@ returns-then-x c = rw (← shift_is, c.if-x.true, c.if-x-2.false)
 pub returns : goal.returns
 unfolding shift_test
 returns c = rw (← shift_is, c.if-x.false)
-

@@ -1,6 +1,5 @@
 use Rattle.track_profile.specs.Profile.{profile_fault}
 use borrow.Author.Tests.{eq-eqb, ne_eqb}
-use borrow.Author.Rules.{rules}
 use Rattle.track_profile.proofs.profile_fault.Goals as goal
 
 pub returns-then-f-ne0 : goal.returns-then-f-ne0
@@ -14,4 +13,3 @@ returns-then-image_in_profile c = rw (← c.fault_with-f.ensures, eq-eqb _ _ c.i
 pub returns : goal.returns
 unfolding profile_fault
 returns c = rw (← c.fault_with-f.ensures, eq-eqb _ _ c.if-f-ne0.false, ← c.image_in_profile.ensures, c.if-image_in_profile.false)
-

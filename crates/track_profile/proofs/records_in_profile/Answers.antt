@@ -1,9 +1,7 @@
 use mathlib.Core.Path.{refl, ◌≡◌, sym, ◌∙◌}
 use mathlib.Core.Bool.{true}
-use Prim.Native.Nat.{◌-◌, ◌≤◌}
 use native.Mathlib.Omega.{arith}
 use borrow.Author.Rules.{rules}
-use borrow.Author.Tests.{not-true, not-false}
 use Rattle.link_rules.proofs.TableLaws.{all_more, all_fails}
 use Rattle.link_rules.specs.Network.{all_below}
 use Rattle.track_profile.proofs.ImageLaws.{record_in_profile, record_is}
@@ -20,11 +18,10 @@ returns-then-not-in_profile c = let a = c.args in
 
 pub loop-i-preserved : goal.loop-i-preserved
 loop-i-preserved c = let a = c.args in (
-      search rules,
-      all_more (record_in_profile a.image.now a.e) c.loop-i.i c.loop-i.invariant.1
-          (sym (record_is _ _ _ c.in_profile.ensures c.real_of.ensures c.u64_at.ensures c.node_place.ensures) ∙ c.if-not-in_profile.false),
-    )
+  search rules,
+  all_more (record_in_profile a.image.now a.e) c.loop-i.i c.loop-i.invariant.1
+      (sym (record_is _ _ _ c.in_profile.ensures c.real_of.ensures c.u64_at.ensures c.node_place.ensures) ∙ c.if-not-in_profile.false),
+)
 
 pub returns : goal.returns
 returns c = let e : c.loop-i.i ≡ c.args.n = omega arith in rw (← e) (sym c.loop-i.invariant.1)
-

@@ -1,12 +1,8 @@
-use mathlib.Core.Path.{refl, ◌≡◌, sym, ◌∙◌}
+use mathlib.Core.Path.{◌≡◌}
 use mathlib.Core.Bool.{true}
 use Prim.Native.Nat.{◌-◌, ◌≤◌}
-use native.Mathlib.Omega.{arith}
-use borrow.Author.Rules.{rules}
-use borrow.Author.Tests.{not-true, not-false}
-use Rattle.link_rules.proofs.TableLaws.{all_more, all_fails}
 use Rattle.link_rules.specs.Network.{all_below}
-use Rattle.track_profile.proofs.ImageLaws.{record_in_profile, record_is}
+use Rattle.track_profile.proofs.ImageLaws.{record_in_profile}
 use Rattle.track_profile.proofs.records_in_profile.Given as goal
 
 abbrev pub invariant-loop-i : goal.invariant-loop-i
@@ -14,4 +10,3 @@ invariant-loop-i l = (l.i ≤ l.n) × (all_below l.i (record_in_profile l.image 
 
 abbrev pub decreases-loop-i : goal.decreases-loop-i
 decreases-loop-i l = l.n - l.i
-

@@ -4,7 +4,6 @@ use Rattle.link_rules.specs.declared.refusal.Refusal.{Refusal}
 use Rattle.image_fault.specs.declared.Widths.TheVariants.{Either}
 use Rattle.yard_check.specs.Check.{CheckArgs}
 use Rattle.undo.proofs.UndoLaws.{recorded-refused, recorded-room, copied_around}
-use borrow.Author.Rules.{rules}
 use Rattle.undo.proofs.check_recorded_wide.Goals as goal
 
 pub returns-then-f-ne0 : goal.returns-then-f-ne0
@@ -30,4 +29,3 @@ returns c = let a = c.args in
     let e = ap (λ (x : Refusal). x.number) (sym c.recorded_wide_fault-f.ensures) ∙ c.if-f-ne0.false in
     let w = c.check_wide-x in
     copied_around a.yard.now a.occ.now A a.report.now a.undo_record.now e w.result _ _ _ _ c.put_old.ensures w.ensures c.put_written.ensures
-

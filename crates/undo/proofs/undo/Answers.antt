@@ -7,7 +7,6 @@ use Rattle.link_rules.proofs.OctetLaws.{put_all}
 use Rattle.link_rules.specs.declared.refusal.Answer.TheVariants as TakenBack
 use Rattle.undo.specs.Undo.{old_yard, undoing}
 use Rattle.undo.proofs.UndoLaws.{undo-fits, undo-done, undo-refused}
-use borrow.Author.Rules.{rules}
 use Rattle.undo.proofs.undo.Goals as goal
 
 pub returns-then-undo_fits : goal.returns-then-undo_fits
@@ -21,7 +20,6 @@ returns-then-undo_fits c = let a = c.args in
 
 pub returns : goal.returns
 returns c = let a = c.args in sym (undo-refused a.yard.now a.undo_record.now (sym c.undo_fits.ensures ∙ c.if-undo_fits.false))
-
 
 pub slice_bounds-put_bytes-end : goal.slice_bounds-put_bytes-end
 slice_bounds-put_bytes-end c = let a = c.args in omega (arith, (undo-fits a.yard.now a.undo_record.now (sym c.undo_fits.ensures ∙ c.if-undo_fits.true)).room)

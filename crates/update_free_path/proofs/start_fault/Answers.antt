@@ -1,5 +1,4 @@
 use Rattle.update_free_path.proofs.CallLaws.{judged-refused, judged_ten, judged_fine}
-use borrow.Author.Rules.{rules}
 use Rattle.update_free_path.proofs.start_fault.Goals as goal
 
 pub returns-then-f-ne0 : goal.returns-then-f-ne0
@@ -18,4 +17,3 @@ returns c occ q g = let a = c.args in
     let f = c.update_fault-f in
     let h = c.path_header-h in
     judged_fine a.w a.image.now occ a.blocking.now a.o f.result (f.ensures occ q g) c.if-f-ne0.false h.result h.ensures c.if-h.false
-

@@ -4,7 +4,6 @@ use native.Mathlib.Omega.{arith}
 use lib.ListN.{length, replicate, length-replicate}
 use lib.Seq.{length-take-le}
 use Rattle.update_free_path.proofs.StartLaws.{begin-long}
-use borrow.Author.Rules.{rules}
 use Rattle.update_free_path.proofs.update_few.Goals as goal
 
 pub slice_bounds-scratch-end : goal.slice_bounds-scratch-end
@@ -35,4 +34,3 @@ update_in-requires c = let a = c.args in
         none_known = ap (λ (n : ℕ). replicate n 0) (sym (length-replicate {A = ℕ} 512 0));
       },
     )
-

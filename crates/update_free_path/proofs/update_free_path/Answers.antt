@@ -1,6 +1,5 @@
 use mathlib.Core.Path.{refl, ◌∙◌}
 use native.Mathlib.Omega.{arith}
-use borrow.Author.Rules.{rules}
 use Rattle.update_free_path.proofs.update_free_path.Goals as goal
 
 pub returns-then-f-ne0 : goal.returns-then-f-ne0
@@ -22,4 +21,3 @@ widen_small-requires c = let a = c.args in
 pub returns : goal.returns
 returns c = let a = c.args in
     c.widen_small.ensures ∙ (c.start_fault-f.ensures a.occ.now refl c.no_refusal.ensures).goes c.if-f-ne0.false
-

@@ -9,7 +9,6 @@ use Rattle.update_definition.specs.Update.{Updated}
 use Rattle.update_definition.specs.UpdateImage.{stored_answer}
 use Rattle.update_free_path.specs.Updates.{UpdateBegins, Space, update_of}
 use Rattle.update_free_path.proofs.CallLaws.{store_fits}
-use borrow.Author.Rules.{rules}
 use Rattle.update_free_path.proofs.update_in.Goals as goal
 
 pub run-r-requires : goal.run-r-requires
@@ -38,4 +37,3 @@ returns c = let a = c.args in
     c.answered.ensures (decoded k.new.to)
     ∙ ap (λ (u : Updated). stored_answer u a.image.now) r.ensures.is
     ∙ ap (λ (img : List ℕ). stored_answer (update_of img a.occ.now a.blocking.now a.o) a.image.now) copied
-

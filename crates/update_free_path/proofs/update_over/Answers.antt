@@ -1,6 +1,5 @@
 use mathlib.Core.Path.{refl, sym, subst, ◌∙◌}
 use Rattle.update_free_path.specs.Updates.{UpdateBegins}
-use borrow.Author.Rules.{rules}
 use Rattle.update_free_path.proofs.update_over.Goals as goal
 
 pub returns-then-f-ne0 : goal.returns-then-f-ne0
@@ -14,4 +13,3 @@ update_begun-requires c = let a = c.args in
 pub returns : goal.returns
 returns c = let a = c.args in
     c.update_begun.ensures ∙ (c.start_fault-f.ensures a.occ.now refl c.no_refusal.ensures).goes c.if-f-ne0.false
-

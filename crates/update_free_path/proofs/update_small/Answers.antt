@@ -3,7 +3,6 @@ use Prim.Native.Nat.{ℕ}
 use native.Mathlib.Omega.{arith}
 use lib.ListN.{length, replicate, length-replicate}
 use lib.Seq.{length-take-le}
-use borrow.Author.Rules.{rules}
 use Rattle.update_free_path.proofs.update_small.Goals as goal
 
 pub slice_bounds-scratch-end : goal.slice_bounds-scratch-end
@@ -33,4 +32,3 @@ update_in-requires c = let a = c.args in
         none_known = ap (λ (n : ℕ). replicate n 0) (sym (length-replicate {A = ℕ} 512 0));
       },
     )
-

@@ -3,7 +3,6 @@ use Prim.Native.Nat.{ℕ}
 use native.Mathlib.Omega.{arith}
 use lib.ListN.{length, replicate, length-replicate}
 use lib.Seq.{length-take-le}
-use borrow.Author.Rules.{rules}
 use Rattle.update_free_path.proofs.widen_small.Goals as goal
 
 pub slice_bounds-wide-end : goal.slice_bounds-wide-end
@@ -17,4 +16,3 @@ slice_bounds-update_widened-end c = let p = c.requires in
 pub update_widened-requires : goal.update_widened-requires
 update_widened-requires c = let p = c.requires in
     (p.0, length-take-le (length c.args.occ.now) (replicate 512 0) (omega (arith, p.1, length-replicate {A = ℕ} 512 0)))
-

@@ -1,6 +1,6 @@
 use mathlib.Core.Path.{◌≡◌, ap, ◌∙◌}
 use mathlib.Core.Bool.{Bool, cond}
-use Prim.Native.Nat.{ℕ, ◌+◌, ◌-◌, ◌≤◌, ◌<◌}
+use Prim.Native.Nat.{◌+◌}
 use native.Mathlib.Omega.{arith}
 use native.Mathlib.Nat.{zero-add}
 use lib.ListN.{drop}
@@ -31,4 +31,3 @@ returns c = let g = c.loop-i in
       count-end (in_conflict a.occ.now) (n) (node_at a.img.now) g.i g.k c.loop-i-test.false ∙ g.invariant.2,
       omega (arith, g.invariant.0, g.invariant.1),
     )
-

@@ -1,16 +1,10 @@
-use mathlib.Core.Path.{◌≡◌, ap, ◌∙◌}
-use mathlib.Core.Bool.{Bool, cond}
-use Prim.Native.Nat.{ℕ, ◌+◌, ◌-◌, ◌≤◌, ◌<◌}
-use native.Mathlib.Omega.{arith}
-use native.Mathlib.Nat.{zero-add}
+use mathlib.Core.Path.{◌≡◌}
+use Prim.Native.Nat.{◌+◌, ◌-◌, ◌≤◌, ◌<◌}
 use lib.ListN.{drop}
-use borrow.Author.Rules.{rules}
 use Rattle.disp_structs.specs.Listed.{listed}
 use Rattle.image.specs.Image.{node_at}
 use Rattle.free_path.specs.Base.{count}
 use Rattle.free_path.specs.Validate.{in_conflict}
-use Rattle.free_path.proofs.ColumnLaws.{count_turn, count-end}
-use Rattle.validate.proofs.ErrorLaws.{one_more}
 use Rattle.validate.proofs.conflicts.Given as goal
 
 abbrev pub invariant-loop-i : goal.invariant-loop-i
@@ -18,4 +12,3 @@ invariant-loop-i l = (l.k ≤ l.i) × (l.i < 4294967296) × (l.k + count (in_con
 
 abbrev pub decreases-loop-i : goal.decreases-loop-i
 decreases-loop-i l = l.n - l.i
-

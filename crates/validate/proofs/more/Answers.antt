@@ -1,5 +1,4 @@
 use native.Mathlib.Omega.{arith}
-use borrow.Author.Rules.{rules}
 use Rattle.validate.proofs.more.Goals as goal
 
 pub returns-then-one : goal.returns-then-one
@@ -7,4 +6,3 @@ returns-then-one c = rw c.if-one.true
 
 pub returns : goal.returns
 returns c = rw c.if-one.false (omega arith)
-

@@ -1,14 +1,13 @@
 use mathlib.Core.Path.{◌≡◌, sym, ap, ◌∙◌}
 use mathlib.Core.Bool.{Bool, cond}
-use Prim.Native.Nat.{ℕ, ◌+◌, ◌-◌, ◌≤◌, ◌<◌}
+use Prim.Native.Nat.{ℕ, ◌+◌, ◌≤◌, ◌<◌}
 use native.Mathlib.Omega.{arith}
-use lib.ListN.{drop}
 use borrow.Author.Rules.{rules}
 use Rattle.disp_structs.specs.Listed.{listed}
 use Rattle.image.specs.Image.{est_at, node_at}
 use Rattle.disp_structs.specs.declared.DispNode.{DispNode}
 use Rattle.free_path.specs.Validate.{bad_path, bad_step}
-use Rattle.validate.proofs.ErrorLaws.{one_more, plus, plus_zero, error_first, error_second, error_turn, error_end}
+use Rattle.validate.proofs.ErrorLaws.{one_more, plus_zero, error_first, error_second, error_turn, error_end}
 use Rattle.validate.proofs.step_errors.Goals as goal
 
 pub loop-i-init : goal.loop-i-init
@@ -80,4 +79,3 @@ returns c = let g = c.loop-i in
           ∙ ap (λ (x : ℕ). bad_path (listed x (est_at t)) (listed n (node_at t))) e.ensures,
       search rules,
     )
-

@@ -1,14 +1,10 @@
-use mathlib.Core.Path.{◌≡◌, sym, ap, ◌∙◌}
-use mathlib.Core.Bool.{Bool, cond}
-use Prim.Native.Nat.{ℕ, ◌+◌, ◌-◌, ◌≤◌, ◌<◌}
-use native.Mathlib.Omega.{arith}
+use mathlib.Core.Path.{◌≡◌}
+use Prim.Native.Nat.{◌-◌, ◌≤◌, ◌<◌}
 use lib.ListN.{drop}
-use borrow.Author.Rules.{rules}
 use Rattle.disp_structs.specs.Listed.{listed}
 use Rattle.image.specs.Image.{est_at, node_at}
-use Rattle.disp_structs.specs.declared.DispNode.{DispNode}
-use Rattle.free_path.specs.Validate.{bad_path, bad_step}
-use Rattle.validate.proofs.ErrorLaws.{one_more, plus, plus_zero, error_first, error_second, error_turn, error_end}
+use Rattle.free_path.specs.Validate.{bad_path}
+use Rattle.validate.proofs.ErrorLaws.{plus}
 use Rattle.validate.proofs.step_errors.Given as goal
 
 abbrev pub invariant-loop-i : goal.invariant-loop-i
@@ -16,4 +12,3 @@ invariant-loop-i l = (l.k ≤ l.i) × (l.i < 4294967296) × (plus l.k (bad_path 
 
 abbrev pub decreases-loop-i : goal.decreases-loop-i
 decreases-loop-i l = l.n - l.i
-

@@ -5,7 +5,6 @@ use Rattle.disp_structs.proofs.ListedLaws.{listed-length}
 use Rattle.image.specs.Image.{est_count, node_at, ests_of, path_of}
 use Rattle.free_path.specs.Base.{ok}
 use Rattle.validate.proofs.ErrorLaws.{errors_refused, errors_beyond, errors_all}
-use borrow.Author.Rules.{rules}
 use Rattle.validate.proofs.validate_free_path.Goals as goal
 
 pub returns-then-steps-ne0 : goal.returns-then-steps-ne0
@@ -25,4 +24,3 @@ returns c = let a = c.args in
     ap (λ (n : ℕ). ok (s.result.count + n)) c.conflicts.ensures.0
     ∙ errors_all a.occ.now (ests_of a.img.now (est_count a.img.now)) a.free (path_of a.img.now a.n) s.result.code s.result.count s.ensures.0 c.if-steps-ne0.false
     (omega (arith, c.if-n-free.false, listed-length a.n (node_at a.img.now)))
-

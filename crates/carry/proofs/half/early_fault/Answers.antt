@@ -6,7 +6,6 @@ use Rattle.link_rules.specs.Refusals.{refused_unless}
 use Rattle.yard_check.specs.Yard.{yard_fits}
 use Rattle.carry.specs.HalfCheck.{early_fault}
 use Rattle.carry.proofs.LayoutLaws.{yard-few}
-use borrow.Author.Rules.{rules}
 use Rattle.carry.proofs.half.early_fault.Goals as goal
 
 pub returns-then-f-ne0 : goal.returns-then-f-ne0
@@ -32,4 +31,3 @@ returns c = let a = c.args in
     let f = c.call_fault-f in
     let bad : yard_fits a.yard.now ≡ false = sym c.yard_fits.ensures ∙ c.if-yard_fits.false in
     λ begin local. rw (← f.ensures a.occupancy.now refl, eq-eqb f.result.number 0 c.if-f-ne0.false, bad) c.refused_unless-2.ensures
-

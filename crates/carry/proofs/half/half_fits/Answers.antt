@@ -1,7 +1,6 @@
 use native.Mathlib.Omega.{arith}
 use borrow.Author.Tests.{le-leb, lt-leb}
 use Rattle.carry.specs.HalfCheck.{half_fits}
-use borrow.Author.Rules.{rules}
 use Rattle.carry.proofs.half.half_fits.Goals as goal
 
 pub returns-then-count-lt1 : goal.returns-then-count-lt1
@@ -13,4 +12,3 @@ pub returns : goal.returns
 unfolding half_fits
 returns c = let a = c.args in
     rw (le-leb 1 a.count (omega (arith, c.if-count-lt1.false))) c.second_fits.ensures
-

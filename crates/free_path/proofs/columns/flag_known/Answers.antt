@@ -15,4 +15,3 @@ loop-i-preserved c = let a = c.args in
 pub returns : goal.returns
 returns c = let a = c.args in
     sym (known-end (flagged a.on.now) a.blocking.now c.loop-i.i c.loop-i.flags (omega arith)) ∙ c.loop-i.invariant.1
-

@@ -7,4 +7,3 @@ invariant-loop-i l = (length l.flags ≡ length l.initial.flags) × (flag_links 
 
 abbrev pub decreases-loop-i : goal.decreases-loop-i
 decreases-loop-i l = length l.blocking - l.i
-

@@ -15,4 +15,3 @@ returns-then-flags-i c = let a = c.args in
 pub returns : goal.returns
 unfolding flag_link
 returns c = rw (ne_eqb c.args.l.0 0 c.if-i-eq0.false)
-

@@ -8,4 +8,3 @@ invariant-loop-i l = (length l.flags ≡ length l.initial.flags) × (flag_links 
 
 abbrev pub decreases-loop-i : goal.decreases-loop-i
 decreases-loop-i l = l.n - l.i
-

@@ -23,4 +23,3 @@ pub returns : goal.returns
 returns c q = let g = c.loop-i in
     let s = c.args.from.now in
     sym (take_all g.i g.to (omega arith)) ∙ g.invariant.2 ∙ take_all g.i s (omega arith)
-

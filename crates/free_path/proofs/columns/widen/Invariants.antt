@@ -6,4 +6,3 @@ invariant-loop-i l = (l.i ≤ l.n) × (length l.to ≡ l.n) × (take l.i l.to �
 
 abbrev pub decreases-loop-i : goal.decreases-loop-i
 decreases-loop-i l = l.n - l.i
-

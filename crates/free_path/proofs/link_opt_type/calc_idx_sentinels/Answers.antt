@@ -39,4 +39,3 @@ returns c = let a = c.args in
     let x = c.u32_of-node in
     let k = c.walk_past-k in
     sentinel_on a.i a.n a.moved a.trains.now a.nodes.now (omega arith) t.result t.ensures c.if-u32_of-moved.false w.result w.ensures c.if-n-j.false x.result x.ensures c.if-n-j-2.false k.result k.ensures c.if-n-k.false
-

@@ -7,4 +7,3 @@ returns-in-Single c = sym (ap class_end c.in-Single.is)
 
 pub returns-in-Range : goal.returns-in-Range
 returns-in-Range c = c.range_or_check.ensures ∙ sym (ap class_end c.in-Range.is)
-

@@ -11,4 +11,3 @@ returns-in-Single c = ap₂ Range c.least_of.ensures c.most_of.ensures ∙ sym (
 
 pub returns-in-Range : goal.returns-in-Range
 returns-in-Range c = ap₂ Range c.least_of-in-Range.ensures c.most_of-in-Range.ensures ∙ sym (ap (λ k. class_more k c.args.l) c.in-Range.is)
-

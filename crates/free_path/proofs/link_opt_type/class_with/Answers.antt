@@ -5,4 +5,3 @@ returns-then-is_flagged c = rw (← c.is_flagged.ensures, c.if-is_flagged.true) 
 
 pub returns : goal.returns
 returns c = rw (← c.is_flagged.ensures, c.if-is_flagged.false)
-

@@ -28,4 +28,3 @@ returns c = let a = c.args in
     ∙ meet_at a.split a.sentinel a.class a.col.now a.n a.occ.now c.if-sentinel-split.false c.if-n-sentinel.false (sym c.is_none.ensures ∙ c.if-is_none.false)
     in
     (e, c.train_met.ensures ∙ ap (train_met a.sentinel (listed a.n (link_at a.col.now)) a.occ.now) e)
-

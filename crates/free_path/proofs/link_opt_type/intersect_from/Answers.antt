@@ -18,4 +18,3 @@ loop-i-preserved c = let a = c.args in
 pub returns : goal.returns
 returns c = let a = c.args in
     passes-end (stops a.class a.occ.now) a.n (link_at a.col.now) c.loop-i.i a.sentinel (omega arith) ∙ c.loop-i.invariant.1
-

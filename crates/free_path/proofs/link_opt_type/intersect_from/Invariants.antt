@@ -9,4 +9,3 @@ invariant-loop-i l = (l.i ≤ l.sentinel) × (intersect l.i l.sentinel l.class (
 
 abbrev pub decreases-loop-i : goal.decreases-loop-i
 decreases-loop-i l = l.sentinel - l.i
-

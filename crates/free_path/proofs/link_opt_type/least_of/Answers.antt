@@ -7,4 +7,3 @@ returns-then-a-b c = simp (le-leb _ _ c.if-a-b.true)
 
 pub returns-else-a-b : goal.returns-else-a-b
 returns-else-a-b c = simp (lt-leb _ _ c.if-a-b.false)
-

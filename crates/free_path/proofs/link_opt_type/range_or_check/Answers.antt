@@ -7,4 +7,3 @@ returns-then-span-le16 c = rw (← c.span_of-span.ensures, le-leb _ 16 c.if-span
 
 pub returns : goal.returns
 returns c = rw (← c.span_of-span.ensures, lt-leb _ 16 c.if-span-le16.false)
-

@@ -10,4 +10,3 @@ returns-in-Range c = ap₂ (λ t u. t && u) c.in_range.ensures c.is_occupied-tak
 
 pub returns-in-Check : goal.returns-in-Check
 returns-in-Check c = c.is_occupied-taken.ensures ∙ sym (ap (λ k. stops k c.args.occ.now c.args.l) c.in-Check.is)
-

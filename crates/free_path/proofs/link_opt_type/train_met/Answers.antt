@@ -12,4 +12,3 @@ returns c = let a = c.args in
     ap tr c.u32_of.ensures
     ∙ ap (λ (l : LinkIdx). tr (get_or a.occ.now l.0 0)) c.link_of-l.ensures
     ∙ met_there a.idx a.sentinel a.col.now a.n a.occ.now c.requires c.if-sentinel-idx.false
-

@@ -16,4 +16,3 @@ loop-j-preserved c = let a = c.args in
 pub returns : goal.returns
 returns c = let a = c.args in
     walk_none (λ y. eqb y a.x) a.col.now a.n c.loop-j.j (omega arith) ∙ c.loop-j.invariant
-

@@ -8,4 +8,3 @@ invariant-loop-j l = walk_from (λ y. eqb y l.x) (entries l.n l.col) l.j ≡ wal
 
 abbrev pub decreases-loop-j : goal.decreases-loop-j
 decreases-loop-j l = l.n - l.j
-

@@ -25,4 +25,3 @@ returns-then-bits_of-lt9223372036854775808 c = let a = c.args in
 pub returns-else-bits_of-lt9223372036854775808 : goal.returns-else-bits_of-lt9223372036854775808
 returns-else-bits_of-lt9223372036854775808 c = let a = c.args in
     minus-second a.a a.b c.if-a.false c.if-b.false (rw c.well_formed.0.1 tt) c.if-a-b.false c.if-b-a.false (subst (λ n. 0x8000_0000_0000_0000 ≤ n) c.bits_of.ensures c.if-bits_of-lt9223372036854775808.false)
-

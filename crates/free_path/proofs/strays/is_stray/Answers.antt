@@ -17,4 +17,3 @@ pub returns : goal.returns
 unfolding stray_link
 returns c = let a = c.args in
     rw (ne_eqb a.l.0 0 c.if-l-eq0.false, ← c.is_flagged.ensures, c.if-is_flagged.false, and-true (occupied a.occ.now a.l)) c.is_occupied.ensures
-

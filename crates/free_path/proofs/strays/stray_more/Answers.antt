@@ -6,4 +6,3 @@ returns-then-is_stray c = rw (← c.is_stray.ensures, c.if-is_stray.true)
 
 pub returns : goal.returns
 returns c = rw (← c.is_stray.ensures, c.if-is_stray.false, add-zero)
-

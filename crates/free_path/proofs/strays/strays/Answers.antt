@@ -20,4 +20,3 @@ loop-i-preserved c = let a = c.args in
 pub returns : goal.returns
 returns c = let a = c.args in
     count-end (stray_link a.occ.now (flagged a.known.now)) a.n (link_at a.col.now) c.loop-i.i c.loop-i.k (omega arith) ∙ c.loop-i.invariant.1
-

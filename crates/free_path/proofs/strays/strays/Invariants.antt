@@ -10,4 +10,3 @@ invariant-loop-i l = (l.k + l.free ≤ l.i) × (l.k + count (stray_link l.occ (f
 
 abbrev pub decreases-loop-i : goal.decreases-loop-i
 decreases-loop-i l = l.n - l.i
-

@@ -22,4 +22,3 @@ pub returns : goal.returns
 returns c = let a = c.args in
     let e = c.add_blocking_trains.ensures in
     (e.0 ∙ all_go a.pool.now a.len a.large a.small c.requires.0 c.requires.1 c.if-small.false c.if-large.false c.if-len-e.false c.if-len-k-gt2048.false _ c.extend.ensures.0, e.1, e.2)
-

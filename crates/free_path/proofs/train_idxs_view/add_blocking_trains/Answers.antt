@@ -29,4 +29,3 @@ returns c = let a = c.args in
     let g = c.add_from-g in
     let e = c.close.ensures in
     (e.0 ∙ block_go a.pool.now a.len a.base a.add c.requires.0 c.requires.1 c.if-base.false c.if-len-base.false c.if-add.false c.if-len-eq2048.false g.result.code (take g.result.len (trains g.new.pool)) g.ensures.0 c.if-g-ne0.false, e.1, e.2)
-

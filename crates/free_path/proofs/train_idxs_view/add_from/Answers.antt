@@ -19,4 +19,3 @@ loop-i-preserved c = let a = c.args in
 pub returns : goal.returns
 returns c = let a = c.args in
     (sym (from_end a.base a.end c.loop-i.i (take c.loop-i.n (trains c.loop-i.pool)) (omega arith)) ∙ c.loop-i.invariant.3, search rules, search rules, c.loop-i.invariant.0)
-

@@ -8,4 +8,3 @@ invariant-loop-i l = (length l.pool ≡ 2048) × (l.len ≤ l.n) × (l.n ≤ 204
 
 abbrev pub decreases-loop-i : goal.decreases-loop-i
 decreases-loop-i l = l.end - l.i
-

@@ -24,4 +24,3 @@ bounds-pool-len c = simp length-set (omega arith)
 pub returns : goal.returns
 returns c = let a = c.args in
     (array_push a.pool.now a.len a.base a.i c.requires.0 c.requires.1 c.requires.2 (omega arith) (sym c.has.ensures ∙ c.if-has.false) (omega arith), search rules, search rules, search rules)
-

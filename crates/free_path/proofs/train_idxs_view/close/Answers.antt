@@ -9,4 +9,3 @@ returns-then-e-m c = let a = c.args in
 pub returns : goal.returns
 returns c = let a = c.args in
     (array_none a.pool.now a.len a.base c.requires.0 c.requires.1 c.requires.2 c.if-e-m.false, search rules, c.requires.0)
-

@@ -33,4 +33,3 @@ returns c = let a = c.args in
     let p = c.extent in
     let q = c.extent-2 in
     (e.0 ∙ cat_small a.pool.now a.len a.v a.w c.requires.0 c.requires.1 (sym c.holds.ensures ∙ c.if-holds.false) (sym c.holds-2.ensures ∙ c.if-holds-2.false) c.if-len-v.false c.if-len-w.false p.result q.result p.ensures q.ensures c.if-extent.false, e.1, e.2)
-

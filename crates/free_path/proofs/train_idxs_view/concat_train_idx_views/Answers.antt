@@ -14,4 +14,3 @@ pub returns : goal.returns
 returns c = let a = c.args in
     let e = c.concat_in.ensures in
     (e.0 ∙ lent-pool a.pool.now a.len a.v a.w c.if-pool-ne2048.false c.if-len-gt2048.false, search rules)
-

@@ -17,4 +17,3 @@ returns c = let a = c.args in
     let e : c.loop-j.j ≡ a.k = omega arith in
     let d : a.a + a.k - a.a ≡ a.k = omega arith in
     (rw (d, ← e) c.loop-j.invariant.2, c.loop-j.invariant.1)
-

@@ -7,4 +7,3 @@ invariant-loop-j l = (l.j ≤ l.k) × (length l.pool ≡ 2048) × (take (l.len +
 
 abbrev pub decreases-loop-j : goal.decreases-loop-j
 decreases-loop-j l = l.k - l.j
-

@@ -19,4 +19,3 @@ loop-i-preserved c = let a = c.args in
 pub returns : goal.returns
 returns c = let a = c.args in
     sym (any-end (same_train (tr a.t)) (trains a.pool.now) c.loop-i.i a.e no_train (omega arith)) ∙ c.loop-i.invariant
-

@@ -9,4 +9,3 @@ invariant-loop-i l = any (same_train (tr l.t)) (part l.i l.e (trains l.pool)) â‰
 
 abbrev pub decreases-loop-i : goal.decreases-loop-i
 decreases-loop-i l = l.e - l.i
-

@@ -10,4 +10,3 @@ returns-then-v-u c = simp (ne_eqb _ _ c.if-v.false, lt-leb _ _ c.if-v-u.true)
 
 pub returns : goal.returns
 returns c = simp (ne_eqb _ _ c.if-v.false, le-leb _ _ c.if-v-u.false)
-

@@ -3,7 +3,6 @@ use mathlib.Core.Bool.{Bool}
 use Rattle.yard_check.specs.Pair.{PairChecked}
 use Rattle.carry.specs.HalfCheck.{half_checked, half_args}
 use Rattle.free_path_c.specs.Words.{check_word, check_words}
-use borrow.Author.Rules.{rules}
 use Rattle.free_path_c.proofs.carried.lavtoeu_check_half.Goals as goal
 
 pub returns : goal.returns
@@ -16,4 +15,3 @@ returns c = let a = c.args in
       report_bytes = ap (λ (k : PairChecked). k.report) e;
       words = c.put_check.ensures ∙ ap (λ (k : PairChecked). check_words k.answer a.answer.now) e;
     }
-

@@ -3,7 +3,6 @@ use mathlib.Core.Bool.{Bool}
 use Rattle.image_fault.specs.declared.Widths.TheVariants.{Narrow}
 use Rattle.link_index.specs.Indexed.{Checked, checked_beside, given_of}
 use Rattle.free_path_c.specs.Words.{check_word, check_words}
-use borrow.Author.Rules.{rules}
 use Rattle.free_path_c.proofs.index.lavtoeu_check_indexed.Goals as goal
 
 pub returns : goal.returns
@@ -16,4 +15,3 @@ returns c = let a = c.args in
       entries = ap (λ (k : Checked). k.index) e;
       words = c.put_check.ensures ∙ ap (λ (k : Checked). check_words k.answer a.answer.now) e;
     }
-

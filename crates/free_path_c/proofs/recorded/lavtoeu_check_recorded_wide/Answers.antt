@@ -2,7 +2,6 @@ use mathlib.Core.Path.{◌∙◌, ap}
 use mathlib.Core.Bool.{Bool}
 use Rattle.undo.specs.Undo.{Recorded, recorded_wide}
 use Rattle.free_path_c.specs.Words.{check_word, check_words}
-use borrow.Author.Rules.{rules}
 use Rattle.free_path_c.proofs.recorded.lavtoeu_check_recorded_wide.Goals as goal
 
 pub returns : goal.returns
@@ -15,4 +14,3 @@ returns c = let a = c.args in
       record_bytes = ap (λ (k : Recorded). k.undo_record) e;
       words = c.put_check.ensures ∙ ap (λ (k : Recorded). check_words k.answer a.answer.now) e;
     }
-

@@ -2,7 +2,6 @@ use mathlib.Core.Path.{◌∙◌, ap}
 use mathlib.Core.Bool.{Bool}
 use Rattle.yard_check.specs.Check.{Checked, checked_wide}
 use Rattle.free_path_c.specs.Words.{check_word, check_words}
-use borrow.Author.Rules.{rules}
 use Rattle.free_path_c.proofs.wide.lavtoeu_check_wide.Goals as goal
 
 pub returns : goal.returns
@@ -14,4 +13,3 @@ returns c = let a = c.args in
       report_bytes = ap (λ (k : Checked). k.report) e;
       words = c.put_check.ensures ∙ ap (λ (k : Checked). check_words k.answer a.answer.now) e;
     }
-

@@ -1,9 +1,5 @@
-use mathlib.Core.Path.{◌≡◌, refl, ◌∙◌}
-use Prim.Native.Nat.{◌-◌}
+use mathlib.Core.Path.{refl, ◌∙◌}
 use native.Mathlib.Omega.{arith}
-use lib.ListN.{length, drop}
-use borrow.Author.Rules.{rules}
-use Rattle.game.specs.Game.{is_listed}
 use Rattle.game.proofs.FaultLaws.{listed_hit, listed_miss, listed-end}
 use Rattle.game.proofs.faults.is_listed.Goals as goal
 
@@ -24,4 +20,3 @@ pub returns : goal.returns
 returns c = let l = c.loop-i in
     let a = c.args in
     listed-end a.links.now l.i a.x (omega arith) ∙ l.invariant
-

@@ -1,10 +1,7 @@
-use mathlib.Core.Path.{◌≡◌, refl, ◌∙◌}
+use mathlib.Core.Path.{◌≡◌}
 use Prim.Native.Nat.{◌-◌}
-use native.Mathlib.Omega.{arith}
 use lib.ListN.{length, drop}
-use borrow.Author.Rules.{rules}
 use Rattle.game.specs.Game.{is_listed}
-use Rattle.game.proofs.FaultLaws.{listed_hit, listed_miss, listed-end}
 use Rattle.game.proofs.faults.is_listed.Given as goal
 
 abbrev pub invariant-loop-i : goal.invariant-loop-i
@@ -12,4 +9,3 @@ invariant-loop-i l = is_listed (drop l.i l.links) l.x ≡ is_listed (drop l.from
 
 abbrev pub decreases-loop-i : goal.decreases-loop-i
 decreases-loop-i l = length l.links - l.i
-

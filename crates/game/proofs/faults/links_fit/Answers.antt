@@ -1,9 +1,8 @@
-use mathlib.Core.Path.{◌≡◌, refl, sym, subst, ◌∙◌}
-use Prim.Native.Nat.{ℕ, ◌-◌, ◌≤◌, ◌<◌}
+use mathlib.Core.Path.{refl, sym, subst, ◌∙◌}
+use Prim.Native.Nat.{ℕ, ◌≤◌, ◌<◌}
 use native.Mathlib.Omega.{arith}
-use lib.ListN.{length, get_or, drop}
+use lib.ListN.{get_or}
 use borrow.Author.Rules.{rules}
-use Rattle.game.specs.Game.{links_fit}
 use Rattle.game.proofs.FaultLaws.{fit_none, fit_above, fit_twice, fit_turn, fit_end}
 use Rattle.game.proofs.faults.links_fit.Goals as goal
 
@@ -42,4 +41,3 @@ pub returns : goal.returns
 returns c = let l = c.loop-i in
     let a = c.args in
     fit_end a.links.now l.i a.l (omega arith) ∙ l.invariant.1
-

@@ -1,6 +1,5 @@
 use native.Mathlib.Omega.{arith}
 use lib.ListN.{length}
-use borrow.Author.Rules.{rules}
 use borrow.Author.Tests.{le-leb, lt-leb}
 use Rattle.game.proofs.faults.list_fits.Goals as goal
 
@@ -14,4 +13,3 @@ returns-then-turns-gt6 c = let a = c.args in
 pub returns : goal.returns
 returns c = let a = c.args in
     rw (le-leb (length a.links.now) 8 (omega arith), le-leb a.turns 6 (omega arith)) c.links_fit.ensures
-

@@ -1,6 +1,5 @@
 use mathlib.Core.Path.{refl, ap, ◌∙◌}
 use lib.Dec.{ltb}
-use borrow.Author.Rules.{rules}
 use Rattle.image.specs.declared.codec.PathHeader.{PathHeader}
 use Rattle.link_rules.specs.Refusals.{refused_unless}
 use Rattle.game.proofs.FaultLaws.{start_before, start_last}
@@ -20,4 +19,3 @@ returns c = let a = c.args in
     c.refused_unless.ensures
     ∙ ap (λ (x : PathHeader). refused_unless (ltb x.free x.path_count) 10) h.ensures
     ∙ start_last a.image.now a.occ.now a.o.moved.0 a.o.limit f.result (f.ensures a.occ.now refl g.ensures) c.if-f-ne0.false
-

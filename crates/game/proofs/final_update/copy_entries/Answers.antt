@@ -1,8 +1,7 @@
-use mathlib.Core.Path.{◌≡◌, refl, sym, ◌∙◌}
-use Prim.Native.Nat.{◌-◌, ◌≤◌}
+use mathlib.Core.Path.{refl, sym, ◌∙◌}
 use native.Mathlib.Omega.{arith}
 use native.Mathlib.Numerals.{add-one}
-use lib.ListN.{length, get_or, take}
+use lib.ListN.{get_or}
 use lib.Seq.{take_all, take-suc, take-suc-set}
 use borrow.Author.Rules.{rules}
 use Rattle.game.proofs.final_update.copy_entries.Goals as goal
@@ -22,4 +21,3 @@ pub returns : goal.returns
 returns c = let g = c.loop-i in
     let s = c.args.from.now in
     sym (take_all g.i g.to (omega arith)) ∙ g.invariant.2 ∙ take_all g.i s (omega arith)
-

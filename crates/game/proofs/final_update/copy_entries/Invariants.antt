@@ -1,10 +1,6 @@
-use mathlib.Core.Path.{◌≡◌, refl, sym, ◌∙◌}
+use mathlib.Core.Path.{◌≡◌}
 use Prim.Native.Nat.{◌-◌, ◌≤◌}
-use native.Mathlib.Omega.{arith}
-use native.Mathlib.Numerals.{add-one}
-use lib.ListN.{length, get_or, take}
-use lib.Seq.{take_all, take-suc, take-suc-set}
-use borrow.Author.Rules.{rules}
+use lib.ListN.{length, take}
 use Rattle.game.proofs.final_update.copy_entries.Given as goal
 
 abbrev pub invariant-loop-i : goal.invariant-loop-i
@@ -12,4 +8,3 @@ invariant-loop-i l = (l.i ≤ length l.from) × (length l.to ≡ length l.from) 
 
 abbrev pub decreases-loop-i : goal.decreases-loop-i
 decreases-loop-i l = length l.from - l.i
-

@@ -1,8 +1,8 @@
-use mathlib.Core.Path.{◌≡◌, refl, sym, ap, ◌∙◌}
+use mathlib.Core.Path.{refl, sym, ap, ◌∙◌}
 use mathlib.Core.List.{List, ◌++◌, append-nil}
-use Prim.Native.Nat.{ℕ, ◌+◌, ◌-◌, ◌/◌, ◌≤◌}
+use Prim.Native.Nat.{ℕ, ◌+◌, ◌/◌}
 use native.Mathlib.Omega.{arith}
-use lib.ListN.{length, take, set, drop, length-set}
+use lib.ListN.{take, set, drop, length-set}
 use borrow.Author.Rules.{rules}
 use Rattle.game.specs.Game.{held_by}
 use Rattle.game.specs.Sets.{links_in}
@@ -57,4 +57,3 @@ returns c = let l = c.loop-i in
       omega arith,
       l.invariant.2,
     )
-

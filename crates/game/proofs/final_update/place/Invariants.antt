@@ -1,12 +1,9 @@
-use mathlib.Core.Path.{◌≡◌, refl, sym, ap, ◌∙◌}
-use mathlib.Core.List.{List, ◌++◌, append-nil}
-use Prim.Native.Nat.{ℕ, ◌+◌, ◌-◌, ◌/◌, ◌≤◌}
-use native.Mathlib.Omega.{arith}
-use lib.ListN.{length, take, set, drop, length-set}
-use borrow.Author.Rules.{rules}
+use mathlib.Core.Path.{◌≡◌}
+use mathlib.Core.List.{◌++◌}
+use Prim.Native.Nat.{◌-◌, ◌≤◌}
+use lib.ListN.{length, take, drop}
 use Rattle.game.specs.Game.{held_by}
 use Rattle.game.specs.Sets.{links_in}
-use Rattle.game.proofs.PlaceLaws.{open_turn, listed-turn, held-turn, none_left}
 use Rattle.game.proofs.final_update.place.Given as goal
 
 -- The loop's invariant: what is still to come gives the whole.
@@ -20,4 +17,3 @@ invariant-loop-i l = (l.i ≤ length l.links)
 
 abbrev pub decreases-loop-i : goal.decreases-loop-i
 decreases-loop-i l = length l.links - l.i
-

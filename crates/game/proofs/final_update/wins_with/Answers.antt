@@ -3,7 +3,6 @@ use mathlib.Core.List.{List}
 use Prim.Native.Nat.{ℕ, ◌<◌}
 use native.Mathlib.Omega.{arith}
 use lib.ListN.{length, get_or, take, length-take}
-use borrow.Author.Rules.{rules}
 use Rattle.link_rules.proofs.OctetLaws.{put_all}
 use Rattle.update_definition.specs.Update.{Status}
 use Rattle.update_definition.specs.UpdateImage.{UpdatedImage, updated_image_wide}
@@ -14,10 +13,10 @@ use Rattle.game.proofs.final_update.wins_with.Goals as goal
 
 pub place-count-requires : goal.place-count-requires
 place-count-requires c = let w = c.copy_entries in (
-      c.requires.accepted.few,
-      refl,
-      λ i l. subst (λ (z : List ℕ). get_or c.args.links.now i 0 < length z) (sym w.ensures) (links-below (length c.args.occ.now) c.args.links.now c.requires.accepted.fitting i l),
-    )
+  c.requires.accepted.few,
+  refl,
+  λ i l. subst (λ (z : List ℕ). get_or c.args.links.now i 0 < length z) (sym w.ensures) (links-below (length c.args.occ.now) c.args.links.now c.requires.accepted.fitting i l),
+)
 
 pub slice_bounds-blocking-end : goal.slice_bounds-blocking-end
 slice_bounds-blocking-end c = let p = c.place-count in omega (arith, p.ensures.1, p.ensures.2)
@@ -42,4 +41,3 @@ returns c = let a = c.args in
     ∙ ap (λ (z : List ℕ). ends a.image.now (held_by a.o.moved.0 (links_in links a.c) z) (take p.result p.new.blocking)) w.ensures
     ∙ ap (λ (z : List ℕ). ends a.image.now (held_by a.o.moved.0 (links_in links a.c) a.occ.now) z) p.ensures.0.listed
     ∙ ap (final_status g) (sym (closed_in (length a.occ.now) links c.requires.accepted.fitting a.c)))
-

@@ -1,7 +1,6 @@
 use mathlib.Core.Path.{◌≡◌, sym, subst, ◌∙◌, ap}
 use Prim.Native.Nat.{ℕ, ◌-◌, ◌/◌, ◌%◌, ◌^◌, ◌≤◌, ◌<◌}
 use native.Mathlib.Omega.{arith}
-use borrow.Author.Rules.{rules}
 use Rattle.game.proofs.SetLaws.{opened-none, opened_open, opened-shut, power_in}
 use Rattle.game.proofs.sets.opened.Goals as goal
 
@@ -30,4 +29,3 @@ returns c = let a = c.args in
     let o : a.c / 2 ^ a.i % 2 ≡ 0 → ⊥ = subst (λ (x : ℕ). a.c / x % 2 ≡ 0 → ⊥) p.ensures.0 c.if-c-p-eq0.false in
     let l : a.i < a.k = omega arith in
     (ap (λ (x : ℕ). a.c - x) p.ensures.0 ∙ sym (opened-shut a.k a.c a.i l o), omega arith)
-

@@ -1,7 +1,6 @@
 use mathlib.Core.Path.{◌≡◌, sym, subst, ◌∙◌, ap}
 use Prim.Native.Nat.{ℕ, ◌+◌, ◌/◌, ◌%◌, ◌^◌, ◌<◌}
 use native.Mathlib.Omega.{arith}
-use borrow.Author.Rules.{rules}
 use Rattle.game.proofs.SetLaws.{shut_none, shut_open, shut-shut, room, power_fits}
 use Rattle.game.proofs.sets.shut.Goals as goal
 
@@ -28,4 +27,3 @@ returns c = let a = c.args in
     let o : a.c / 2 ^ a.i % 2 ≡ 0 → ⊥ = subst (λ (x : ℕ). a.c / x % 2 ≡ 0 → ⊥) p.ensures.0 c.if-c-p-eq0.false in
     let l : a.i < a.k = omega arith in
     (sym (shut-shut a.k a.c a.i o), c.requires.1)
-

@@ -1,6 +1,6 @@
 use mathlib.Core.Path.{◌≡◌, sym, ap, ◌∙◌}
 use mathlib.Core.Bool.{Bool, true}
-use Prim.Native.Nat.{ℕ, ◌+◌, ◌-◌, ◌≤◌}
+use Prim.Native.Nat.{ℕ, ◌+◌}
 use native.Mathlib.Omega.{arith}
 use borrow.Author.Rules.{rules}
 use Rattle.game.proofs.Bounded.{all_none}
@@ -37,4 +37,3 @@ returns c = let l = c.loop-a in
     let f : ℕ → Bool = λ j. won a.t.now (opened_in a.k a.c j) in
     let e : l.a ≡ a.k + 1 = omega arith in
     sym l.invariant.1 ∙ ap (λ (n : ℕ). all_below n f) e
-

@@ -1,14 +1,8 @@
-use mathlib.Core.Path.{◌≡◌, sym, ap, ◌∙◌}
-use mathlib.Core.Bool.{Bool, true}
-use Prim.Native.Nat.{ℕ, ◌+◌, ◌-◌, ◌≤◌}
-use native.Mathlib.Omega.{arith}
-use borrow.Author.Rules.{rules}
-use Rattle.game.proofs.Bounded.{all_none}
+use mathlib.Core.Path.{◌≡◌}
+use mathlib.Core.Bool.{true}
+use Prim.Native.Nat.{◌+◌, ◌-◌, ◌≤◌}
 use Rattle.link_rules.specs.Network.{all_below}
-use Rattle.link_rules.proofs.TableLaws.{all_more, all_fails}
 use Rattle.game.specs.Sets.{opened_in, won}
-use Rattle.game.proofs.SetLaws.{power_fits}
-use Rattle.game.proofs.TableLaws.{lost_at, won-at}
 use Rattle.game.proofs.tables.all_openings.Given as goal
 
 -- `tables::all_openings` meets its contract. The loop's invariant: all answers tried so far lead to a win. Assumes nothing.
@@ -17,4 +11,3 @@ invariant-loop-a l = (l.a ≤ l.k + 1) × (all_below l.a (λ j. won l.t (opened_
 
 abbrev pub decreases-loop-a : goal.decreases-loop-a
 decreases-loop-a l = l.k + 1 - l.a
-

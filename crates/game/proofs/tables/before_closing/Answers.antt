@@ -1,9 +1,8 @@
-use mathlib.Core.Path.{◌≡◌, refl}
-use Prim.Native.Nat.{◌-◌, ◌≤◌}
+use mathlib.Core.Path.{refl}
 use native.Mathlib.Omega.{arith}
-use lib.ListN.{length, length-set, replicate}
+use lib.ListN.{length-set, replicate}
 use borrow.Author.Rules.{rules}
-use Rattle.game.specs.Sets.{won, some_closing, Verdicts}
+use Rattle.game.specs.Sets.{won, some_closing}
 use Rattle.game.proofs.TableLaws.{verdicts_none, verdicts_more}
 use Rattle.game.proofs.tables.before_closing.Goals as goal
 
@@ -22,4 +21,3 @@ loop-c-preserved c = let h = c.some_closing-win in
 pub returns : goal.returns
 returns c = let l = c.loop-c in
     λ i h. l.invariant.2 i (omega arith)
-

@@ -1,10 +1,7 @@
-use mathlib.Core.Path.{◌≡◌, refl}
+use mathlib.Core.Path.{◌≡◌}
 use Prim.Native.Nat.{◌-◌, ◌≤◌}
-use native.Mathlib.Omega.{arith}
-use lib.ListN.{length, length-set, replicate}
-use borrow.Author.Rules.{rules}
+use lib.ListN.{length}
 use Rattle.game.specs.Sets.{won, some_closing, Verdicts}
-use Rattle.game.proofs.TableLaws.{verdicts_none, verdicts_more}
 use Rattle.game.proofs.tables.before_closing.Given as goal
 
 -- `tables::before_closing` meets its contract. The loop's invariant: the entries below c are right. Assumes nothing.
@@ -13,4 +10,3 @@ invariant-loop-c l = (l.c ≤ l.n) × (length l.out ≡ 256) × Verdicts l.c (so
 
 abbrev pub decreases-loop-c : goal.decreases-loop-c
 decreases-loop-c l = l.n - l.c
-

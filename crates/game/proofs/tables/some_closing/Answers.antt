@@ -1,6 +1,6 @@
 use mathlib.Core.Path.{◌≡◌, sym, ap, ◌∙◌}
 use mathlib.Core.Bool.{Bool, false}
-use Prim.Native.Nat.{ℕ, ◌+◌, ◌-◌, ◌≤◌}
+use Prim.Native.Nat.{ℕ, ◌+◌}
 use native.Mathlib.Omega.{arith}
 use borrow.Author.Rules.{rules}
 use Rattle.game.proofs.Bounded.{some-from, some_more, some-none}
@@ -35,4 +35,3 @@ returns c = let l = c.loop-i in
     let f : ℕ → Bool = λ j. won a.t.now (shut_in a.k a.c j) in
     let e : l.i ≡ a.k + 1 = omega arith in
     sym l.invariant.1 ∙ ap (λ (n : ℕ). some_below n f) e
-

@@ -1,12 +1,7 @@
-use mathlib.Core.Path.{◌≡◌, sym, ap, ◌∙◌}
-use mathlib.Core.Bool.{Bool, false}
-use Prim.Native.Nat.{ℕ, ◌+◌, ◌-◌, ◌≤◌}
-use native.Mathlib.Omega.{arith}
-use borrow.Author.Rules.{rules}
-use Rattle.game.proofs.Bounded.{some-from, some_more, some-none}
+use mathlib.Core.Path.{◌≡◌}
+use mathlib.Core.Bool.{false}
+use Prim.Native.Nat.{◌+◌, ◌-◌, ◌≤◌}
 use Rattle.game.specs.Sets.{some_below, shut_in, won}
-use Rattle.game.proofs.SetLaws.{power_fits}
-use Rattle.game.proofs.TableLaws.{lost_at, won-at}
 use Rattle.game.proofs.tables.some_closing.Given as goal
 
 -- `tables::some_closing` meets its contract. The loop's invariant: no closing tried so far leads to a win. Assumes nothing.
@@ -15,4 +10,3 @@ invariant-loop-i l = (l.i ≤ l.k + 1) × (some_below l.i (λ j. won l.t (shut_i
 
 abbrev pub decreases-loop-i : goal.decreases-loop-i
 decreases-loop-i l = l.k + 1 - l.i
-

@@ -1,9 +1,7 @@
 use mathlib.Core.Path.{refl}
 use Rattle.link_index.specs.Bits.{bit_of}
-use borrow.Author.Rules.{rules}
 use Rattle.link_index.proofs.bits.has_bit.Goals as goal
 
 pub returns : goal.returns
 unfolding bit_of
 returns c = refl
-

@@ -4,7 +4,6 @@ use mathlib.Core.Bool.{true}
 use native.Mathlib.Omega.{arith}
 use Rattle.yard_check.proofs.SeenLaws.{shifted}
 use Rattle.link_index.proofs.BitLaws.{with_on, with_off, with_room}
-use borrow.Author.Rules.{rules}
 use Rattle.link_index.proofs.bits.with_bit.Goals as goal
 
 pub returns-then-has_bit : goal.returns-then-has_bit
@@ -18,4 +17,3 @@ overflow_add-result c = let a = c.args in
 pub returns : goal.returns
 returns c = let a = c.args in
     ap (λ (x : ℕ). a.entry + x) (shifted a.t c.requires) ∙ sym (with_off a.entry a.t true (sym c.has_bit.ensures ∙ c.if-has_bit.false))
-

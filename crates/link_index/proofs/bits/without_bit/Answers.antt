@@ -4,7 +4,6 @@ use mathlib.Core.Bool.{false}
 use native.Mathlib.Omega.{arith}
 use Rattle.yard_check.proofs.SeenLaws.{shifted}
 use Rattle.link_index.proofs.BitLaws.{with_on, with_off, power_in}
-use borrow.Author.Rules.{rules}
 use Rattle.link_index.proofs.bits.without_bit.Goals as goal
 
 pub overflow_sub-result : goal.overflow_sub-result
@@ -18,4 +17,3 @@ returns-then-has_bit c = let a = c.args in
 pub returns : goal.returns
 returns c = let a = c.args in
     sym (with_off a.entry a.t false (sym c.has_bit.ensures ∙ c.if-has_bit.false))
-

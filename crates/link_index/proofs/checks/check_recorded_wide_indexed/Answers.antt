@@ -9,7 +9,6 @@ use Rattle.link_index.specs.LinkIndex.{refreshed}
 use Rattle.undo.proofs.UndoLaws.{room_clean}
 use Rattle.link_index.specs.Indexed.{given_of}
 use Rattle.link_index.proofs.CallLaws.{lengths_few, recorded-few, recorded-refused, recorded_stays, recorded_old, recorded_as}
-use borrow.Author.Rules.{rules}
 use Rattle.link_index.proofs.checks.check_recorded_wide_indexed.Goals as goal
 
 pub returns-then-f-ne0 : goal.returns-then-f-ne0
@@ -40,4 +39,3 @@ returns c = let a = c.args in
     let h = (ap (λ (x : Refusal). x.number) (sym c.recorded_fault-f.ensures) ∙ c.if-f-ne0.false) in
     let old = recorded_old a.yard.now a.occ.now A a.report.now a.undo_record.now a.index.now h w.result w.new.yard w.new.report w.new.undo_record w.ensures (sym c.is_refused.ensures ∙ c.if-is_refused.false) in
     recorded_as a.yard.now a.occ.now A a.report.now a.undo_record.now a.index.now h w.result w.new.yard w.new.report w.new.undo_record w.ensures _ (c.refresh_from.ensures ∙ ap (λ (y : List ℕ). refreshed y w.new.yard a.index.now) old)
-

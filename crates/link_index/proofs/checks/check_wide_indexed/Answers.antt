@@ -3,7 +3,6 @@ use Rattle.link_rules.specs.declared.refusal.Refusal.{Refusal}
 use Rattle.image_fault.specs.declared.Widths.TheVariants.{Either}
 use Rattle.yard_check.specs.Checks.{args_of}
 use Rattle.link_index.proofs.CallLaws.{beside-refused}
-use borrow.Author.Rules.{rules}
 use Rattle.link_index.proofs.checks.check_wide_indexed.Goals as goal
 
 pub returns-then-f-ne0 : goal.returns-then-f-ne0
@@ -13,4 +12,3 @@ returns-then-f-ne0 c = let a = c.args in
 
 pub check_wide_within-requires : goal.check_wide_within-requires
 check_wide_within-requires c = (ap (λ (x : Refusal). x.number) (sym c.lengths_fault-f.ensures) ∙ c.if-f-ne0.false, sym c.image_room-room.ensures)
-

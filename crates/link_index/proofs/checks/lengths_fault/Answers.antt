@@ -3,7 +3,6 @@ use mathlib.Core.Bool.{Bool, ◌&&◌}
 use lib.Dec.{leb}
 use borrow.Author.Tests.{le-leb, lt-leb}
 use Rattle.link_index.proofs.CallLaws.{links_unfit, links_fit}
-use borrow.Author.Rules.{rules}
 use Rattle.link_index.proofs.checks.lengths_fault.Goals as goal
 
 pub returns-then-l-lt2 : goal.returns-then-l-lt2
@@ -14,4 +13,3 @@ returns-then-l-gt4000 c = let a = c.args in c.refused_unless-then-l-gt4000.ensur
 
 pub returns : goal.returns
 returns c = let a = c.args in c.refused_unless-2.ensures ∙ links_fit a.l a.m c.if-l-lt2.false c.if-l-gt4000.false
-

@@ -5,7 +5,6 @@ use Rattle.link_rules.specs.Refusals.{or_else, refused_unless}
 use Rattle.link_rules.specs.declared.refusal.Refusal.{Refusal}
 use Rattle.link_index.specs.Indexed.{own_six}
 use Rattle.link_index.proofs.CallLaws.{train-none, train_large, train-fits, six_first, six_none}
-use borrow.Author.Rules.{rules}
 use Rattle.link_index.proofs.layout.lay_out_fault.Goals as goal
 
 pub returns-then-train-lt1 : goal.returns-then-train-lt1
@@ -28,4 +27,3 @@ returns c = let a = c.args in
     ∙ (six_none a.est.now a.settings a.size a.m f.result c.if-own-eq6.false
     ∙ (ap (λ (g : Refusal). or_else (own_six g) (refused_unless (eqb a.m a.settings.links) 25)) f.ensures
     ∙ train-fits a.est.now a.settings a.size a.m (omega (arith, c.if-train-lt1.false)) (omega (arith, c.if-train-gt63.false))))
-

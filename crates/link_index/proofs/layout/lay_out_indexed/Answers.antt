@@ -4,7 +4,6 @@ use lib.ListN.{length}
 use Rattle.link_rules.specs.declared.refusal.Refusal.{Refusal}
 use Rattle.train_disp.proofs.LayOutLaws.{sizes-fit, sizes_give}
 use Rattle.link_index.proofs.CallLaws.{lay_refused, lay_as, lay_fits}
-use borrow.Author.Rules.{rules}
 use Rattle.link_index.proofs.layout.lay_out_indexed.Goals as goal
 
 pub returns-then-f-ne0 : goal.returns-then-f-ne0
@@ -25,4 +24,3 @@ returns c = let a = c.args in
     let f = c.lay_out_fault-f in
     let w = c.lay_out_watched in
     lay_as a.est.now a.settings a.image.now a.index.now (ap (λ (x : Refusal). x.number) (sym f.ensures) ∙ c.if-f-ne0.false) w.result w.new.image w.new.index w.ensures
-

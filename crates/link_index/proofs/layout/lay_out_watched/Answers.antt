@@ -9,7 +9,6 @@ use Rattle.layout_laws.proofs.LaidOut.{laid-length}
 use Rattle.yard_check.specs.Bytes.{same_bytes}
 use Rattle.link_index.specs.Slots.{slot_built}
 use Rattle.link_index.proofs.CallLaws.{kept_by}
-use borrow.Author.Rules.{rules}
 use Rattle.link_index.proofs.layout.lay_out_watched.Goals as goal
 
 pub returns-then-differs : goal.returns-then-differs
@@ -27,4 +26,3 @@ returns-else-differs c = let a = c.args in
     let long = ap (λ (z : Laid). length z.image) l.ensures ∙ laid-length a.est.now a.settings a.image.now in
     let d = kept_by a.room.now a.image.now l.new.image long c.requires.2 c.differs.result (c.differs.ensures ∙ ap (λ (x : List ℕ). leb (length l.new.image) (length x) && not (same_bytes (take (length l.new.image) x) l.new.image)) p.ensures) in
     record { image = l.ensures; bits = ap (λ (b : Bool). cond b (slot_built l.new.image a.settings.train_idx.0 a.index.now) a.index.now) (sym c.if-differs.false ∙ d) }
-

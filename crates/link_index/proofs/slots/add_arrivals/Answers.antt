@@ -1,5 +1,5 @@
 use mathlib.Core.Path.{◌≡◌, refl, ap, ap₂, ◌∙◌}
-use Prim.Native.Nat.{ℕ, ◌+◌, ◌-◌, ◌≤◌}
+use Prim.Native.Nat.{ℕ, ◌+◌}
 use mathlib.Core.List.{List}
 use native.Mathlib.Omega.{arith}
 use lib.ListN.{length}
@@ -7,7 +7,6 @@ use Rattle.image_fault.specs.ImageFault.{arrived}
 use Rattle.disp_structs.specs.declared.LinkEvent.{LinkEvent}
 use Rattle.link_index.specs.Slots.{arrival_added, arrivals_added}
 use Rattle.link_index.proofs.SlotLaws.{added_length, arrivals_start, arrivals_turn}
-use borrow.Author.Rules.{rules}
 use Rattle.link_index.proofs.slots.add_arrivals.Goals as goal
 
 pub loop-i-init : goal.loop-i-init
@@ -29,4 +28,3 @@ returns c = let g = c.loop-i in
     let a = c.args in
     let e : g.i ≡ c.path_count-n.result = omega (arith, g.invariant.0, c.loop-i-test.false) in
     g.invariant.2 ∙ ap (λ (n : ℕ). arrivals_added a.image.now n a.t a.index.now) (e ∙ c.path_count-n.ensures)
-

@@ -5,7 +5,6 @@ use native.Mathlib.Omega.{arith}
 use Rattle.image.specs.Image.{path_count_of}
 use Rattle.link_index.specs.Slots.{arrivals_added}
 use Rattle.link_index.proofs.SlotLaws.{built-accepted, built-refused}
-use borrow.Author.Rules.{rules}
 use Rattle.link_index.proofs.slots.build_slot.Goals as goal
 
 pub overflow_cast-links : goal.overflow_cast-links
@@ -21,4 +20,3 @@ returns-then-is_accepted c = let a = c.args in
 pub returns : goal.returns
 returns c = let a = c.args in
     c.clear_slot.ensures ∙ built-refused a.t a.index.now a.image.now (sym c.is_accepted.ensures ∙ c.if-is_accepted.false)
-

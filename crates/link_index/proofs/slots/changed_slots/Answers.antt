@@ -1,11 +1,10 @@
 use mathlib.Core.Path.{◌≡◌, refl, ap, ◌∙◌}
 use mathlib.Core.Bool.{true, cond}
-use Prim.Native.Nat.{ℕ, ◌-◌, ◌≤◌}
+use Prim.Native.Nat.{ℕ}
 use native.Mathlib.Omega.{arith}
 use Rattle.link_index.specs.Bits.{number_of, with_bit}
 use Rattle.link_index.specs.LinkIndex.{changed}
 use Rattle.link_index.proofs.BitLaws.{number-next}
-use borrow.Author.Rules.{rules}
 use Rattle.link_index.proofs.slots.changed_slots.Goals as goal
 
 pub loop-t-init : goal.loop-t-init
@@ -26,4 +25,3 @@ returns c = let g = c.loop-t in
     let a = c.args in
     let e : g.t ≡ 64 = omega (arith, g.invariant.0, c.loop-t-test.false) in
     g.invariant.1 ∙ ap (number_of (changed a.old.now a.new.now)) e
-

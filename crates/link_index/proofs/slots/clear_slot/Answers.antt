@@ -1,12 +1,11 @@
 use mathlib.Core.Path.{◌≡◌, refl, ap, ◌∙◌}
-use Prim.Native.Nat.{ℕ, ◌+◌, ◌-◌, ◌≤◌, ◌<◌}
+use Prim.Native.Nat.{ℕ, ◌+◌, ◌<◌}
 use mathlib.Core.Bool.{false}
 use mathlib.Core.List.{List}
 use native.Mathlib.Omega.{arith}
 use lib.ListN.{length, get_or, set}
 use Rattle.link_index.specs.Bits.{with_bit}
 use Rattle.link_index.proofs.SlotLaws.{cleared_to, cleared_start, cleared_length, cleared_turn, cleared_end}
-use borrow.Author.Rules.{rules}
 use Rattle.link_index.proofs.slots.clear_slot.Goals as goal
 
 pub loop-l-init : goal.loop-l-init
@@ -29,4 +28,3 @@ pub returns : goal.returns
 returns c = let g = c.loop-l in
     let a = c.args in
     g.invariant.2 ∙ cleared_end a.t a.index.now g.l (omega (arith, c.loop-l-test.false, g.invariant.1))
-

@@ -1,12 +1,11 @@
 use mathlib.Core.Path.{◌≡◌, refl, ap, ◌∙◌}
 use mathlib.Core.List.{List}
-use Prim.Native.Nat.{ℕ, ◌+◌, ◌-◌, ◌≤◌}
+use Prim.Native.Nat.{ℕ, ◌+◌}
 use native.Mathlib.Omega.{arith}
 use lib.ListN.{length}
 use Rattle.link_index.specs.Bits.{bit_of}
 use Rattle.link_index.specs.Slots.{slots_done, slot_rebuilt}
 use Rattle.link_index.proofs.SlotLaws.{slots_length, slots_start, slots-turn}
-use borrow.Author.Rules.{rules}
 use Rattle.link_index.proofs.slots.rebuild_slots.Goals as goal
 
 pub loop-t-init : goal.loop-t-init
@@ -32,4 +31,3 @@ returns c = let g = c.loop-t in
     let a = c.args in
     let e : g.t ≡ 64 = omega (arith, g.invariant.0, c.loop-t-test.false) in
     g.invariant.2 ∙ ap (λ (n : ℕ). slots_done (bit_of a.set) a.yard.now n a.index.now) e
-

@@ -1,12 +1,8 @@
-use mathlib.Core.Path.{◌≡◌, refl, ap, ◌∙◌}
-use mathlib.Core.List.{List}
-use Prim.Native.Nat.{ℕ, ◌+◌, ◌-◌, ◌≤◌}
-use native.Mathlib.Omega.{arith}
+use mathlib.Core.Path.{◌≡◌}
+use Prim.Native.Nat.{◌-◌, ◌≤◌}
 use lib.ListN.{length}
 use Rattle.link_index.specs.Bits.{bit_of}
-use Rattle.link_index.specs.Slots.{slots_done, slot_rebuilt}
-use Rattle.link_index.proofs.SlotLaws.{slots_length, slots_start, slots-turn}
-use borrow.Author.Rules.{rules}
+use Rattle.link_index.specs.Slots.{slots_done}
 use Rattle.link_index.proofs.slots.rebuild_slots.Given as goal
 
 abbrev pub invariant-loop-t : goal.invariant-loop-t
@@ -14,4 +10,3 @@ invariant-loop-t l = (l.t ≤ 64) × (length l.index ≡ length l.initial.index)
 
 abbrev pub decreases-loop-t : goal.decreases-loop-t
 decreases-loop-t l = 64 - l.t
-

@@ -3,7 +3,6 @@ use mathlib.Core.Bool.{Bool, true, cond, not}
 use Rattle.yard_check.specs.Bytes.{same_bytes}
 use Rattle.link_index.specs.Bits.{with_bit}
 use Rattle.link_index.specs.LinkIndex.{changed}
-use borrow.Author.Rules.{rules}
 use Rattle.link_index.proofs.slots.with_changed.Goals as goal
 
 pub returns-then-same_bytes : goal.returns-then-same_bytes
@@ -17,4 +16,3 @@ unfolding changed
 returns c = let a = c.args in
     let e = sym (ap₂ same_bytes c.image_in.ensures c.image_in-2.ensures) ∙ (sym c.same_bytes.ensures ∙ c.if-same_bytes.false) in
     c.with_bit.ensures ∙ sym (ap (λ (b : Bool). cond (not b) (with_bit a.set a.t true) a.set) e)
-

@@ -11,7 +11,6 @@ use Rattle.undo.specs.Undo.{Undone, undoing}
 use Rattle.undo.proofs.UndoLaws.{undo-fits, undo-done, undo-refused}
 use Rattle.link_index.specs.LinkIndex.{refreshed}
 use Rattle.link_index.proofs.CallLaws.{refreshed_self, undo-long, undo_as, over-few}
-use borrow.Author.Rules.{rules}
 use Rattle.link_index.proofs.undoing.undo_indexed.Goals as goal
 
 pub returns-then-f-ne0 : goal.returns-then-f-ne0
@@ -40,4 +39,3 @@ returns c = let a = c.args in
     undo_as yard r a.index.now clean (Stepped.Refused c.refused_unless.result) yard a.index.now
     (ap (λ (f : Refusal). undoing (Stepped.Refused f) yard) c.refused_unless.ensures ∙ sym (undo-refused yard r (sym c.undo_fits.ensures ∙ c.if-undo_fits.false)))
     (sym (refreshed_self yard a.index.now (λ i. omega (arith, c.slice_known-2-1.given i))))
-

@@ -1,4 +1,3 @@
-use borrow.Author.Rules.{rules}
 use mathlib.Core.Path.{◌≡◌, sym, ap, ◌∙◌}
 use Prim.Native.Nat.{ℕ, ◌/◌, ◌%◌, ◌*◌, ◌-◌, ◌^◌, ◌+◌, ◌≤◌, ◌<◌}
 use native.Mathlib.Nat.{one-mul, mod-lt}
@@ -42,4 +41,3 @@ returns c = let a = c.args in
     c.nearest_to.ensures
     ∙ ap (λ (x : ℕ). nearest_to a.ties (0x10_0000_0000_0000 + a.bits % 0x10_0000_0000_0000) x) (shifted_one k l)
     ∙ sym (metres_shifted a.bits c.requires a.ties c.if-exponent-lt1022.false)
-

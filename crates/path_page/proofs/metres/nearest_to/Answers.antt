@@ -1,4 +1,3 @@
-use borrow.Author.Rules.{rules}
 use mathlib.Core.Path.{sym, ap, ◌∙◌}
 use Prim.Native.Nat.{◌/◌, ◌+◌}
 use native.Mathlib.Nat.{div-le_self, mod-lt}
@@ -35,4 +34,3 @@ pub returns-in-Even : goal.returns-in-Even
 returns-in-Even c = let a = c.args in
     ap (λ (t : Ties). a.n / a.d + half_adds t (a.n / a.d)) (sym c.in-Even.is)
     ∙ nearest_half a.ties a.n a.d (omega (arith, c.if-d-twice.false, c.if-twice-d.false))
-

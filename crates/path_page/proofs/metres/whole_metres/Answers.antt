@@ -1,4 +1,3 @@
-use borrow.Author.Rules.{rules}
 use mathlib.Core.Path.{ap, sym, ◌∙◌}
 use Rattle.disp_structs.specs.Floats.{real_of}
 use Rattle.image_fault.specs.ImageFault.{float_fits}
@@ -21,4 +20,3 @@ returns c = let a = c.args in
     let back = ap real_of bits.ensures ∙ bits_back a.x c.well_formed.1.0.1 c.requires in
     whole_some a.ties a.x c.metres_of-metres.result _ (c.metres_of-metres.ensures ∙ ap (metres_of a.ties) back) c.if-metres-eq0.false
     (sym (ap is_negative back) ∙ negative_is bits.result fit)
-

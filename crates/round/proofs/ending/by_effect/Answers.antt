@@ -5,7 +5,6 @@ use mathlib.Core.Bool.{true}
 use Rattle.est_times.proofs.Counting.{clash}
 use Rattle.search.specs.Effects.{onward}
 use Rattle.round.proofs.EndLaws.{ends-blocked}
-use borrow.Author.Rules.{rules}
 use Rattle.round.proofs.ending.by_effect.Goals as goal
 
 -- src/ending.rt:54:1
@@ -26,4 +25,3 @@ returns-in-Stay c = clash true refl (sym (ap onward c.in-Stay.is) ∙ c.requires
 
 pub returns-in-GiveUp : goal.returns-in-GiveUp
 returns-in-GiveUp c = ((λ img dt dn r s f q. rw (c.in-GiveUp.is, c.blocked.ensures) (ends-blocked img dt dn c.args.h r s f q _)), ap (λ (y : RoundEnd). is_at_end y.end) c.blocked.ensures, ap (λ (y : RoundEnd). y.steps) c.blocked.ensures)
-

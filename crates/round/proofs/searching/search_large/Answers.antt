@@ -3,7 +3,6 @@ use Prim.Native.Nat.{ℕ}
 use native.Mathlib.Omega.{arith}
 use lib.ListN.{length-replicate}
 use Rattle.round.proofs.FitLaws.{round_accepted, est-long}
-use borrow.Author.Rules.{rules}
 use Rattle.round.proofs.searching.search_large.Goals as goal
 
 pub search_round-requires : goal.search_round-requires
@@ -31,4 +30,3 @@ search_round-requires c = let a = c.args in
 
 pub returns : goal.returns
 returns c = c.search_round.ensures
-

@@ -4,8 +4,6 @@ use mathlib.Core.List.{List, []}
 use Prim.Native.Nat.{ℕ}
 use lib.ListN.{length}
 use native.Mathlib.Omega.{arith}
-use borrow.Author.Rules.{rules}
-use borrow.Author.Tests.{not-true, not-false}
 use Rattle.disp_structs.specs.Listed.{listed}
 use Rattle.image.specs.Image.{est_count, diverge_room, node_at}
 use Rattle.update_definition.specs.State as State
@@ -18,7 +16,7 @@ use Rattle.update_laws.specs.Turns as Turns
 use Rattle.search.specs.Read.{divs_of, round_of, here_of, search_in, views_of, Arrays, arrays}
 use Rattle.search.specs.declared.Place.{Place}
 use Rattle.search.specs.declared.look.Here.{Here}
-use Rattle.search.specs.Effects.{leaves, effect_of, turn_of}
+use Rattle.search.specs.Effects.{effect_of, turn_of}
 use Rattle.search.proofs.TurnLaws.{turn-done}
 use Rattle.search.specs.Runs.{end_of, Ran}
 use Rattle.splice.specs.Read.{Stands, Joins, Changes}
@@ -69,8 +67,7 @@ returns-then-not-is_left c =
     let first : State.Search = search_in c.args.r.est_count c.args.start [] (divs_of c.args.start.div_count c.args.nt.now c.args.nn.now) (arrays c.args.pool.now c.args.begins.now c.args.ends.now) in
     let looked : State.Search = search_in c.args.r.est_count place (listed count (node_at c.run-s.new.fresh)) (divs_of place.div_count c.run-s.new.nt c.run-s.new.nn) lent in
     let ran : Ran (length occ) round first c.run-s.result.go c.run-s.result.effect (here_of here) c.run-s.result.steps looked = c.run-s.ensures.0 (train_of img dt dn c.args.h) c.requires.2.begun in
-    let gives : (x : Res State.Ended) (z : Res State.Turn) → x ≡ end_of ran.after z → z ≡ turn_of c.run-s.result.go c.run-s.result.effect round (here_of here) looked → x ≡ search_from (turn_limit round.train) round first = λ x z p q. p ∙ ap (end_of ran.after) q ∙ sym ran.is in
-    (
+    let gives : (x : Res State.Ended) (z : Res State.Turn) → x ≡ end_of ran.after z → z ≡ turn_of c.run-s.result.go c.run-s.result.effect round (here_of here) looked → x ≡ search_from (turn_limit round.train) round first = λ x z p q. p ∙ ap (end_of ran.after) q ∙ sym ran.is in (
       gives _ (effect_of round looked c.run-s.result.effect) (c.by_effect.ensures.0 img dt dn round looked ran.after (train-is img dt dn c.args.h c.args.r c.requires.2.numbers))
           (sym (turn-done c.run-s.result.go c.run-s.result.effect round (here_of here) looked l)),
       (λ q. record { size = refl; below = λ i h. refl }),

@@ -7,7 +7,6 @@ use Rattle.search.specs.Read.{round_of}
 use Rattle.search.specs.Runs.{SearchBegins}
 use Rattle.update_definition.specs.ImageTrain.{train_of}
 use Rattle.round.proofs.StartLaws.{zeroed-same}
-use borrow.Author.Rules.{rules}
 use Rattle.round.proofs.searching.search_small.Goals as goal
 
 pub search_round-requires : goal.search_round-requires
@@ -39,4 +38,3 @@ pub returns : goal.returns
 returns c = let a = c.args in
     let x = c.search_round in
     rw (← zeroed-same 64 64 a.r.est_count a.start) x.ensures
-

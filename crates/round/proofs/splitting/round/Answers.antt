@@ -6,7 +6,6 @@ use Rattle.update_definition.specs.ImageTrain.{train_of}
 use Rattle.round.specs.Rounds.{is_at_end}
 use Rattle.round.specs.declared.RoundEnd.{RoundEnd}
 use Rattle.round.proofs.RoundLaws.{sentinels_refused, sentinels_steps, sentinels_met, round-met, split-met, split-refused, split_steps, round_end, end-steps, round_on, on_steps, split-first}
-use borrow.Author.Rules.{rules}
 use Rattle.round.proofs.splitting.round.Goals as goal
 
 -- src/splitting.rt:145:57
@@ -26,4 +25,3 @@ search_at-x-requires c = let a = c.args in let g = c.requires in (g.0, g.1, g.2,
 
 pub returns : goal.returns
 returns c = let a = c.args in let g = c.requires in let x = c.search_at-x in rw c.with_met.ensures ((λ blocking start. x.ensures.0 blocking start ∙ round_on a.occ.now a.img.now a.dt.now a.dn.now a.col.now a.h a.g blocking start a.split a.div_split g.3 c.calc_idx_sentinels-z.result.code (record { node = c.calc_idx_sentinels-z.result.node; divs = c.calc_idx_sentinels-z.result.divs }) c.calc_idx_sentinels-z.ensures c.if-z-ne0.false c.split_point-i.result.code c.split_point-i.result.index c.split_point-i.ensures.0 c.if-i-ne0.false (omega (arith, c.if-n-i.false))), x.ensures.1, (λ q. clash (is_at_end x.result.end) q x.ensures.2), (λ blocking start. x.ensures.3 blocking start ∙ on_steps a.occ.now a.img.now a.dt.now a.dn.now a.col.now a.h a.g blocking start a.split a.div_split g.3 c.calc_idx_sentinels-z.result.code (record { node = c.calc_idx_sentinels-z.result.node; divs = c.calc_idx_sentinels-z.result.divs }) c.calc_idx_sentinels-z.ensures c.if-z-ne0.false c.split_point-i.result.code c.split_point-i.result.index c.split_point-i.ensures.0 c.if-i-ne0.false (omega (arith, c.if-n-i.false))), (λ blocking start. round-met a.occ.now a.img.now a.dt.now a.dn.now a.col.now a.h a.g blocking start a.split a.div_split g.3 c.calc_idx_sentinels-z.result.code (record { node = c.calc_idx_sentinels-z.result.node; divs = c.calc_idx_sentinels-z.result.divs }) c.calc_idx_sentinels-z.ensures c.if-z-ne0.false c.split_point-i.result.met c.split_point-i.ensures.1))
-

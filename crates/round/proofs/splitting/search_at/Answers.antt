@@ -9,7 +9,6 @@ use Rattle.round_start.specs.Start.{divided_at}
 use Rattle.round.specs.Rounds.{is_at_end}
 use Rattle.round.specs.declared.RoundEnd.{RoundEnd}
 use Rattle.round.proofs.StartLaws.{divide_refused, divide_steps, save-refused, save-steps, searching, search_is, steps-is}
-use borrow.Author.Rules.{rules}
 use Rattle.round.proofs.splitting.search_at.Goals as goal
 
 -- src/splitting.rt:113:49
@@ -47,4 +46,3 @@ returns c = let a = c.args in
     let e : ok d.result.index ≡ divided_at (divs_of a.h.diverge_count a.dt.now a.dn.now) a.split a.div_split (record { node = a.z.node; divs = a.z.divs }) = ap (λ (n : ℕ). answer n d.result.index) (sym c.if-d-ne0.false) ∙ d.ensures.0 a.dt.now in
     let f : ok s.result.index ≡ save_point (path_of a.img.now a.h.path_count) a.h.fixed a.split = ap (λ (n : ℕ). answer n s.result.index) (sym c.if-k-ne0.false) ∙ s.ensures.0 in
     ((λ blocking start. x.ensures.0 ∙ rw c.place_of-p.ensures (search_is a.occ.now a.img.now a.on.now a.dt.now a.dn.now a.h g.0 r.result r.ensures.0 a.split d.result.index s.result.index a.g blocking start a.div_split (record { node = a.z.node; divs = a.z.divs }) g.4 r.ensures.1 r.ensures.2 r.ensures.3 e f)), x.ensures.1, x.ensures.2, (λ blocking start. x.ensures.3 ∙ rw c.place_of-p.ensures (steps-is a.occ.now a.img.now a.on.now a.dt.now a.dn.now a.h g.0 r.result r.ensures.0 a.split d.result.index s.result.index a.g blocking start a.div_split (record { node = a.z.node; divs = a.z.divs }) g.4 r.ensures.1 r.ensures.2 r.ensures.3 e f)))
-

@@ -1,5 +1,4 @@
 use Rattle.round_start.proofs.DivideLaws.{sentinel-none, sentinel_past, sentinel-other, sentinel-here}
-use borrow.Author.Rules.{rules}
 use Rattle.round_start.proofs.diverge.at_sentinel.Goals as goal
 
 pub returns-then-k-eq0 : goal.returns-then-k-eq0
@@ -17,4 +16,3 @@ pub returns : goal.returns
 returns c = let a = c.args in
     let x = c.u32_of in
     λ ts. sentinel-here a.m ts a.dn.now a.split a.k c.if-k-eq0.false c.if-m-k.false x.result x.ensures c.if-u32_of-split.false
-

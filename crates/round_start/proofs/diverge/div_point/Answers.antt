@@ -1,7 +1,6 @@
 use native.Mathlib.Omega.{arith}
 use borrow.Author.Tests.{eq-eqb, ne_eqb}
 use Rattle.round_start.proofs.DivideLaws.{none_above}
-use borrow.Author.Rules.{rules}
 use Rattle.round_start.proofs.diverge.div_point.Goals as goal
 
 pub returns-then-split-node : goal.returns-then-split-node
@@ -15,4 +14,3 @@ returns-then-split-gt4294967295 c = let a = c.args in
 pub returns : goal.returns
 returns c = let a = c.args in
     λ ts. rw (ne_eqb a.split a.node c.if-split-node.false) (c.walk_above-k.ensures ts)
-

@@ -1,6 +1,5 @@
 use native.Mathlib.Omega.{arith}
 use Rattle.round_start.proofs.DivideLaws.{parted_none, parted_past, parted_high, parted_low, parted_here}
-use borrow.Author.Rules.{rules}
 use Rattle.round_start.proofs.diverge.parted.Goals as goal
 
 pub returns-then-k-eq0 : goal.returns-then-k-eq0
@@ -26,4 +25,3 @@ returns c = let a = c.args in
     let y = c.u32_of-2 in
     let z = c.if-k-eq0.false in
     (λ ts. parted_here a.m ts a.dn.now a.split a.k z c.if-m-k.false x.result x.ensures c.if-split-u32_of.false y.result y.ensures c.if-u32_of-split.false, λ _. (omega (arith, z), omega arith))
-

@@ -1,5 +1,4 @@
 use mathlib.Core.Path.{refl}
-use borrow.Author.Rules.{rules}
 use Rattle.round_start.proofs.limit.offset_cancel.Goals as goal
 
 pub returns-then-local : goal.returns-then-local
@@ -7,4 +6,3 @@ returns-then-local c = rw (c.if-local.true, c.maximum.ensures)
 
 pub returns : goal.returns
 returns c = rw c.if-local.false refl
-

@@ -1,11 +1,7 @@
-use mathlib.Core.Path.{◌≡◌, refl, sym, ◌∙◌}
-use Prim.Native.Nat.{◌-◌}
+use mathlib.Core.Path.{refl, sym, ◌∙◌}
 use native.Mathlib.Omega.{arith}
-use lib.ListN.{drop}
-use Rattle.image.specs.Image.{node_at, path_of}
-use Rattle.free_path.specs.LinkOptType.{links_on_path, contains}
+use Rattle.image.specs.Image.{node_at}
 use Rattle.round_start.proofs.PathLaws.{has_link, has_turn, has_end}
-use borrow.Author.Rules.{rules}
 use Rattle.round_start.proofs.path.on_path.Goals as goal
 
 pub loop-i-init : goal.loop-i-init
@@ -25,4 +21,3 @@ pub returns : goal.returns
 returns c = let a = c.args in
     let l = c.loop-i in
     has_end a.n (node_at a.img.now) a.l l.i (omega arith) ∙ l.invariant
-

@@ -3,7 +3,6 @@ use Rattle.disp_structs.specs.Listed.{listed}
 use Rattle.free_path.specs.Columns.{link_at}
 use Rattle.free_path.specs.LinkOptType.{train_met}
 use Rattle.round_start.proofs.SplitLaws.{meet_back, meet_past, meet_go}
-use borrow.Author.Rules.{rules}
 use Rattle.round_start.proofs.split.meeting.Goals as goal
 
 pub returns-then-sentinel-split : goal.returns-then-sentinel-split
@@ -23,4 +22,3 @@ returns c = let a = c.args in
     let f = c.find_train_intersect-x in
     let e = meet_go a.class a.occ.now a.col.now a.n a.free a.split a.sentinel c.if-sentinel-split.false b.result b.ensures c.if-n-begin.false in
     (f.ensures.0 ∙ e, f.ensures.1 ∙ ap (train_met a.sentinel (listed a.n (link_at a.col.now)) a.occ.now) e)
-

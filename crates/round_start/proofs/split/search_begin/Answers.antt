@@ -9,4 +9,3 @@ returns-then-free-sentinel c = let a = c.args in begin-free a.split a.free a.sen
 
 pub returns : goal.returns
 returns c = let a = c.args in begin-sentinel a.split a.free a.sentinel c.if-free-split.false c.if-free-sentinel.false
-

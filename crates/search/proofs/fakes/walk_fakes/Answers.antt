@@ -1,14 +1,11 @@
-use mathlib.Core.Path.{◌≡◌, refl, sym, ap, ◌∙◌}
+use mathlib.Core.Path.{refl, sym, ap, ◌∙◌}
 use mathlib.Core.Bool.{not}
-use Prim.Native.Nat.{◌-◌}
 use native.Mathlib.Omega.{arith}
 use Rattle.disp_structs.specs.Values.{is_fake}
 use Rattle.disp_structs.specs.declared.LinkEvent.{LinkEvent}
-use Rattle.image.specs.Image.{node_at, path_of}
-use Rattle.free_path.specs.Base.{walk_from}
+use Rattle.image.specs.Image.{node_at}
 use Rattle.splice.proofs.ListLaws.{walk_hit, walk_miss, walk_none}
 use Rattle.update_definition.specs.Moves.{not_fake}
-use borrow.Author.Rules.{rules}
 use Rattle.search.proofs.fakes.walk_fakes.Goals as goal
 
 pub loop-k-init : goal.loop-k-init
@@ -28,4 +25,3 @@ pub returns : goal.returns
 returns c = let a = c.args in
     let l = c.loop-k in
     (sym (walk_none not_fake a.n (node_at a.img.now) l.k (omega arith)) ∙ l.invariant, omega arith)
-

@@ -1,5 +1,4 @@
 use Rattle.search.proofs.LookLaws.{rising_zero, rising_out, rising_in}
-use borrow.Author.Rules.{rules}
 use Rattle.search.proofs.look.between_divs.Goals as goal
 
 pub returns-then-i-eq0 : goal.returns-then-i-eq0
@@ -16,4 +15,3 @@ pub returns : goal.returns
 returns c = λ t.
     let a = c.args in
     rising_in a.m t a.dn.now a.i c.if-i-eq0.false c.if-m-i.false c.u32_of.result c.u32_of.ensures c.u32_of-2.result c.u32_of-2.ensures
-

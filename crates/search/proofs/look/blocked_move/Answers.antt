@@ -1,6 +1,5 @@
 use mathlib.Core.Path.{sym, ◌∙◌}
 use borrow.Author.Tests.{eq-eqb, ne_eqb}
-use borrow.Author.Rules.{rules}
 use Rattle.search.proofs.look.blocked_move.Goals as goal
 
 pub returns-then-alt-eq0 : goal.returns-then-alt-eq0
@@ -22,4 +21,3 @@ pub returns : goal.returns
 returns c = λ b.
     let a = c.args in
     rw (ne_eqb a.alt.0 0 c.if-alt-eq0.false, sym (c.is_blocked.ensures b) ∙ c.if-is_blocked.false, sym c.is_on_path.ensures ∙ c.if-is_on_path.false)
-

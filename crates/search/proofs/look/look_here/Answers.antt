@@ -1,9 +1,7 @@
 use native.Mathlib.Omega.{arith}
 use mathlib.Core.Path.{sym, ap, ◌∙◌}
 use Rattle.search.specs.declared.look.Here.{Here}
-use borrow.Author.Tests.{not-true, not-false}
 use Rattle.search.proofs.LookLaws as L
-use borrow.Author.Rules.{rules}
 use Rattle.search.proofs.look.look_here.Goals as goal
 
 pub returns-then-n-curr : goal.returns-then-n-curr
@@ -43,4 +41,3 @@ pub returns : goal.returns
 returns c = let a = c.args in
     let p = c.requires in
     ((λ b t. L.look-good a.r a.p a.curr a.img.now b a.ends.now t a.dn.now c.if-n-curr.false (sym (c.is_blocked.ensures b) ∙ c.if-is_blocked.false) c.whole_est-est.result (L.est-inside a.img.now a.r.est_count a.curr.est_idx.0 p.1 c.if-n-curr.false c.whole_est-est.result c.whole_est-est.ensures) c.if-est-eq0.false c.if-n-est.false c.between_divs.result (c.between_divs.ensures t) (c.if-not-between_divs.false) c.whole_est.result (L.est-inside a.img.now a.r.est_count c.whole_est-est.result.idx_next.0 p.1 c.if-n-est.false c.whole_est.result c.whole_est.ensures)), omega arith)
-

@@ -1,6 +1,5 @@
 use mathlib.Core.Path.{sym, ◌∙◌}
-use borrow.Author.Tests.{not-true, not-false, le-leb, lt-leb}
-use borrow.Author.Rules.{rules}
+use borrow.Author.Tests.{le-leb, lt-leb}
 use Rattle.search.proofs.look.meets_train.Goals as goal
 
 pub returns-then-is_blocked : goal.returns-then-is_blocked
@@ -21,4 +20,3 @@ pub returns : goal.returns
 returns c = λ p new divs pool b e.
     let a = c.args in
     rw (sym (c.is_blocked.ensures b) ∙ c.if-is_blocked.false, e, le-leb a.free a.h.idx_join_new c.if-h-free.false, sym c.is_arrive.ensures ∙ c.if-not-is_arrive.false) c.is_occupied.ensures
-

@@ -1,4 +1,3 @@
-
 use Rattle.search.proofs.look.met_or.Goals as goal
 
 pub returns-then-met : goal.returns-then-met
@@ -8,4 +7,3 @@ returns-then-met c = let a = c.args in
 pub returns : goal.returns
 returns c = let a = c.args in
     rw c.if-met.false
-

@@ -1,6 +1,4 @@
-use borrow.Author.Rules.{rules}
 use Rattle.search.proofs.look.nowhere.Goals as goal
 
 pub returns : goal.returns
 returns c = cc
-

@@ -1,12 +1,10 @@
 use mathlib.Core.Path.{◌≡◌}
-use mathlib.Core.List.{◌++◌, append-nil}
-use Prim.Native.Nat.{◌+◌, ◌-◌, ◌≤◌}
+use mathlib.Core.List.{append-nil}
 use native.Mathlib.Omega.{arith}
 use native.Mathlib.Nat.{add-zero}
-use lib.ListN.{length, take}
+use lib.ListN.{take}
 use Rattle.free_path.specs.Columns.{trains}
 use Rattle.disp_structs.specs.Listed.{listed}
-use Rattle.search.specs.Read.{trains_from}
 use Rattle.search.proofs.BlockLaws.{push_turn}
 use borrow.Author.Rules.{rules}
 use Rattle.search.proofs.look.push_trains.Goals as goal
@@ -25,4 +23,3 @@ returns c = let a = c.args in
     let l = c.loop-j in
     let e : l.j ≡ a.k = omega arith in
     rw (← e) l.invariant.2
-

@@ -1,14 +1,9 @@
 use mathlib.Core.Path.{◌≡◌}
-use mathlib.Core.List.{◌++◌, append-nil}
+use mathlib.Core.List.{◌++◌}
 use Prim.Native.Nat.{◌+◌, ◌-◌, ◌≤◌}
-use native.Mathlib.Omega.{arith}
-use native.Mathlib.Nat.{add-zero}
 use lib.ListN.{length, take}
 use Rattle.free_path.specs.Columns.{trains}
-use Rattle.disp_structs.specs.Listed.{listed}
 use Rattle.search.specs.Read.{trains_from}
-use Rattle.search.proofs.BlockLaws.{push_turn}
-use borrow.Author.Rules.{rules}
 use Rattle.search.proofs.look.push_trains.Given as goal
 
 abbrev pub invariant-loop-j : goal.invariant-loop-j
@@ -16,4 +11,3 @@ invariant-loop-j l = (l.j ≤ l.k) × (length l.pool ≡ 2048) × (take (l.len +
 
 abbrev pub decreases-loop-j : goal.decreases-loop-j
 decreases-loop-j l = l.k - l.j
-

@@ -1,7 +1,6 @@
 use mathlib.Core.Path.{refl}
 use Rattle.search.specs.Read.{divs_of, search_of}
 use Rattle.search.proofs.StoredLaws.{settled_stop, settled-no, settled_late, settled_well}
-use borrow.Author.Rules.{rules}
 use Rattle.search.proofs.look.settle.Goals as goal
 
 pub returns-then-x-ne0 : goal.returns-then-x-ne0
@@ -23,4 +22,3 @@ returns c = let a = c.args in
     let b = c.node_before-b in
     let z = c.if-x-ne0.false in
     (refl, λ t new divs pool views. rw z (settled_well (divs_of a.m t a.dn.now) a.join 0 (search_of a.x.place new divs pool views) refl b.result.code b.result.index (b.ensures t) c.if-b-ne0.false c.if-join-b.false))
-

@@ -1,10 +1,8 @@
-use mathlib.Core.Path.{◌≡◌, ◌∙◌}
-use Prim.Native.Nat.{◌≤◌}
+use mathlib.Core.Path.{◌∙◌}
 use native.Mathlib.Omega.{arith}
 use Rattle.update_definition.specs.Look.{stored_from}
 use Rattle.search.specs.Read.{divs_of}
-use Rattle.search.proofs.StoredLaws.{with_met, met-none, walk_end, walk_stop, walk_turn}
-use borrow.Author.Rules.{rules}
+use Rattle.search.proofs.StoredLaws.{met-none, walk_end, walk_stop, walk_turn}
 use Rattle.search.proofs.look.stored_from.Goals as goal
 
 pub loop-k-init : goal.loop-k-init
@@ -28,4 +26,3 @@ pub returns : goal.returns
 returns c = let a = c.args in
     let l = c.loop-k in
     (walk_end a.m a.dt.now a.dn.now a.join a.moved l.k l.met (omega arith) ∙ l.invariant.1, omega arith)
-

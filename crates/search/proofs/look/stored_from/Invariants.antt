@@ -1,10 +1,8 @@
-use mathlib.Core.Path.{◌≡◌, ◌∙◌}
+use mathlib.Core.Path.{◌≡◌}
 use Prim.Native.Nat.{◌≤◌}
-use native.Mathlib.Omega.{arith}
 use Rattle.update_definition.specs.Look.{stored_from}
 use Rattle.search.specs.Read.{divs_of}
-use Rattle.search.proofs.StoredLaws.{with_met, met-none, walk_end, walk_stop, walk_turn}
-use borrow.Author.Rules.{rules}
+use Rattle.search.proofs.StoredLaws.{with_met}
 use Rattle.search.proofs.look.stored_from.Given as goal
 
 abbrev pub invariant-loop-k : goal.invariant-loop-k
@@ -12,4 +10,3 @@ invariant-loop-k l = (l.k ≤ l.from) × (with_met l.met (stored_from (divs_of l
 
 abbrev pub decreases-loop-k : goal.decreases-loop-k
 decreases-loop-k l = l.k
-

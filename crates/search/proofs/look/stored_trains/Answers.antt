@@ -5,7 +5,6 @@ use lib.ListN.{take}
 use Rattle.update_definition.specs.State as State
 use Rattle.search.specs.Read.{round_of, here_of, search_in, arrays, views_of, divs_of, settle}
 use Rattle.search.proofs.StoredLaws as L
-use borrow.Author.Rules.{rules}
 use Rattle.search.proofs.look.stored_trains.Goals as goal
 
 pub returns-then-d-ne0 : goal.returns-then-d-ne0
@@ -33,4 +32,3 @@ returns c = let a = c.args in
     let divs_in = divs_of a.r.diverge_count a.dt.now a.dn.now in
     λ t occ img mk.
     record { is = λ new divs. rw e (y.ensures.1 a.dt.now new divs (take k.result.place.pool_count (trains k.new.pool)) (views_of a.r.est_count k.new.begins k.new.ends) ∙ ap (λ (z : Res State.Search). z >>= λ u. settle divs_in a.h.idx_join_new u) ((k.ensures t occ img mk).is new divs) ∙ L.trains-at (round_of t occ img a.dt.now a.dn.now a.r) (here_of a.h) (search_in a.r.est_count a.p new divs (arrays a.pool.now a.begins.now a.ends.now)) d.result.code d.result.index (d.ensures a.dt.now) c.if-d-ne0.false c.if-d-join.false); small = rw e (k.ensures t occ img mk).small; kept = rw e (k.ensures t occ img mk).kept }
-

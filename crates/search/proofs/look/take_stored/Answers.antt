@@ -1,11 +1,9 @@
 use mathlib.Core.Path.{refl, sym, ◌∙◌}
 use native.Mathlib.Omega.{arith}
-use borrow.Author.Tests.{not-true, not-false}
 use Rattle.search.specs.Read.{round_of, here_of, search_in, arrays, stored_of}
 use mathlib.Core.Bool.{true}
 use Prim.Native.Nat.{◌≤◌}
 use Rattle.search.proofs.StoredLaws as L
-use borrow.Author.Rules.{rules}
 use Rattle.search.proofs.look.take_stored.Goals as goal
 
 pub returns-then-est-eq0 : goal.returns-then-est-eq0
@@ -59,4 +57,3 @@ returns c = let a = c.args in
     let g = c.block_stored.ensures in
     λ t occ img mk.
     record { is = λ new divs. (g t occ img a.dn.now x.result.met).is new divs ∙ L.take_block (round_of t occ img a.dt.now a.dn.now a.r) (here_of a.h) (search_in a.r.est_count a.p new divs (arrays a.pool.now a.begins.now a.ends.now)) c.if-est-eq0.false (sym (mk a.h.est_curr.idx_next_alt) ∙ sym c.is_on_path.ensures ∙ c.if-not-is_on_path.false) (sym (c.is_blocked.ensures a.begins.now) ∙ c.if-is_blocked.false) x.result.code (stored_of x.result) x.ensures.0 c.if-x-ne0.false c.if-x.false; small = (g t occ img a.dn.now x.result.met).small; kept = (g t occ img a.dn.now x.result.met).kept }
-

@@ -1,8 +1,5 @@
 use borrow.Author.Tests.{le-leb, lt-leb}
 use native.Mathlib.Omega.{arith}
-use borrow.Author.Rules.{rules}
-use Rattle.search.proofs.moves.alternate_free.Reads as reads
-use Rattle.search.proofs.moves.alternate_free.Lts as lts
 use Rattle.search.proofs.moves.alternate_free.Goals as goal
 
 -- src/moves.rt:211:1
@@ -13,4 +10,3 @@ returns-then-join-free c = let a = c.args in
 pub returns : goal.returns
 returns c = let a = c.args in
     (rw (lt-leb a.join a.free c.if-join-free.false), omega arith)
-

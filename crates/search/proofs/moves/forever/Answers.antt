@@ -1,12 +1,7 @@
 use mathlib.Core.Path.{ap, ◌∙◌}
 use Rattle.search.proofs.PushLaws.{seconds, forever_is}
 use Rattle.disp_structs.specs.Floats.{real_of}
-use borrow.Author.Rules.{rules}
-use Rattle.search.proofs.moves.forever.Reads as reads
-use Rattle.search.proofs.moves.forever.Lts as lts
-use Rattle.disp_structs.proofs.floats.real_of.Reads as real-of-reads
 use Rattle.search.proofs.moves.forever.Goals as goal
 
 pub returns : goal.returns
 returns c = ap seconds (c.real_of.ensures ∙ forever_is)
-

@@ -1,8 +1,5 @@
 use borrow.Author.Tests.{le-leb, lt-leb}
 use native.Mathlib.Omega.{arith}
-use borrow.Author.Rules.{rules}
-use Rattle.search.proofs.moves.least_of.Reads as reads
-use Rattle.search.proofs.moves.least_of.Lts as lts
 use Rattle.search.proofs.moves.least_of.Goals as goal
 
 -- src/moves.rt:67:9
@@ -14,4 +11,3 @@ returns-then-a-b c = let a = c.args in
 pub returns : goal.returns
 returns c = let a = c.args in
     (rw (lt-leb a.a a.b c.if-a-b.false), omega arith)
-

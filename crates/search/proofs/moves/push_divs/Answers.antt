@@ -1,10 +1,5 @@
-use mathlib.Core.Path.{refl, sym, ◌∙◌}
 use native.Mathlib.Omega.{arith}
 use Rattle.search.proofs.DepositLaws as L
-use borrow.Author.Rules.{rules}
-use Rattle.search.proofs.moves.push_divs.Reads as reads
-use Rattle.search.proofs.moves.push_divs.Lts as lts
-use Rattle.search.proofs.moves.store_divs.Reads as store-divs-reads
 use Rattle.search.proofs.moves.push_divs.Goals as goal
 
 -- src/moves.rt:277:9
@@ -29,4 +24,3 @@ pub returns : goal.returns
 returns c = let a = c.args in
     let s = c.requires in
     (L.deposit-room a.pool.now a.len a.v a.room a.count a.node a.nt.now a.nn.now s.0 s.1 c.if-e-b.false c.if-len-e.false c.if-room-count.false _ c.store_divs.ensures, omega arith)
-

@@ -1,13 +1,11 @@
 use mathlib.Core.Path.{refl, sym, ap, ◌∙◌}
 use native.Mathlib.Omega.{arith}
-use borrow.Author.Tests.{not-true, not-false}
 use Rattle.disp_structs.specs.Values.{near}
 use Rattle.image.specs.Image.{node_at}
 use Rattle.free_path.specs.Base.{ok}
 use Rattle.free_path.proofs.ColumnLaws.{listed_read, listed_out}
 use Rattle.search.specs.Read.{round_of, here_of, search_of}
 use Rattle.search.proofs.PushLaws as L
-use borrow.Author.Rules.{rules}
 use Rattle.search.proofs.moves.push_saved.Goals as goal
 
 pub returns-then-r-p : goal.returns-then-r-p
@@ -52,4 +50,3 @@ returns c = let a = c.args in
     let f = c.saved_free in
     let m = c.saved_node-m in
     ((λ t occ dt dn new divs pool views. rw m.ensures (L.saved_go (round_of t occ a.img.now dt dn a.r) (here_of a.h) (search_of a.p new divs pool views) n.result (listed_read a.r.path_count (node_at a.img.now) a.p.idx_save c.if-r-p.false ∙ ap ok (sym n.ensures)) (sym c.near.ensures ∙ c.if-not-near.false) (sym c.in_reach.ensures ∙ c.if-not-in_reach.false) k.result.code k.result.index k.ensures.0 c.if-k-ne0.false f.result f.ensures)), record { split = omega arith; div_split_of = s.0.div_split_of; save = omega (arith, k.ensures.1, s.1.path); divs = s.0.divs; pool = s.0.pool; free = λ b u v. omega (arith, f.ensures, u, v, s.2) }, refl, refl)
-

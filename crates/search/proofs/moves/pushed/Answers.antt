@@ -1,10 +1,5 @@
 use mathlib.Core.Path.{refl, sym, ◌∙◌}
-use borrow.Author.Tests.{not-true, not-false}
 use Rattle.search.proofs.PushLaws.{push_far, push_near}
-use borrow.Author.Rules.{rules}
-use Rattle.search.proofs.moves.pushed.Reads as reads
-use Rattle.search.proofs.moves.pushed.Lts as lts
-use Rattle.disp_structs.proofs.floats.in_reach.Reads as in-reach-reads
 use Rattle.search.proofs.moves.pushed.Goals as goal
 
 -- src/moves.rt:46:1
@@ -15,4 +10,3 @@ returns-then-not-in_reach c = let a = c.args in
 pub returns : goal.returns
 returns c = let a = c.args in
     (refl, λ r s. push_near s a.n (sym c.in_reach.ensures ∙ c.if-not-in_reach.false))
-

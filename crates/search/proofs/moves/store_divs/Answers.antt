@@ -1,16 +1,12 @@
-use mathlib.Core.Path.{◌≡◌, refl, sym, ap, ◌∙◌}
+use mathlib.Core.Path.{◌≡◌, refl, ap, ◌∙◌}
 use mathlib.Core.List.{List, ◌++◌, append-nil}
-use Prim.Native.Nat.{◌+◌, ◌-◌, ◌≤◌}
 use native.Mathlib.Omega.{arith}
 use native.Mathlib.Nat.{add-zero}
-use lib.ListN.{length}
 use Rattle.disp_structs.specs.declared.DivergeNode.{DivergeNode}
 use Rattle.disp_structs.specs.Listed.{listed}
 use Rattle.search.specs.Read.{divs_of}
-use Rattle.search.proofs.DepositLaws.{divs_from, divs-from, div_turn}
+use Rattle.search.proofs.DepositLaws.{divs-from, div_turn}
 use borrow.Author.Rules.{rules}
-use Rattle.search.proofs.moves.store_divs.Reads as reads
-use Rattle.search.proofs.moves.store_divs.Lts as lts
 use Rattle.search.proofs.moves.store_divs.Goals as goal
 
 -- src/moves.rt:236:30
@@ -33,4 +29,3 @@ returns c = let a = c.args in
     let l = c.loop-j in
     let e : l.j ≡ a.k = omega arith in
     rw (← e) (l.invariant.3 ∙ ap (λ (d : List DivergeNode). divs_of a.count a.nt.now a.nn.now ++ d) (divs-from a.node a.pool.now a.b l.j))
-

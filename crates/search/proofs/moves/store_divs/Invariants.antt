@@ -1,16 +1,9 @@
-use mathlib.Core.Path.{◌≡◌, refl, sym, ap, ◌∙◌}
-use mathlib.Core.List.{List, ◌++◌, append-nil}
+use mathlib.Core.Path.{◌≡◌}
+use mathlib.Core.List.{◌++◌}
 use Prim.Native.Nat.{◌+◌, ◌-◌, ◌≤◌}
-use native.Mathlib.Omega.{arith}
-use native.Mathlib.Nat.{add-zero}
 use lib.ListN.{length}
-use Rattle.disp_structs.specs.declared.DivergeNode.{DivergeNode}
-use Rattle.disp_structs.specs.Listed.{listed}
 use Rattle.search.specs.Read.{divs_of}
-use Rattle.search.proofs.DepositLaws.{divs_from, divs-from, div_turn}
-use borrow.Author.Rules.{rules}
-use Rattle.search.proofs.moves.store_divs.Reads as reads
-use Rattle.search.proofs.moves.store_divs.Lts as lts
+use Rattle.search.proofs.DepositLaws.{divs_from}
 use Rattle.search.proofs.moves.store_divs.Given as goal
 
 abbrev pub invariant-loop-j : goal.invariant-loop-j
@@ -18,4 +11,3 @@ invariant-loop-j l = (l.j ≤ l.k) × (length l.nt ≡ length l.initial.nt) × (
 
 abbrev pub decreases-loop-j : goal.decreases-loop-j
 decreases-loop-j l = l.k - l.j
-

@@ -1,9 +1,6 @@
 use mathlib.Core.Path.{refl}
 use Rattle.search.specs.Read.{round_of, here_of, search_of}
 use Rattle.search.proofs.RewindLaws.{stop_divs, stop_join, stop_good}
-use borrow.Author.Rules.{rules}
-use Rattle.search.proofs.rewind.give_up.Reads as reads
-use Rattle.search.proofs.rewind.give_up.Lts as lts
 use Rattle.search.proofs.rewind.give_up.Goals as goal
 
 -- src/rewind.rt:159:9
@@ -20,4 +17,3 @@ returns-then-h-p c = let a = c.args in
 pub returns : goal.returns
 returns c = let a = c.args in
     (refl, λ t occ img dt dn r new divs pool views l. stop_good (round_of t occ img dt dn r) (here_of a.h) a.holder (search_of a.p new divs pool views) a.p.div_count l c.if-p-ne1.false c.if-h-p.false)
-

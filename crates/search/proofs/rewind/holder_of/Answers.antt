@@ -1,7 +1,6 @@
 use mathlib.Core.Path.{ap, ◌∙◌}
 use Rattle.free_path.specs.Columns.{tr}
 use Rattle.search.proofs.RewindLaws.{held_empty, held_past, held_first}
-use borrow.Author.Rules.{rules}
 use Rattle.search.proofs.rewind.holder_of.Goals as goal
 
 pub returns-then-v : goal.returns-then-v
@@ -13,4 +12,3 @@ returns-then-len-i c = let a = c.args in held_past a.pool.now a.len a.v c.if-len
 pub returns : goal.returns
 returns c = let a = c.args in
     ap tr c.u32_of.ensures ∙ held_first a.pool.now a.len a.v c.if-v.false c.if-len-i.false
-

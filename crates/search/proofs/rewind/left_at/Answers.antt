@@ -1,8 +1,5 @@
 use borrow.Author.Tests.{lt-ltb, le-ltb}
 use mathlib.Core.Path.{refl}
-use borrow.Author.Rules.{rules}
-use Rattle.search.proofs.rewind.left_at.Reads as reads
-use Rattle.search.proofs.rewind.left_at.Lts as lts
 use Rattle.search.proofs.rewind.left_at.Goals as goal
 
 -- src/rewind.rt:148:9
@@ -14,4 +11,3 @@ returns-then-d-join c = let a = c.args in
 pub returns : goal.returns
 returns c = let a = c.args in
     (rw (le-ltb a.d a.join c.if-d-join.false), refl)
-

@@ -1,14 +1,10 @@
 use lib.ListN.{take}
-use mathlib.Core.Path.{◌≡◌, refl, sym, ap, ◌∙◌}
+use mathlib.Core.Path.{refl, sym, ◌∙◌}
 use native.Mathlib.Omega.{arith}
 use Rattle.free_path.specs.Columns.{trains}
 use Rattle.update_definition.specs.Moves.{holder_of}
 use Rattle.search.specs.Read.{round_of, here_of, search_of}
 use Rattle.search.proofs.RewindLaws.{one_pop, one-first, one_down, one-near}
-use borrow.Author.Rules.{rules}
-use Rattle.search.proofs.rewind.one_back.Reads as reads
-use Rattle.search.proofs.rewind.one_back.Lts as lts
-use Rattle.search.proofs.rewind.give_up.Reads as give-up-reads
 use Rattle.search.proofs.rewind.one_back.Goals as goal
 
 -- src/rewind.rt:181:9
@@ -39,4 +35,3 @@ returns c = let a = c.args in
     let e = g.ensures.0 in
     let b = c.holder_of-2 in
     ((λ t occ img dt dn new divs pool views l m. rw (e, ← b.ensures) (g.ensures.1 t occ img dt dn a.r new divs pool views m ∙ one-near (round_of t occ img dt dn a.r) (here_of a.h) b.result (search_of a.p new divs pool views) (l ∙ c.if-p-ne0.false) c.if-p-le1.false c.if-r-cur.false)), rw e (record { split = omega arith; div_split_of = s.div_split_of; save = s.save; divs = s.divs; pool = s.pool; free = λ b u v. omega (arith, u) }), rw e, rw e)
-

@@ -1,4 +1,4 @@
-use mathlib.Core.Path.{◌≡◌, refl, sym, ap, ◌∙◌}
+use mathlib.Core.Path.{refl, ◌∙◌}
 use native.Mathlib.Omega.{arith}
 use lib.ListN.{take}
 use Rattle.free_path.specs.Columns.{trains, div_at}
@@ -6,14 +6,6 @@ use Rattle.update_definition.specs.Moves.{holder_of}
 use Rattle.disp_structs.proofs.ListedLaws.{listed-length}
 use Rattle.search.specs.Read.{round_of, here_of, search_in, arrays, divs_of, views_of}
 use Rattle.search.proofs.RewindLaws as L
-use borrow.Author.Rules.{rules}
-use Rattle.search.proofs.rewind.rewind.Reads as reads
-use Rattle.search.proofs.rewind.rewind.Lts as lts
-use Rattle.search.proofs.views.put_view.Reads as put-view-reads
-use Rattle.search.proofs.rewind.one_back.Reads as one-back-reads
-use Rattle.search.proofs.rewind.rewind_divs.Reads as rewind-divs-reads
-use Rattle.search.proofs.rewind.rewind_view.Reads as rewind-view-reads
-use Rattle.search.proofs.rewind.save_of.Reads as save-of-reads
 use Rattle.search.proofs.rewind.rewind.Goals as goal
 
 -- src/rewind.rt:222:9
@@ -58,4 +50,3 @@ returns c = let a = c.args in
     let o = c.one_back in
     let g = o.ensures.1 in
     ((λ t occ dt dn nt new l. rw (o.ensures.2, o.ensures.3) (o.ensures.0 t occ a.img.now dt dn new (divs_of k.result.index nt a.nn.now) (take u.result.len (trains u.new.pool)) (views_of a.r.est_count c.put_view.new.begins c.put_view.new.ends) l (listed-length k.result.index (div_at nt a.nn.now)) ∙ L.rewind_go (round_of t occ a.img.now dt dn a.r) (here_of a.h) (search_in a.r.est_count a.p new (divs_of a.p.div_count nt a.nn.now) (arrays a.pool.now a.begins.now a.ends.now)) v.result.code v.result.index (v.ensures.0 t occ dt dn new (divs_of a.p.div_count nt a.nn.now) (take a.p.pool_count (trains a.pool.now)) (views_of a.r.est_count a.begins.now a.ends.now)) c.if-save-ne0.false u.result.code (record { pool = take u.result.len (trains u.new.pool); made = u.result.view }) u.ensures.0 c.if-u-ne0.false k.result.code (divs_of k.result.index nt a.nn.now) (k.ensures.0 nt) c.if-k-ne0.false (holder_of (record { pool = take u.result.len (trains u.new.pool); made = u.result.view })) refl (views_of a.r.est_count c.put_view.new.begins c.put_view.new.ends) c.put_view.ensures)), record { split = g.split; div_split_of = g.div_split_of; save = g.save; divs = g.divs; pool = g.pool; free = g.free })
-

@@ -1,15 +1,11 @@
-use mathlib.Core.Path.{◌≡◌, refl, sym, ap, ◌∙◌}
-use mathlib.Core.List.{List}
+use mathlib.Core.Path.{refl, sym, ap, ◌∙◌}
 use mathlib.Core.Bool.{not}
-use Prim.Native.Nat.{ℕ, ◌-◌, ◌≤◌}
+use Prim.Native.Nat.{◌-◌}
 use native.Mathlib.Omega.{arith}
 use borrow.Author.Tests.{eq-eqb}
 use lib.ListN.{get_or}
-use Rattle.free_path.specs.Base.{walk_back}
 use Rattle.free_path.specs.Columns.{div_at}
-use Rattle.search.specs.Read.{divs_of}
 use Rattle.search.proofs.RewindLaws.{off, back_none, back_miss, divs-none, divs-left}
-use borrow.Author.Rules.{rules}
 use Rattle.search.proofs.rewind.rewind_divs.Goals as goal
 
 -- src/rewind.rt:135:37
@@ -39,4 +35,3 @@ pub returns : goal.returns
 returns c = let a = c.args in
     let l = c.loop-k in
     ((λ nt. divs-none nt a.nn.now a.count a.join (back_none (off a.join) a.count (div_at nt a.nn.now) l.k (omega arith) ∙ l.invariant.1 nt)), omega arith)
-

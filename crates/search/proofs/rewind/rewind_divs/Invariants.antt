@@ -1,15 +1,9 @@
-use mathlib.Core.Path.{◌≡◌, refl, sym, ap, ◌∙◌}
+use mathlib.Core.Path.{◌≡◌}
 use mathlib.Core.List.{List}
-use mathlib.Core.Bool.{not}
-use Prim.Native.Nat.{ℕ, ◌-◌, ◌≤◌}
-use native.Mathlib.Omega.{arith}
-use borrow.Author.Tests.{eq-eqb}
-use lib.ListN.{get_or}
+use Prim.Native.Nat.{ℕ, ◌≤◌}
 use Rattle.free_path.specs.Base.{walk_back}
-use Rattle.free_path.specs.Columns.{div_at}
 use Rattle.search.specs.Read.{divs_of}
-use Rattle.search.proofs.RewindLaws.{off, back_none, back_miss, divs-none, divs-left}
-use borrow.Author.Rules.{rules}
+use Rattle.search.proofs.RewindLaws.{off}
 use Rattle.search.proofs.rewind.rewind_divs.Given as goal
 
 abbrev pub invariant-loop-k : goal.invariant-loop-k
@@ -17,4 +11,3 @@ invariant-loop-k l = (l.k ≤ l.count) × ((nt : List ℕ) → walk_back (off l.
 
 abbrev pub decreases-loop-k : goal.decreases-loop-k
 decreases-loop-k l = l.k
-

@@ -1,4 +1,4 @@
-use mathlib.Core.Path.{◌≡◌, refl, sym, ap, ap₂, ◌∙◌}
+use mathlib.Core.Path.{sym, ap₂, ◌∙◌}
 use native.Mathlib.Omega.{arith}
 use lib.ListN.{take}
 use Rattle.disp_structs.specs.declared.TrainIdxsView.{TrainIdxsView}
@@ -7,11 +7,6 @@ use Rattle.free_path.specs.TrainIdxsView.{concat_train_idx_views}
 use Rattle.free_path.proofs.PoolLaws.{lent-pool}
 use Rattle.search.specs.Read.{views_of}
 use Rattle.search.proofs.RewindLaws.{view-one, view_both}
-use borrow.Author.Rules.{rules}
-use Rattle.search.proofs.rewind.rewind_view.Reads as reads
-use Rattle.search.proofs.rewind.rewind_view.Lts as lts
-use Rattle.free_path.proofs.train_idxs_view.concat_train_idx_views.Reads as concat-train-idx-views-reads
-use Rattle.search.proofs.views.view_at.Reads as view-at-reads
 use Rattle.search.proofs.rewind.rewind_view.Goals as goal
 
 -- src/rewind.rt:123:9
@@ -27,4 +22,3 @@ returns c = let a = c.args in
     let w = c.view_at-w in
     let u = c.concat_train_idx_views in
     (u.ensures.0 ∙ sym (lent-pool a.pool.now a.len v.result w.result s.0 s.1) ∙ ap₂ (λ (x : TrainIdxsView) (y : TrainIdxsView). concat_train_idx_views (take a.len (trains a.pool.now)) x y) v.ensures w.ensures ∙ view_both a.est (views_of a.n a.begins.now a.ends.now) (take a.len (trains a.pool.now)) c.if-est-eq0.false, omega (arith, u.ensures.1, s.0))
-

@@ -1,11 +1,6 @@
-use mathlib.Core.Path.{◌≡◌, refl, sym, ap, ◌∙◌}
+use mathlib.Core.Path.{sym, ◌∙◌}
 use Rattle.search.specs.Read.{round_of, here_of, search_of}
 use Rattle.search.proofs.RewindLaws.{save_late, save_fake, save_shift}
-use borrow.Author.Rules.{rules}
-use Rattle.search.proofs.rewind.save_of.Reads as reads
-use Rattle.search.proofs.rewind.save_of.Lts as lts
-use Rattle.disp_structs.proofs.events.is_fake.Reads as is-fake-reads
-use Rattle.search.proofs.rewind.shift_save.Reads as shift-save-reads
 use Rattle.search.proofs.rewind.save_of.Goals as goal
 
 -- src/rewind.rt:87:9
@@ -23,4 +18,3 @@ pub returns : goal.returns
 returns c = let a = c.args in
     let k = c.shift_save in
     ((λ t occ dt dn new divs pool views. k.ensures.0 ∙ save_shift (round_of t occ a.img.now dt dn a.r) (here_of a.h) (search_of a.p new divs pool views) c.if-p-h.false (sym c.is_fake.ensures ∙ c.if-is_fake.false)), k.ensures.1)
-

@@ -1,14 +1,11 @@
-use mathlib.Core.Path.{◌≡◌, refl, sym, ap, ◌∙◌}
+use mathlib.Core.Path.{refl, sym, ap, ◌∙◌}
 use mathlib.Core.Bool.{not}
-use Prim.Native.Nat.{◌≤◌}
 use native.Mathlib.Omega.{arith}
 use Rattle.disp_structs.specs.Values.{is_fake}
 use Rattle.disp_structs.specs.declared.LinkEvent.{LinkEvent}
-use Rattle.image.specs.Image.{node_at, path_of}
-use Rattle.free_path.specs.Base.{walk_back}
+use Rattle.image.specs.Image.{node_at}
 use Rattle.update_definition.specs.Moves.{not_fake}
 use Rattle.search.proofs.RewindLaws.{back_none, back-out, back_hit, back_miss}
-use borrow.Author.Rules.{rules}
 use Rattle.search.proofs.rewind.walk_back.Goals as goal
 
 -- src/rewind.rt:45:5
@@ -40,4 +37,3 @@ pub returns : goal.returns
 returns c = let a = c.args in
     let l = c.loop-k in
     (back_none not_fake a.n (node_at a.img.now) l.k (omega arith) ∙ l.invariant.1, omega arith)
-

@@ -1,6 +1,5 @@
 use mathlib.Core.Path.{sym, ◌∙◌}
 use Rattle.search.proofs.LoopLaws.{follows_left, follows_done}
-use borrow.Author.Rules.{rules}
 use Rattle.search.proofs.run.after.Goals as goal
 
 -- src/lib.rt:108:5
@@ -9,4 +8,3 @@ returns-then-is_left c = let a = c.args in rw c.stops.ensures (follows_left a.go
 
 pub returns : goal.returns
 returns c = let a = c.args in follows_done a.go a.effect a.k c.next_of.result (sym c.is_left.ensures ∙ c.if-is_left.false) c.next_of.ensures
-

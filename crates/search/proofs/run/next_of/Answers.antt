@@ -1,5 +1,4 @@
 use Rattle.search.proofs.LoopLaws.{follows_refused, follows_push, follows_pop, follows_stay, follows_give_up}
-use borrow.Author.Rules.{rules}
 use Rattle.search.proofs.run.next_of.Goals as goal
 
 -- src/lib.rt:88:1
@@ -20,4 +19,3 @@ returns-in-Stay c = let a = c.args in rw (c.in-Stay.is, c.goes_on-in-Stay.ensure
 
 pub returns-in-GiveUp : goal.returns-in-GiveUp
 returns-in-GiveUp c = let a = c.args in rw (c.in-GiveUp.is, c.stops-in-GiveUp.ensures) (follows_give_up a.k a.curr _)
-

@@ -1,13 +1,11 @@
 use mathlib.Core.Path.{◌≡◌, refl, sym, ap, ◌∙◌}
 use mathlib.Core.Bool.{true}
-use mathlib.Core.List.{List, [], ◌∷◌, ◌++◌}
+use mathlib.Core.List.{[]}
 use Prim.Native.Nat.{ℕ, suc, ◌+◌, ◌-◌, ◌*◌, ◌≤◌, ◌<◌}
 use native.Mathlib.Omega.{arith}
-use lib.ListN.{length, get_or, take, set, length-set}
-use borrow.Author.Rules.{rules}
+use lib.ListN.{length, get_or, set, length-set}
 use borrow.Author.Tests.{not-true, not-false}
 use Rattle.disp_structs.specs.Train.{Train}
-use Rattle.disp_structs.specs.declared.DispNode.{DispNode}
 use Rattle.disp_structs.specs.Listed.{listed}
 use Rattle.disp_structs.proofs.ListedLaws.{listed-length}
 use Rattle.image.specs.Image.{est_count, node_place, est_at, node_at, whole_node, path_of}
@@ -16,7 +14,6 @@ use Rattle.update_definition.specs.Look as Look
 use Rattle.search.specs.declared.Place.{Place}
 use Rattle.search.specs.Read.{divs_of, round_of, here_of, search_in, arrays, Lent, Small}
 use Rattle.splice.specs.Parts.{Sound}
-use Rattle.splice.specs.Read.{Kept}
 use Rattle.splice.proofs.NodeLaws.{kept-count, kept_then}
 use Rattle.search.specs.Runs.{counted, slot_of, SearchBegins, Going}
 use Rattle.image.proofs.RecordLaws.{whole-node}
@@ -69,7 +66,7 @@ after-a-requires c =
     let g = c.requires in
     let a = c.args in
     let split : (1 ≤ v.p.idx_split) × (v.p.idx_split ≤ a.r.path_count) × (v.p.idx_split + v.p.new_count ≤ 512) × (v.p.idx_split + v.p.new_count ≤ a.r.est_count) =
-        top_split a.occ.now a.img.now a.dt.now a.dn.now a.r g.train _ g.begins _ v.left v.steps v.p v.fresh v.nt v.nn (arrays v.pool v.begins v.ends) (v.invariant.6 g.train g.begins) in
+    top_split a.occ.now a.img.now a.dt.now a.dn.now a.r g.train _ g.begins _ v.left v.steps v.p v.fresh v.nt v.nn (arrays v.pool v.begins v.ends) (v.invariant.6 g.train g.begins) in
     omega (arith, split.0, split.2)
 
 pub shape_of-fresh-then-not-a : goal.shape_of-fresh-then-not-a
@@ -105,8 +102,7 @@ returns-then-not-a c =
     let r = c.after-a in
     let left : v.left ≡ suc (v.left - 1) = omega (arith, c.loop-left-test.true) in
     let node : Look.current (path_of a.img.now a.r.path_count) (listed v.p.new_count (node_at v.fresh)) v.p.idx_split ≡ ok v.curr =
-        top-current a.occ.now a.img.now a.dt.now a.dn.now a.r g.train _ g.begins _ v.left v.steps v.p v.fresh v.nt v.nn (arrays v.pool v.begins v.ends) (v.invariant.6 g.train g.begins) ∙ ap ok (sym v.invariant.5) in
-    (
+    top-current a.occ.now a.img.now a.dt.now a.dn.now a.r g.train _ g.begins _ v.left v.steps v.p v.fresh v.nt v.nn (arrays v.pool v.begins v.ends) (v.invariant.6 g.train g.begins) ∙ ap ok (sym v.invariant.5) in (
       (λ t b. turn-ends a.occ.now a.img.now a.dt.now a.dn.now a.r t _ b _ v.left v.steps v.p v.fresh v.nt v.nn (arrays v.pool v.begins v.ends) (v.invariant.6 t b) u.new.nt u.new.nn (arrays u.new.pool u.new.begins u.new.ends) u.result.go u.result.effect (here_of u.result.here) u.result.place (v.left - 1) left (u.ensures.0 t (listed v.p.new_count (node_at v.fresh)) (listed-length _ _) node) r.result r.ensures (not-true _ c.if-not-a.true) (ap (λ (j : ℕ). 3 * j + 1) (sym (listed-length a.r.est_count (est_at a.img.now))))),
       v.invariant.0,
       u.ensures.1.pool,
@@ -122,7 +118,7 @@ overflow_add-k c =
     let g = c.requires in
     let a = c.args in
     let split : (1 ≤ v.p.idx_split) × (v.p.idx_split ≤ a.r.path_count) × (v.p.idx_split + v.p.new_count ≤ 512) × (v.p.idx_split + v.p.new_count ≤ a.r.est_count) =
-        top_split a.occ.now a.img.now a.dt.now a.dn.now a.r g.train _ g.begins _ v.left v.steps v.p v.fresh v.nt v.nn (arrays v.pool v.begins v.ends) (v.invariant.6 g.train g.begins) in
+    top_split a.occ.now a.img.now a.dt.now a.dn.now a.r g.train _ g.begins _ v.left v.steps v.p v.fresh v.nt v.nn (arrays v.pool v.begins v.ends) (v.invariant.6 g.train g.begins) in
     omega (arith, split.0, split.2)
 
 pub bounds-new-at : goal.bounds-new-at
@@ -135,7 +131,7 @@ overflow_cast-k c =
     let g = c.requires in
     let a = c.args in
     let split : (1 ≤ v.p.idx_split) × (v.p.idx_split ≤ a.r.path_count) × (v.p.idx_split + v.p.new_count ≤ 512) × (v.p.idx_split + v.p.new_count ≤ a.r.est_count) =
-        top_split a.occ.now a.img.now a.dt.now a.dn.now a.r g.train _ g.begins _ v.left v.steps v.p v.fresh v.nt v.nn (arrays v.pool v.begins v.ends) (v.invariant.6 g.train g.begins) in
+    top_split a.occ.now a.img.now a.dt.now a.dn.now a.r g.train _ g.begins _ v.left v.steps v.p v.fresh v.nt v.nn (arrays v.pool v.begins v.ends) (v.invariant.6 g.train g.begins) in
     omega (arith, split.0, split.2)
 
 pub loop-left-smaller-then-a-k : goal.loop-left-smaller-then-a-k
@@ -151,16 +147,16 @@ loop-left-preserved-then-a-k c =
     let u = c.turn-t in
     let r = c.after-a in
     let split : (1 ≤ v.p.idx_split) × (v.p.idx_split ≤ a.r.path_count) × (v.p.idx_split + v.p.new_count ≤ 512) × (v.p.idx_split + v.p.new_count ≤ a.r.est_count) =
-        top_split a.occ.now a.img.now a.dt.now a.dn.now a.r g.train _ g.begins _ v.left v.steps v.p v.fresh v.nt v.nn (arrays v.pool v.begins v.ends) (v.invariant.6 g.train g.begins) in
+    top_split a.occ.now a.img.now a.dt.now a.dn.now a.r g.train _ g.begins _ v.left v.steps v.p v.fresh v.nt v.nn (arrays v.pool v.begins v.ends) (v.invariant.6 g.train g.begins) in
     let room : node_place (est_count v.fresh) (v.p.new_count + 1) ≤ length v.fresh = omega (arith, split.0, split.3, kept-count _ _ v.invariant.0, v.invariant.0.size, g.buffer) in
     let left : v.left ≡ suc (v.left - 1) = omega (arith, c.loop-left-test.true) in
     let node : Look.current (path_of a.img.now a.r.path_count) (listed v.p.new_count (node_at v.fresh)) v.p.idx_split ≡ ok v.curr =
-        top-current a.occ.now a.img.now a.dt.now a.dn.now a.r g.train _ g.begins _ v.left v.steps v.p v.fresh v.nt v.nn (arrays v.pool v.begins v.ends) (v.invariant.6 g.train g.begins) ∙ ap ok (sym v.invariant.5) in
+    top-current a.occ.now a.img.now a.dt.now a.dn.now a.r g.train _ g.begins _ v.left v.steps v.p v.fresh v.nt v.nn (arrays v.pool v.begins v.ends) (v.invariant.6 g.train g.begins) ∙ ap ok (sym v.invariant.5) in
     let lent : Lent a.r.est_count (arrays u.new.pool u.new.begins u.new.ends) =
-        record { est = v.invariant.1.est; trains = u.auto.pool ∙ v.invariant.1.trains; first = omega (arith, u.auto.begins, v.invariant.1.first); last = omega (arith, u.auto.ends, v.invariant.1.last) } in
+    record { est = v.invariant.1.est; trains = u.auto.pool ∙ v.invariant.1.trains; first = omega (arith, u.auto.begins, v.invariant.1.first); last = omega (arith, u.auto.ends, v.invariant.1.last) } in
     let sound : r.result.count ≡ v.p.new_count + 1 → Sound r.result.node =
-        turn_sound a.occ.now a.img.now a.dt.now a.dn.now a.r g.train _ g.begins _ v.left v.steps v.p v.fresh v.nt v.nn (arrays v.pool v.begins v.ends) (v.invariant.6 g.train g.begins) u.new.nt u.new.nn (arrays u.new.pool u.new.begins u.new.ends) u.result.go u.result.effect (here_of u.result.here) u.result.place (v.left - 1) left
-        (u.ensures.0 g.train (listed v.p.new_count (node_at v.fresh)) (listed-length _ _) node) r.result r.ensures (not-false _ c.if-not-a.false) in
+    turn_sound a.occ.now a.img.now a.dt.now a.dn.now a.r g.train _ g.begins _ v.left v.steps v.p v.fresh v.nt v.nn (arrays v.pool v.begins v.ends) (v.invariant.6 g.train g.begins) u.new.nt u.new.nn (arrays u.new.pool u.new.begins u.new.ends) u.result.go u.result.effect (here_of u.result.here) u.result.place (v.left - 1) left
+    (u.ensures.0 g.train (listed v.p.new_count (node_at v.fresh)) (listed-length _ _) node) r.result r.ensures (not-false _ c.if-not-a.false) in
     let e = c.at_count-p.ensures in
     let w = c.put_node.ensures in
     let f = c.put_node.new.img in
@@ -170,10 +166,10 @@ loop-left-preserved-then-a-k c =
     let q : m ≡ k + 1 = c.if-a-k.true in
     let s = sound q in
     let going : (t : Train) (b : SearchBegins (length a.occ.now) (round_of t a.occ.now a.img.now a.dt.now a.dn.now a.r) (search_in a.r.est_count a.start [] (divs_of a.start.div_count a.nt.now a.nn.now) (arrays a.pool.now a.begins.now a.ends.now)))
-        → Going b.top (length a.occ.now) (round_of t a.occ.now a.img.now a.dt.now a.dn.now a.r) (3 * a.r.est_count + 1) (search_in a.r.est_count a.start [] (divs_of a.start.div_count a.nt.now a.nn.now) (arrays a.pool.now a.begins.now a.ends.now)) (v.left - 1) (v.steps + 1)
-        (search_in a.r.est_count (counted u.result.place r.result.count) (listed r.result.count (node_at f)) (divs_of u.result.place.div_count u.new.nt u.new.nn) (arrays u.new.pool u.new.begins u.new.ends)) =
-        λ t b. turn_on a.occ.now a.img.now a.dt.now a.dn.now a.r t _ b _ v.left v.steps v.p v.fresh v.nt v.nn (arrays v.pool v.begins v.ends) (v.invariant.6 t b) u.new.nt u.new.nn (arrays u.new.pool u.new.begins u.new.ends) u.result.go u.result.effect (here_of u.result.here) u.result.place (v.left - 1) left
-        (u.ensures.0 t (listed v.p.new_count (node_at v.fresh)) (listed-length _ _) node) r.result r.ensures (not-false _ c.if-not-a.false) f (pushed v.fresh f k n w room s m q) in
+    → Going b.top (length a.occ.now) (round_of t a.occ.now a.img.now a.dt.now a.dn.now a.r) (3 * a.r.est_count + 1) (search_in a.r.est_count a.start [] (divs_of a.start.div_count a.nt.now a.nn.now) (arrays a.pool.now a.begins.now a.ends.now)) (v.left - 1) (v.steps + 1)
+    (search_in a.r.est_count (counted u.result.place r.result.count) (listed r.result.count (node_at f)) (divs_of u.result.place.div_count u.new.nt u.new.nn) (arrays u.new.pool u.new.begins u.new.ends)) =
+    λ t b. turn_on a.occ.now a.img.now a.dt.now a.dn.now a.r t _ b _ v.left v.steps v.p v.fresh v.nt v.nn (arrays v.pool v.begins v.ends) (v.invariant.6 t b) u.new.nt u.new.nn (arrays u.new.pool u.new.begins u.new.ends) u.result.go u.result.effect (here_of u.result.here) u.result.place (v.left - 1) left
+    (u.ensures.0 t (listed v.p.new_count (node_at v.fresh)) (listed-length _ _) node) r.result r.ensures (not-false _ c.if-not-a.false) f (pushed v.fresh f k n w room s m q) in
     let same : (i : ℕ) → i < m → i < 63 → get_or (set v.new c.slot_of-at.result n) i blank ≡ node_at f i = rw c.slot_of-at.ensures (array_pushed v.fresh f k n w room s m q v.new blank v.invariant.7 v.invariant.8) in (
       kept_then _ v.fresh a.fresh.now (pushed_kept v.fresh f k n w) v.invariant.0,
       lent,
@@ -198,15 +194,15 @@ overflow_cast-one_less-then-a-eq0 c =
     let r = c.after-a in
     let left : v.left ≡ suc (v.left - 1) = omega (arith, c.loop-left-test.true) in
     let node : Look.current (path_of a.img.now a.r.path_count) (listed v.p.new_count (node_at v.fresh)) v.p.idx_split ≡ ok v.curr =
-        top-current a.occ.now a.img.now a.dt.now a.dn.now a.r g.train _ g.begins _ v.left v.steps v.p v.fresh v.nt v.nn (arrays v.pool v.begins v.ends) (v.invariant.6 g.train g.begins) ∙ ap ok (sym v.invariant.5) in
+    top-current a.occ.now a.img.now a.dt.now a.dn.now a.r g.train _ g.begins _ v.left v.steps v.p v.fresh v.nt v.nn (arrays v.pool v.begins v.ends) (v.invariant.6 g.train g.begins) ∙ ap ok (sym v.invariant.5) in
     let few : r.result.count ≤ v.p.new_count = not_more _ _ r.ensures.few c.if-a-k.false in
     let going : (t : Train) (b : SearchBegins (length a.occ.now) (round_of t a.occ.now a.img.now a.dt.now a.dn.now a.r) (search_in a.r.est_count a.start [] (divs_of a.start.div_count a.nt.now a.nn.now) (arrays a.pool.now a.begins.now a.ends.now)))
-        → Going b.top (length a.occ.now) (round_of t a.occ.now a.img.now a.dt.now a.dn.now a.r) (3 * a.r.est_count + 1) (search_in a.r.est_count a.start [] (divs_of a.start.div_count a.nt.now a.nn.now) (arrays a.pool.now a.begins.now a.ends.now)) (v.left - 1) (v.steps + 1)
-        (search_in a.r.est_count (counted u.result.place r.result.count) (listed r.result.count (node_at v.fresh)) (divs_of u.result.place.div_count u.new.nt u.new.nn) (arrays u.new.pool u.new.begins u.new.ends)) =
-        λ t b. turn_on a.occ.now a.img.now a.dt.now a.dn.now a.r t _ b _ v.left v.steps v.p v.fresh v.nt v.nn (arrays v.pool v.begins v.ends) (v.invariant.6 t b) u.new.nt u.new.nn (arrays u.new.pool u.new.begins u.new.ends) u.result.go u.result.effect (here_of u.result.here) u.result.place (v.left - 1) left
-        (u.ensures.0 t (listed v.p.new_count (node_at v.fresh)) (listed-length _ _) node) r.result r.ensures (not-false _ c.if-not-a.false) v.fresh (not_pushed _ _ _ _ few) in
+    → Going b.top (length a.occ.now) (round_of t a.occ.now a.img.now a.dt.now a.dn.now a.r) (3 * a.r.est_count + 1) (search_in a.r.est_count a.start [] (divs_of a.start.div_count a.nt.now a.nn.now) (arrays a.pool.now a.begins.now a.ends.now)) (v.left - 1) (v.steps + 1)
+    (search_in a.r.est_count (counted u.result.place r.result.count) (listed r.result.count (node_at v.fresh)) (divs_of u.result.place.div_count u.new.nt u.new.nn) (arrays u.new.pool u.new.begins u.new.ends)) =
+    λ t b. turn_on a.occ.now a.img.now a.dt.now a.dn.now a.r t _ b _ v.left v.steps v.p v.fresh v.nt v.nn (arrays v.pool v.begins v.ends) (v.invariant.6 t b) u.new.nt u.new.nn (arrays u.new.pool u.new.begins u.new.ends) u.result.go u.result.effect (here_of u.result.here) u.result.place (v.left - 1) left
+    (u.ensures.0 t (listed v.p.new_count (node_at v.fresh)) (listed-length _ _) node) r.result r.ensures (not-false _ c.if-not-a.false) v.fresh (not_pushed _ _ _ _ few) in
     let next_split : (1 ≤ u.result.place.idx_split) × (u.result.place.idx_split ≤ a.r.path_count) × (u.result.place.idx_split + r.result.count ≤ 512) × (u.result.place.idx_split + r.result.count ≤ a.r.est_count) =
-        top_split a.occ.now a.img.now a.dt.now a.dn.now a.r g.train _ g.begins _ (v.left - 1) (v.steps + 1) (counted u.result.place r.result.count) v.fresh u.new.nt u.new.nn (arrays u.new.pool u.new.begins u.new.ends) (going g.train g.begins) in
+    top_split a.occ.now a.img.now a.dt.now a.dn.now a.r g.train _ g.begins _ (v.left - 1) (v.steps + 1) (counted u.result.place r.result.count) v.fresh u.new.nt u.new.nn (arrays u.new.pool u.new.begins u.new.ends) (going g.train g.begins) in
     let next : (1 ≤ c.at_count-p.result.idx_split) × (c.at_count-p.result.idx_split ≤ a.r.path_count) × (c.at_count-p.result.idx_split + r.result.count ≤ 512) = rw c.at_count-p.ensures (next_split.0, next_split.1, next_split.2) in
     omega (arith, c.one_less-then-a-eq0.ensures, next.2)
 
@@ -224,18 +220,18 @@ loop-left-preserved-then-a-eq0 c =
     let r = c.after-a in
     let left : v.left ≡ suc (v.left - 1) = omega (arith, c.loop-left-test.true) in
     let node : Look.current (path_of a.img.now a.r.path_count) (listed v.p.new_count (node_at v.fresh)) v.p.idx_split ≡ ok v.curr =
-        top-current a.occ.now a.img.now a.dt.now a.dn.now a.r g.train _ g.begins _ v.left v.steps v.p v.fresh v.nt v.nn (arrays v.pool v.begins v.ends) (v.invariant.6 g.train g.begins) ∙ ap ok (sym v.invariant.5) in
+    top-current a.occ.now a.img.now a.dt.now a.dn.now a.r g.train _ g.begins _ v.left v.steps v.p v.fresh v.nt v.nn (arrays v.pool v.begins v.ends) (v.invariant.6 g.train g.begins) ∙ ap ok (sym v.invariant.5) in
     let few : r.result.count ≤ v.p.new_count = not_more _ _ r.ensures.few c.if-a-k.false in
     let going : (t : Train) (b : SearchBegins (length a.occ.now) (round_of t a.occ.now a.img.now a.dt.now a.dn.now a.r) (search_in a.r.est_count a.start [] (divs_of a.start.div_count a.nt.now a.nn.now) (arrays a.pool.now a.begins.now a.ends.now)))
-        → Going b.top (length a.occ.now) (round_of t a.occ.now a.img.now a.dt.now a.dn.now a.r) (3 * a.r.est_count + 1) (search_in a.r.est_count a.start [] (divs_of a.start.div_count a.nt.now a.nn.now) (arrays a.pool.now a.begins.now a.ends.now)) (v.left - 1) (v.steps + 1)
-        (search_in a.r.est_count (counted u.result.place r.result.count) (listed r.result.count (node_at v.fresh)) (divs_of u.result.place.div_count u.new.nt u.new.nn) (arrays u.new.pool u.new.begins u.new.ends)) =
-        λ t b. turn_on a.occ.now a.img.now a.dt.now a.dn.now a.r t _ b _ v.left v.steps v.p v.fresh v.nt v.nn (arrays v.pool v.begins v.ends) (v.invariant.6 t b) u.new.nt u.new.nn (arrays u.new.pool u.new.begins u.new.ends) u.result.go u.result.effect (here_of u.result.here) u.result.place (v.left - 1) left
-        (u.ensures.0 t (listed v.p.new_count (node_at v.fresh)) (listed-length _ _) node) r.result r.ensures (not-false _ c.if-not-a.false) v.fresh (not_pushed _ _ _ _ few) in
+    → Going b.top (length a.occ.now) (round_of t a.occ.now a.img.now a.dt.now a.dn.now a.r) (3 * a.r.est_count + 1) (search_in a.r.est_count a.start [] (divs_of a.start.div_count a.nt.now a.nn.now) (arrays a.pool.now a.begins.now a.ends.now)) (v.left - 1) (v.steps + 1)
+    (search_in a.r.est_count (counted u.result.place r.result.count) (listed r.result.count (node_at v.fresh)) (divs_of u.result.place.div_count u.new.nt u.new.nn) (arrays u.new.pool u.new.begins u.new.ends)) =
+    λ t b. turn_on a.occ.now a.img.now a.dt.now a.dn.now a.r t _ b _ v.left v.steps v.p v.fresh v.nt v.nn (arrays v.pool v.begins v.ends) (v.invariant.6 t b) u.new.nt u.new.nn (arrays u.new.pool u.new.begins u.new.ends) u.result.go u.result.effect (here_of u.result.here) u.result.place (v.left - 1) left
+    (u.ensures.0 t (listed v.p.new_count (node_at v.fresh)) (listed-length _ _) node) r.result r.ensures (not-false _ c.if-not-a.false) v.fresh (not_pushed _ _ _ _ few) in
     let next_split : (1 ≤ u.result.place.idx_split) × (u.result.place.idx_split ≤ a.r.path_count) × (u.result.place.idx_split + r.result.count ≤ 512) × (u.result.place.idx_split + r.result.count ≤ a.r.est_count) =
-        top_split a.occ.now a.img.now a.dt.now a.dn.now a.r g.train _ g.begins _ (v.left - 1) (v.steps + 1) (counted u.result.place r.result.count) v.fresh u.new.nt u.new.nn (arrays u.new.pool u.new.begins u.new.ends) (going g.train g.begins) in
+    top_split a.occ.now a.img.now a.dt.now a.dn.now a.r g.train _ g.begins _ (v.left - 1) (v.steps + 1) (counted u.result.place r.result.count) v.fresh u.new.nt u.new.nn (arrays u.new.pool u.new.begins u.new.ends) (going g.train g.begins) in
     let next : (1 ≤ c.at_count-p.result.idx_split) × (c.at_count-p.result.idx_split ≤ a.r.path_count) × (c.at_count-p.result.idx_split + r.result.count ≤ 512) = rw c.at_count-p.ensures (next_split.0, next_split.1, next_split.2) in
     let lent : Lent a.r.est_count (arrays u.new.pool u.new.begins u.new.ends) =
-        record { est = v.invariant.1.est; trains = u.auto.pool ∙ v.invariant.1.trains; first = omega (arith, u.auto.begins, v.invariant.1.first); last = omega (arith, u.auto.ends, v.invariant.1.last) } in
+    record { est = v.invariant.1.est; trains = u.auto.pool ∙ v.invariant.1.trains; first = omega (arith, u.auto.begins, v.invariant.1.first); last = omega (arith, u.auto.ends, v.invariant.1.last) } in
     let e = c.at_count-p.ensures in
     let same : (i : ℕ) → i < r.result.count → i < 63 → get_or v.new i blank ≡ node_at v.fresh i = λ i j k. v.invariant.8 i (omega (arith, j, few)) k in
     let read : c.whole_node-curr-then-a-eq0.result ≡ current_in a.img.now v.fresh c.at_count-p.result.idx_split r.result.count = c.whole_node-curr-then-a-eq0.ensures ∙ whole-node a.img.now _ (omega (arith, c.one_less-then-a-eq0.ensures, next.0, next.1, g.nodes)) ∙ ap (node_at a.img.now) c.one_less-then-a-eq0.ensures ∙ current-none a.img.now v.fresh _ _ c.if-a-eq0.true in (
@@ -266,15 +262,15 @@ last-curr-requires c =
     let r = c.after-a in
     let left : v.left ≡ suc (v.left - 1) = omega (arith, c.loop-left-test.true) in
     let node : Look.current (path_of a.img.now a.r.path_count) (listed v.p.new_count (node_at v.fresh)) v.p.idx_split ≡ ok v.curr =
-        top-current a.occ.now a.img.now a.dt.now a.dn.now a.r g.train _ g.begins _ v.left v.steps v.p v.fresh v.nt v.nn (arrays v.pool v.begins v.ends) (v.invariant.6 g.train g.begins) ∙ ap ok (sym v.invariant.5) in
+    top-current a.occ.now a.img.now a.dt.now a.dn.now a.r g.train _ g.begins _ v.left v.steps v.p v.fresh v.nt v.nn (arrays v.pool v.begins v.ends) (v.invariant.6 g.train g.begins) ∙ ap ok (sym v.invariant.5) in
     let few : r.result.count ≤ v.p.new_count = not_more _ _ r.ensures.few c.if-a-k.false in
     let going : (t : Train) (b : SearchBegins (length a.occ.now) (round_of t a.occ.now a.img.now a.dt.now a.dn.now a.r) (search_in a.r.est_count a.start [] (divs_of a.start.div_count a.nt.now a.nn.now) (arrays a.pool.now a.begins.now a.ends.now)))
-        → Going b.top (length a.occ.now) (round_of t a.occ.now a.img.now a.dt.now a.dn.now a.r) (3 * a.r.est_count + 1) (search_in a.r.est_count a.start [] (divs_of a.start.div_count a.nt.now a.nn.now) (arrays a.pool.now a.begins.now a.ends.now)) (v.left - 1) (v.steps + 1)
-        (search_in a.r.est_count (counted u.result.place r.result.count) (listed r.result.count (node_at v.fresh)) (divs_of u.result.place.div_count u.new.nt u.new.nn) (arrays u.new.pool u.new.begins u.new.ends)) =
-        λ t b. turn_on a.occ.now a.img.now a.dt.now a.dn.now a.r t _ b _ v.left v.steps v.p v.fresh v.nt v.nn (arrays v.pool v.begins v.ends) (v.invariant.6 t b) u.new.nt u.new.nn (arrays u.new.pool u.new.begins u.new.ends) u.result.go u.result.effect (here_of u.result.here) u.result.place (v.left - 1) left
-        (u.ensures.0 t (listed v.p.new_count (node_at v.fresh)) (listed-length _ _) node) r.result r.ensures (not-false _ c.if-not-a.false) v.fresh (not_pushed _ _ _ _ few) in
+    → Going b.top (length a.occ.now) (round_of t a.occ.now a.img.now a.dt.now a.dn.now a.r) (3 * a.r.est_count + 1) (search_in a.r.est_count a.start [] (divs_of a.start.div_count a.nt.now a.nn.now) (arrays a.pool.now a.begins.now a.ends.now)) (v.left - 1) (v.steps + 1)
+    (search_in a.r.est_count (counted u.result.place r.result.count) (listed r.result.count (node_at v.fresh)) (divs_of u.result.place.div_count u.new.nt u.new.nn) (arrays u.new.pool u.new.begins u.new.ends)) =
+    λ t b. turn_on a.occ.now a.img.now a.dt.now a.dn.now a.r t _ b _ v.left v.steps v.p v.fresh v.nt v.nn (arrays v.pool v.begins v.ends) (v.invariant.6 t b) u.new.nt u.new.nn (arrays u.new.pool u.new.begins u.new.ends) u.result.go u.result.effect (here_of u.result.here) u.result.place (v.left - 1) left
+    (u.ensures.0 t (listed v.p.new_count (node_at v.fresh)) (listed-length _ _) node) r.result r.ensures (not-false _ c.if-not-a.false) v.fresh (not_pushed _ _ _ _ few) in
     let next_split : (1 ≤ u.result.place.idx_split) × (u.result.place.idx_split ≤ a.r.path_count) × (u.result.place.idx_split + r.result.count ≤ 512) × (u.result.place.idx_split + r.result.count ≤ a.r.est_count) =
-        top_split a.occ.now a.img.now a.dt.now a.dn.now a.r g.train _ g.begins _ (v.left - 1) (v.steps + 1) (counted u.result.place r.result.count) v.fresh u.new.nt u.new.nn (arrays u.new.pool u.new.begins u.new.ends) (going g.train g.begins) in
+    top_split a.occ.now a.img.now a.dt.now a.dn.now a.r g.train _ g.begins _ (v.left - 1) (v.steps + 1) (counted u.result.place r.result.count) v.fresh u.new.nt u.new.nn (arrays u.new.pool u.new.begins u.new.ends) (going g.train g.begins) in
     let next : (1 ≤ c.at_count-p.result.idx_split) × (c.at_count-p.result.idx_split ≤ a.r.path_count) × (c.at_count-p.result.idx_split + r.result.count ≤ 512) = rw c.at_count-p.ensures (next_split.0, next_split.1, next_split.2) in
     omega (arith, next.2)
 
@@ -292,22 +288,22 @@ loop-left-preserved c =
     let r = c.after-a in
     let left : v.left ≡ suc (v.left - 1) = omega (arith, c.loop-left-test.true) in
     let node : Look.current (path_of a.img.now a.r.path_count) (listed v.p.new_count (node_at v.fresh)) v.p.idx_split ≡ ok v.curr =
-        top-current a.occ.now a.img.now a.dt.now a.dn.now a.r g.train _ g.begins _ v.left v.steps v.p v.fresh v.nt v.nn (arrays v.pool v.begins v.ends) (v.invariant.6 g.train g.begins) ∙ ap ok (sym v.invariant.5) in
+    top-current a.occ.now a.img.now a.dt.now a.dn.now a.r g.train _ g.begins _ v.left v.steps v.p v.fresh v.nt v.nn (arrays v.pool v.begins v.ends) (v.invariant.6 g.train g.begins) ∙ ap ok (sym v.invariant.5) in
     let few : r.result.count ≤ v.p.new_count = not_more _ _ r.ensures.few c.if-a-k.false in
     let going : (t : Train) (b : SearchBegins (length a.occ.now) (round_of t a.occ.now a.img.now a.dt.now a.dn.now a.r) (search_in a.r.est_count a.start [] (divs_of a.start.div_count a.nt.now a.nn.now) (arrays a.pool.now a.begins.now a.ends.now)))
-        → Going b.top (length a.occ.now) (round_of t a.occ.now a.img.now a.dt.now a.dn.now a.r) (3 * a.r.est_count + 1) (search_in a.r.est_count a.start [] (divs_of a.start.div_count a.nt.now a.nn.now) (arrays a.pool.now a.begins.now a.ends.now)) (v.left - 1) (v.steps + 1)
-        (search_in a.r.est_count (counted u.result.place r.result.count) (listed r.result.count (node_at v.fresh)) (divs_of u.result.place.div_count u.new.nt u.new.nn) (arrays u.new.pool u.new.begins u.new.ends)) =
-        λ t b. turn_on a.occ.now a.img.now a.dt.now a.dn.now a.r t _ b _ v.left v.steps v.p v.fresh v.nt v.nn (arrays v.pool v.begins v.ends) (v.invariant.6 t b) u.new.nt u.new.nn (arrays u.new.pool u.new.begins u.new.ends) u.result.go u.result.effect (here_of u.result.here) u.result.place (v.left - 1) left
-        (u.ensures.0 t (listed v.p.new_count (node_at v.fresh)) (listed-length _ _) node) r.result r.ensures (not-false _ c.if-not-a.false) v.fresh (not_pushed _ _ _ _ few) in
+    → Going b.top (length a.occ.now) (round_of t a.occ.now a.img.now a.dt.now a.dn.now a.r) (3 * a.r.est_count + 1) (search_in a.r.est_count a.start [] (divs_of a.start.div_count a.nt.now a.nn.now) (arrays a.pool.now a.begins.now a.ends.now)) (v.left - 1) (v.steps + 1)
+    (search_in a.r.est_count (counted u.result.place r.result.count) (listed r.result.count (node_at v.fresh)) (divs_of u.result.place.div_count u.new.nt u.new.nn) (arrays u.new.pool u.new.begins u.new.ends)) =
+    λ t b. turn_on a.occ.now a.img.now a.dt.now a.dn.now a.r t _ b _ v.left v.steps v.p v.fresh v.nt v.nn (arrays v.pool v.begins v.ends) (v.invariant.6 t b) u.new.nt u.new.nn (arrays u.new.pool u.new.begins u.new.ends) u.result.go u.result.effect (here_of u.result.here) u.result.place (v.left - 1) left
+    (u.ensures.0 t (listed v.p.new_count (node_at v.fresh)) (listed-length _ _) node) r.result r.ensures (not-false _ c.if-not-a.false) v.fresh (not_pushed _ _ _ _ few) in
     let next_split : (1 ≤ u.result.place.idx_split) × (u.result.place.idx_split ≤ a.r.path_count) × (u.result.place.idx_split + r.result.count ≤ 512) × (u.result.place.idx_split + r.result.count ≤ a.r.est_count) =
-        top_split a.occ.now a.img.now a.dt.now a.dn.now a.r g.train _ g.begins _ (v.left - 1) (v.steps + 1) (counted u.result.place r.result.count) v.fresh u.new.nt u.new.nn (arrays u.new.pool u.new.begins u.new.ends) (going g.train g.begins) in
+    top_split a.occ.now a.img.now a.dt.now a.dn.now a.r g.train _ g.begins _ (v.left - 1) (v.steps + 1) (counted u.result.place r.result.count) v.fresh u.new.nt u.new.nn (arrays u.new.pool u.new.begins u.new.ends) (going g.train g.begins) in
     let next : (1 ≤ c.at_count-p.result.idx_split) × (c.at_count-p.result.idx_split ≤ a.r.path_count) × (c.at_count-p.result.idx_split + r.result.count ≤ 512) = rw c.at_count-p.ensures (next_split.0, next_split.1, next_split.2) in
     let split : (1 ≤ v.p.idx_split) × (v.p.idx_split ≤ a.r.path_count) × (v.p.idx_split + v.p.new_count ≤ 512) × (v.p.idx_split + v.p.new_count ≤ a.r.est_count) =
-        top_split a.occ.now a.img.now a.dt.now a.dn.now a.r g.train _ g.begins _ v.left v.steps v.p v.fresh v.nt v.nn (arrays v.pool v.begins v.ends) (v.invariant.6 g.train g.begins) in
+    top_split a.occ.now a.img.now a.dt.now a.dn.now a.r g.train _ g.begins _ v.left v.steps v.p v.fresh v.nt v.nn (arrays v.pool v.begins v.ends) (v.invariant.6 g.train g.begins) in
     let room : node_place (est_count v.fresh) (v.p.new_count + 1) ≤ length v.fresh = omega (arith, split.0, split.3, kept-count _ _ v.invariant.0, v.invariant.0.size, g.buffer) in
     let left_whole : (i : ℕ) → i < r.result.count → whole_node v.fresh i ≡ node_at v.fresh i = λ i h. whole-node _ _ (omega (arith, h, few, room)) in
     let lent : Lent a.r.est_count (arrays u.new.pool u.new.begins u.new.ends) =
-        record { est = v.invariant.1.est; trains = u.auto.pool ∙ v.invariant.1.trains; first = omega (arith, u.auto.begins, v.invariant.1.first); last = omega (arith, u.auto.ends, v.invariant.1.last) } in
+    record { est = v.invariant.1.est; trains = u.auto.pool ∙ v.invariant.1.trains; first = omega (arith, u.auto.begins, v.invariant.1.first); last = omega (arith, u.auto.ends, v.invariant.1.last) } in
     let m = r.result.count in
     let o = c.if-a-eq0.false in
     let at = c.slot_of-top.ensures ∙ ap slot_of c.one_less-else-a-eq0.ensures in

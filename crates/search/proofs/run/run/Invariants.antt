@@ -1,26 +1,14 @@
-use mathlib.Core.Path.{◌≡◌, refl, sym, ap, ◌∙◌}
-use mathlib.Core.Bool.{true}
-use mathlib.Core.List.{List, [], ◌∷◌, ◌++◌}
-use Prim.Native.Nat.{ℕ, suc, ◌+◌, ◌-◌, ◌*◌, ◌≤◌, ◌<◌}
-use native.Mathlib.Omega.{arith}
-use lib.ListN.{length, get_or, take, set, length-set}
-use borrow.Author.Rules.{rules}
-use borrow.Author.Tests.{not-true, not-false}
+use mathlib.Core.Path.{◌≡◌}
+use mathlib.Core.List.{[]}
+use Prim.Native.Nat.{ℕ, ◌+◌, ◌≤◌, ◌<◌}
+use lib.ListN.{length, get_or}
 use Rattle.disp_structs.specs.Train.{Train}
-use Rattle.disp_structs.specs.declared.DispNode.{DispNode}
 use Rattle.disp_structs.specs.Listed.{listed}
-use Rattle.disp_structs.proofs.ListedLaws.{listed-length}
-use Rattle.image.specs.Image.{est_count, node_place, est_at, node_at, whole_node, path_of}
-use Rattle.free_path.specs.Base.{ok}
-use Rattle.update_definition.specs.Look as Look
-use Rattle.search.specs.declared.Place.{Place}
-use Rattle.search.specs.Read.{divs_of, round_of, here_of, search_in, arrays, Lent, Small}
-use Rattle.splice.specs.Parts.{Sound}
+use Rattle.image.specs.Image.{est_count, node_at}
+use Rattle.search.specs.Read.{divs_of, round_of, search_in, arrays, Lent}
 use Rattle.splice.specs.Read.{Kept}
-use Rattle.splice.proofs.NodeLaws.{kept-count, kept_then}
-use Rattle.search.specs.Runs.{counted, slot_of, SearchBegins, Going}
-use Rattle.image.proofs.RecordLaws.{whole-node}
-use Rattle.search.proofs.LoopLaws.{current_in, place-split, going_first, top_split, top_small, top-current, slot_in, slot-low, pushed_kept, pushed, pushed_current, array_pushed, not_more, not_pushed, current-none, current-last, blank, turn_sound, turn_on, turn-ends, turns_out}
+use Rattle.search.specs.Runs.{SearchBegins, Going}
+use Rattle.search.proofs.LoopLaws.{current_in, blank}
 use Rattle.search.proofs.run.run.Given as goal
 
 abbrev pub invariant-loop-left : goal.invariant-loop-left
@@ -31,4 +19,3 @@ invariant-loop-left l = Kept l.fresh l.initial.fresh × Lent l.r.est_count (arra
 
 abbrev pub decreases-loop-left : goal.decreases-loop-left
 decreases-loop-left l = l.left
-

@@ -7,4 +7,3 @@ returns-then-k-lt63 c = sym (slot_in c.args.k c.if-k-lt63.true)
 
 pub returns : goal.returns
 returns c = sym (slot_behind c.args.k c.if-k-lt63.false)
-

@@ -4,14 +4,6 @@ use Rattle.est_times.proofs.Counting.{clash}
 use Rattle.free_path.specs.Columns.{trains}
 use Rattle.search.specs.Read.{divs_of, views_of}
 use Rattle.search.specs.Effects.{leaves}
-use borrow.Author.Rules.{rules}
-use Rattle.search.proofs.turn.do_move.Reads as reads
-use Rattle.search.proofs.turn.do_move.Lts as lts
-use Rattle.search.proofs.moves.advance.Reads as advance-reads
-use Rattle.search.proofs.moves.alternate.Reads as alternate-reads
-use Rattle.search.proofs.moves.block_empty.Reads as block-empty-reads
-use Rattle.search.proofs.moves.push_saved.Reads as push-saved-reads
-use Rattle.search.proofs.rewind.rewind.Reads as rewind-reads
 use Rattle.search.proofs.turn.do_move.Goals as goal
 
 -- src/turn.rt:70:46
@@ -50,4 +42,3 @@ returns-in-Advance c = let a = c.args in
 
 pub returns-in-Join : goal.returns-in-Join
 returns-in-Join c = clash _ (ap leaves c.in-Join.is) c.requires.0
-

@@ -7,7 +7,6 @@ use Rattle.update_definition.specs.Update.{do_move}
 use Rattle.search.specs.Read.{round_of, here_of, search_in, arrays, divs_of}
 use Rattle.search.specs.declared.turn.Turned.{Turned}
 use Rattle.search.proofs.TurnLaws.{some_train, same-split, same_new, same-divs, goes_nowhere, goes-from, step_stored, step_occupied, step_chosen, step_left, step_done}
-use borrow.Author.Rules.{rules}
 use Rattle.search.proofs.turn.turn_from.Goals as goal
 
 pub returns-then-t-ne0 : goal.returns-then-t-ne0
@@ -117,4 +116,3 @@ returns c = let a = c.args in
     let kb = oc.ensures some_train a.img.now a.dt.now a.dn.now in
     let e = same-divs a.p st.result.place oc.result.place ka kb.kept in
     ((λ t new l look. rw x.ensures (step_done (round_of t a.occ.now a.img.now a.dt.now a.dn.now a.r) (search_in a.r.est_count a.p new (divs_of a.p.div_count a.nt.now a.nn.now) (arrays a.pool.now a.begins.now a.ends.now)) 0 (here_of a.h) (sym look) refl st.result.code (search_in a.r.est_count st.result.place new (divs_of a.p.div_count a.nt.now a.nn.now) (arrays st.new.pool st.new.begins st.new.ends)) ((st.ensures t a.occ.now a.img.now s.5).is new (divs_of a.p.div_count a.nt.now a.nn.now)) c.if-t-ne0.false oc.result.code (search_in a.r.est_count oc.result.place new (divs_of a.p.div_count a.nt.now a.nn.now) (arrays oc.new.pool oc.new.begins oc.new.ends)) ((oc.ensures t a.img.now a.dt.now a.dn.now).is new (divs_of a.p.div_count a.nt.now a.nn.now)) c.if-u-ne0.false m.result.code m.result.go (m.ensures t a.occ.now a.dt.now a.dn.now oc.new.begins new (divs_of a.p.div_count a.nt.now a.nn.now) (take oc.result.place.pool_count (trains oc.new.pool)) s.5) c.if-m-ne0.false (sym il.ensures ∙ c.if-is_left.false) d.result.effect _ (d.ensures.0 t a.occ.now a.dt.now a.dn.now new (l ∙ sym (same_new a.p st.result.place oc.result.place ka kb.kept)) ∙ ap (λ (k : ℕ). do_move m.result.go (round_of t a.occ.now a.img.now a.dt.now a.dn.now a.r) (here_of a.h) (search_in a.r.est_count oc.result.place new (divs_of k a.nt.now a.nn.now) (arrays oc.new.pool oc.new.begins oc.new.ends))) e))), rw x.ensures (goes-from a.p st.result.place oc.result.place ka kb.kept a.r d.result.place d.ensures.1), ap (λ (y : Turned). y.here) x.ensures)
-

@@ -1,4 +1,3 @@
-use borrow.Author.Rules.{rules}
 use native.Mathlib.Omega.{arith}
 use Rattle.search.proofs.ReadLaws.{blocked_out, blocked_in}
 use Rattle.search.proofs.views.is_blocked.Goals as goal
@@ -12,4 +11,3 @@ pub returns : goal.returns
 returns c = λ b.
     let a = c.args in
     blocked_in a.n b a.ends.now a.e (omega arith) c.u32_of.result c.u32_of.ensures
-

@@ -1,6 +1,5 @@
 use native.Mathlib.Omega.{arith}
 use Rattle.search.proofs.ReadLaws.{put_out, put_in}
-use borrow.Author.Rules.{rules}
 use Rattle.search.proofs.views.put_view.Goals as goal
 
 pub returns-then-n-i : goal.returns-then-n-i
@@ -10,4 +9,3 @@ returns-then-n-i c = let a = c.args in
 pub returns : goal.returns
 returns c = let a = c.args in
     put_in a.n a.begins.now a.ends.now a.e (omega arith) (omega arith) (omega arith) a.v
-

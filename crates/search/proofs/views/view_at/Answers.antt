@@ -1,7 +1,6 @@
 use native.Mathlib.Omega.{arith}
 use mathlib.Core.Path.{sym}
 use Rattle.search.proofs.ReadLaws.{view_out, view_in}
-use borrow.Author.Rules.{rules}
 use Rattle.search.proofs.views.view_at.Goals as goal
 
 pub returns-then-n-i : goal.returns-then-n-i
@@ -11,4 +10,3 @@ returns-then-n-i c = let a = c.args in
 pub returns : goal.returns
 returns c = let a = c.args in
     rw (view_in a.n a.begins.now a.ends.now a.e (omega arith), ← c.u32_of.ensures, ← c.u32_of-2.ensures)
-

@@ -1,5 +1,4 @@
 use native.Mathlib.Omega.{arith}
-use borrow.Author.Rules.{rules}
 use borrow.Author.Tests.{le-leb, lt-leb, eq-eqb, ne_eqb}
 use lib.ListN.{length}
 use Rattle.link_rules.specs.Octets.{le_at}
@@ -21,4 +20,3 @@ returns-then-u16_at-gt1 c = let b = c.args.bundle.now in rw (le-leb (length b) 6
 pub returns : goal.returns
 unfolding bundle_fits
 returns c = let b = c.args.bundle.now in rw (le-leb (length b) 65536 (omega arith), eq-eqb (le_at 4 b 0) (length b) (omega arith), le-leb (le_at 2 b 30) 1 (omega arith)) c.parts_fit.ensures
-

@@ -1,6 +1,5 @@
 use Prim.Native.Nat.{◌+◌, ◌*◌}
 use native.Mathlib.Omega.{arith}
-use borrow.Author.Rules.{rules}
 use borrow.Author.Tests.{eq-eqb, ne_eqb}
 use Rattle.link_rules.specs.Octets.{le_at}
 use Rattle.sheet_text.specs.Sheet.{occupancy_count, blocking_offset, blocking_count, yard_offset, parts_fit}
@@ -21,4 +20,3 @@ returns-then-yard-blocking c = let b = c.args.bundle.now in rw (eq-eqb (le_at 4 
 pub returns : goal.returns
 unfolding parts_fit
 returns c = let b = c.args.bundle.now in rw (eq-eqb (le_at 4 b 4) 32 (omega arith), eq-eqb (blocking_offset b) (32 + 2 * occupancy_count b) (omega arith), eq-eqb (yard_offset b) (blocking_offset b + 4 * blocking_count b) (omega arith), ← c.u32_at-yard.ensures)
-

@@ -1,7 +1,7 @@
-use Prim.Native.Nat.{ℕ, ◌+◌, ◌*◌, ◌-◌, ◌≤◌}
-use mathlib.Core.Path.{◌≡◌, refl, ap, ◌∙◌}
+use Prim.Native.Nat.{ℕ, ◌+◌, ◌*◌}
+use mathlib.Core.Path.{refl, ap, ◌∙◌}
 use borrow.Author.Rules.{rules}
-use lib.ListN.{length, take, length-set}
+use lib.ListN.{length, length-set}
 use Rattle.link_rules.specs.Octets.{le_at}
 use Rattle.disp_structs.specs.Listed.{listed}
 use Rattle.sheet_text.proofs.BundleLaws.{fill_turn, fill_end, fill_none}
@@ -21,4 +21,3 @@ returns c = let a = c.args in
     let l = c.loop-i in
     fill_end l.blocking (λ j. le_at 4 a.bundle.now (c.u32_at-offset.result + 4 * j)) l.i (length a.blocking.now) l.invariant.1 l.invariant.0 (search rules) l.invariant.2
     ∙ ap (λ (at : ℕ). listed (length a.blocking.now) (λ j. le_at 4 a.bundle.now (at + 4 * j))) c.u32_at-offset.ensures
-

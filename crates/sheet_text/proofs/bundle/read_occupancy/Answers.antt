@@ -1,9 +1,8 @@
-use Prim.Native.Nat.{◌+◌, ◌*◌, ◌-◌, ◌≤◌}
-use mathlib.Core.Path.{◌≡◌, refl, ◌∙◌}
+use Prim.Native.Nat.{◌+◌, ◌*◌}
+use mathlib.Core.Path.{refl, ◌∙◌}
 use borrow.Author.Rules.{rules}
-use lib.ListN.{length, take, length-set}
+use lib.ListN.{length, length-set}
 use Rattle.link_rules.specs.Octets.{le_at}
-use Rattle.disp_structs.specs.Listed.{listed}
 use Rattle.sheet_text.proofs.BundleLaws.{fill_turn, fill_end, fill_none}
 use Rattle.sheet_text.proofs.bundle.read_occupancy.Goals as goal
 
@@ -19,4 +18,3 @@ pub returns : goal.returns
 returns c = let a = c.args in
     let l = c.loop-i in
     fill_end l.occ (λ j. le_at 2 a.bundle.now (32 + 2 * j)) l.i (length a.occ.now) l.invariant.1 l.invariant.0 (search rules) l.invariant.2
-

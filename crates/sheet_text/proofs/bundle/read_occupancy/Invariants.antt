@@ -1,10 +1,8 @@
 use Prim.Native.Nat.{◌+◌, ◌*◌, ◌-◌, ◌≤◌}
-use mathlib.Core.Path.{◌≡◌, refl, ◌∙◌}
-use borrow.Author.Rules.{rules}
-use lib.ListN.{length, take, length-set}
+use mathlib.Core.Path.{◌≡◌}
+use lib.ListN.{length, take}
 use Rattle.link_rules.specs.Octets.{le_at}
 use Rattle.disp_structs.specs.Listed.{listed}
-use Rattle.sheet_text.proofs.BundleLaws.{fill_turn, fill_end, fill_none}
 use Rattle.sheet_text.proofs.bundle.read_occupancy.Given as goal
 
 abbrev pub invariant-loop-i : goal.invariant-loop-i
@@ -12,4 +10,3 @@ invariant-loop-i l = (l.i ≤ length l.initial.occ) × (length l.occ ≡ length 
 
 abbrev pub decreases-loop-i : goal.decreases-loop-i
 decreases-loop-i l = length l.initial.occ - l.i
-

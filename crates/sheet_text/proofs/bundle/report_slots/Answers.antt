@@ -1,5 +1,4 @@
 use mathlib.Core.Path.{sym, ◌∙◌}
-use borrow.Author.Rules.{rules}
 use Rattle.sheet_text.specs.Sheet.{report_slots}
 use Rattle.sheet_text.proofs.bundle.report_slots.Goals as goal
 
@@ -10,4 +9,3 @@ returns-then-yard_fits c = rw (sym c.yard_fits.ensures ∙ c.if-yard_fits.true) 
 pub returns : goal.returns
 unfolding report_slots
 returns c = rw (sym c.yard_fits.ensures ∙ c.if-yard_fits.false)
-

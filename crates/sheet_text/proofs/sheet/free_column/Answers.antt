@@ -1,6 +1,5 @@
 use mathlib.Core.Path.{sym, ◌∙◌}
 use Rattle.sheet_text.proofs.SheetLaws.{free-good, free_bad}
-use borrow.Author.Rules.{rules}
 use Rattle.sheet_text.proofs.sheet.free_column.Goals as goal
 
 pub returns-then-fault-eq0 : goal.returns-then-fault-eq0
@@ -8,4 +7,3 @@ returns-then-fault-eq0 c = let a = c.args in c.free_of.ensures ∙ sym (free-goo
 
 pub returns : goal.returns
 returns c = let a = c.args in sym (free_bad a.image.now a.links c.image_fault-fault.result c.image_fault-fault.ensures c.if-fault-eq0.false)
-

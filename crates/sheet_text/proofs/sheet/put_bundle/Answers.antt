@@ -4,7 +4,6 @@ use lib.ListN.{length, take, drop, length-replicate}
 use Prim.Native.Nat.{ℕ, ◌-◌}
 use native.Mathlib.Omega.{arith}
 use mathlib.Core.Path.{◌≡◌, ap, sym, ◌∙◌}
-use borrow.Author.Rules.{rules}
 use Rattle.sheet_text.proofs.sheet.put_bundle.Goals as goal
 
 pub overflow_sub-size : goal.overflow_sub-size
@@ -45,7 +44,6 @@ put_checked-requires c = let b = c.args.bundle.now in
     c.u32_at-links.result c.u32_at-count.result c.u32_at-at.result c.report_slots.result (parts b c.requires)
     c.occupancy_room-occ.ensures c.blocking_room-blocking.ensures c.yard_room-yard.ensures c.blank_report-report.ensures
     c.u32_at-links.ensures c.u32_at-count.ensures c.u32_at-at.ensures c.report_slots.ensures
-
 
 pub slice_bounds-report_slots-start : goal.slice_bounds-report_slots-start
 slice_bounds-report_slots-start c = let p = parts c.args.bundle.now c.requires in omega (arith, c.u32_at-at.ensures, p.yard-within)

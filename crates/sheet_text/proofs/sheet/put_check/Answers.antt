@@ -2,7 +2,6 @@ use Rattle.yard_check.specs.Yard.{slot_count}
 use Prim.Native.Nat.{◌≤◌}
 use native.Mathlib.Omega.{arith}
 use Rattle.sheet_text.proofs.SheetLaws.{refused_lines, erred_lines, done_lines, of_erred, of_done}
-use borrow.Author.Rules.{rules}
 use Rattle.sheet_text.proofs.sheet.put_check.Goals as goal
 
 pub overflow_cast-slots : goal.overflow_cast-slots
@@ -27,4 +26,3 @@ returns-in-Erred c = let a = c.args in
 pub returns-in-Done : goal.returns-in-Done
 returns-in-Done c = let a = c.args in
     done_lines a.yard.now a.report.now a.links c.in-Done.is c.slot_count-slots.ensures c.put_done-n.ensures c.put_slot_lines-in-Done.ensures
-

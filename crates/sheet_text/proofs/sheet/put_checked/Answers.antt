@@ -7,7 +7,6 @@ use lib.ListN.{drop}
 use Prim.Native.Nat.{ℕ, ◌+◌, ◌*◌}
 use mathlib.Core.Path.{ap, sym, ◌∙◌}
 use Rattle.sheet_text.proofs.SheetLaws.{slots-few, bundle-checked}
-use borrow.Author.Rules.{rules}
 use Rattle.sheet_text.proofs.sheet.put_checked.Goals as goal
 
 pub put_check-requires : goal.put_check-requires
@@ -33,4 +32,3 @@ returns c = let a = c.args in
     c.u16_at.ensures c.u16_at-2.ensures c.u16_at-3.ensures c.u16_at-4.ensures lent.blank
     in
     put_is (ap (λ (z : Checked). check_lines z (occupancy_count b)) (sym whole) ∙ ap (check_lines _) (sym c.u32_at-2.ensures)) c.put_check.ensures
-

@@ -4,7 +4,6 @@ use Rattle.disp_structs.specs.Listed.{listed}
 use Rattle.sheet_text.specs.Sheet.{refused_word, code_word}
 use Rattle.text.specs.Ascii.{ascii}
 use Rattle.text.proofs.TextLaws.{put_is}
-use borrow.Author.Rules.{rules}
 use Rattle.sheet_text.proofs.sheet.put_code_word.Goals as goal
 
 pub returns-then-code-eq0 : goal.returns-then-code-eq0
@@ -34,4 +33,3 @@ returns-then-code-eq5 c = put_is (ap code_word c.if-code-eq5.true) c.put_bytes-t
 pub returns : goal.returns
 returns c = let x = c.args.code in
     put_is (word-refused x c.if-code-eq0.false c.if-code-eq1.false c.if-code-eq2.false c.if-code-eq3.false c.if-code-eq4.false c.if-code-eq5.false ∙ ap refused_word (sym c.refusal_of.ensures)) c.put_refused_word.ensures
-

@@ -2,7 +2,6 @@ use mathlib.Core.Path.{ap, sym, ◌∙◌}
 use Rattle.yard_check.specs.Check.{row_from}
 use Rattle.text.specs.Ascii.{column}
 use Rattle.text.proofs.TextLaws.{then, put_is}
-use borrow.Author.Rules.{rules}
 use Rattle.sheet_text.proofs.sheet.put_columns.Goals as goal
 
 pub shape_of-text : goal.shape_of-text
@@ -22,4 +21,3 @@ returns c = then (put_is (ap column (sym c.u16_at.ensures)) c.put_column-a.ensur
     (then (put_is (ap column (sym c.u32_at-2.ensures)) c.put_column-d.ensures)
     (then c.put_column-e.ensures
     (then (put_is (ap column (sym c.u32_at-3.ensures)) c.put_column-f.ensures) c.put_byte.ensures)))))
-

@@ -1,7 +1,6 @@
 use Rattle.disp_structs.specs.Listed.{listed}
 use Rattle.text.specs.Ascii.{ascii}
 use Rattle.text.proofs.TextLaws.{then}
-use borrow.Author.Rules.{rules}
 use Rattle.sheet_text.proofs.sheet.put_done.Goals as goal
 
 pub returns : goal.returns
@@ -12,4 +11,3 @@ returns c = then c.put_bytes-a.ensures
     (then c.put_yes_or_no-d.ensures
     (then c.put_bytes-e.ensures
     (then c.put_column-f.ensures c.put_byte.ensures)))))
-

@@ -1,10 +1,8 @@
 use Rattle.disp_structs.specs.Listed.{listed}
 use Rattle.text.specs.Ascii.{ascii}
 use Rattle.text.proofs.TextLaws.{then}
-use borrow.Author.Rules.{rules}
 use Rattle.sheet_text.proofs.sheet.put_refused.Goals as goal
 
 pub returns : goal.returns
 unfolding ascii listed
 returns c = then c.put_bytes-a.ensures (then c.put_column-b.ensures c.put_byte.ensures)
-

@@ -1,10 +1,8 @@
 use mathlib.Core.Path.{◌≡◌, refl, ap, ◌∙◌}
 use mathlib.Core.List.{List}
-use Prim.Native.Nat.{ℕ, ◌-◌, ◌≤◌}
+use Prim.Native.Nat.{ℕ}
 use native.Mathlib.Omega.{arith}
-use lib.ListN.{length}
 use borrow.Author.Rules.{rules}
-use Rattle.text.specs.Text.{text_of, Put}
 use Rattle.sheet_text.specs.Sheet.{free_column, slot_lines}
 use Rattle.text.proofs.TextLaws.{put_is}
 use Rattle.sheet_text.proofs.SheetLaws.{lines_none, lines_turn}
@@ -28,4 +26,3 @@ returns c = let a = c.args in
     let l = c.loop-i in
     let e : a.slots ≡ l.i = omega (arith, c.loop-i-test.false, l.invariant.0) in
     put_is (ap (slot_lines a.yard.now a.report.now a.links) e) l.invariant.3
-

@@ -1,13 +1,8 @@
-use mathlib.Core.Path.{◌≡◌, refl, ap, ◌∙◌}
-use mathlib.Core.List.{List}
-use Prim.Native.Nat.{ℕ, ◌-◌, ◌≤◌}
-use native.Mathlib.Omega.{arith}
+use mathlib.Core.Path.{◌≡◌}
+use Prim.Native.Nat.{◌-◌, ◌≤◌}
 use lib.ListN.{length}
-use borrow.Author.Rules.{rules}
 use Rattle.text.specs.Text.{text_of, Put}
-use Rattle.sheet_text.specs.Sheet.{free_column, slot_lines}
-use Rattle.text.proofs.TextLaws.{put_is}
-use Rattle.sheet_text.proofs.SheetLaws.{lines_none, lines_turn}
+use Rattle.sheet_text.specs.Sheet.{slot_lines}
 use Rattle.sheet_text.proofs.sheet.put_slot_lines.Given as goal
 
 abbrev pub invariant-loop-i : goal.invariant-loop-i
@@ -15,4 +10,3 @@ invariant-loop-i l = (l.i ≤ l.slots) × (l.slots ≤ 63) × (length l.text ≡
 
 abbrev pub decreases-loop-i : goal.decreases-loop-i
 decreases-loop-i l = l.slots - l.i
-

@@ -3,7 +3,6 @@ use Rattle.disp_structs.specs.Listed.{listed}
 use Rattle.sheet_text.specs.Sheet.{yes_or_no}
 use Rattle.text.specs.Ascii.{ascii}
 use Rattle.text.proofs.TextLaws.{put_is}
-use borrow.Author.Rules.{rules}
 use Rattle.sheet_text.proofs.sheet.put_yes_or_no.Goals as goal
 
 pub returns-then-flag : goal.returns-then-flag
@@ -13,4 +12,3 @@ returns-then-flag c = put_is (ap yes_or_no c.if-flag.true) c.put_bytes.ensures
 pub returns : goal.returns
 unfolding ascii listed
 returns c = put_is (ap yes_or_no c.if-flag.false) c.put_bytes-2.ensures
-

@@ -2,7 +2,6 @@ use Rattle.text.proofs.TextLaws.{put_is, from_start}
 use Rattle.sheet_text.specs.Sheet.{sheet_text}
 use mathlib.Core.Path.{sym, ◌∙◌}
 use Rattle.sheet_text.proofs.SheetLaws.{sheet_fits, sheet_bad}
-use borrow.Author.Rules.{rules}
 use Rattle.sheet_text.proofs.sheet.sheet.Goals as goal
 
 pub put_bundle-requires : goal.put_bundle-requires
@@ -13,4 +12,3 @@ returns-then-bundle_fits c = let a = c.args in from_start (sheet_text a.bundle.n
 
 pub returns : goal.returns
 returns c = let a = c.args in from_start (sheet_text a.bundle.now) a.text.now (put_is (sheet_bad a.bundle.now (sym c.bundle_fits.ensures ∙ c.if-bundle_fits.false)) c.put_refused.ensures)
-

@@ -6,7 +6,6 @@ use borrow.Author.Tests.{eq-eqb, ne_eqb, lt-ltb, le-ltb}
 use Rattle.disp_structs.specs.declared.EstIdx.{EstIdx}
 use Rattle.image.specs.Image.{node_at}
 use Rattle.splice.specs.Read.{at_split}
-use borrow.Author.Rules.{rules}
 use Rattle.splice.proofs.change.at_split.Goals as goal
 
 pub returns-then-r-ne0 : goal.returns-then-r-ne0
@@ -43,4 +42,3 @@ pub returns : goal.returns
 unfolding at_split
 returns c = let a = c.args in
     rw (eq-eqb a.r.new_count 0 c.if-r-ne0.false, eq-eqb a.r.div_count 1 c.if-r-ne1.false, eq-eqb a.r.join a.r.split c.if-r.false, lt-ltb a.r.split a.n (omega arith), eq-eqb a.alt.0 (node_at a.img.now a.r.split).est_idx.0 (c.if-alt-e.false ∙ ap (λ (x : EstIdx). x.0) c.node_est_idx-e.ensures), lt-ltb a.r.div_split a.m (omega arith)) (ap (λ (x : ℕ). eqb a.r.split x) c.u32_of-d.ensures)
-

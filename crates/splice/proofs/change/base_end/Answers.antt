@@ -1,7 +1,5 @@
 use mathlib.Core.Path.{sym, ◌∙◌}
-use borrow.Author.Tests.{not-true, not-false}
 use Rattle.splice.specs.Read.{base_end}
-use borrow.Author.Rules.{rules}
 use Rattle.splice.proofs.change.base_end.Goals as goal
 
 pub returns-then-not-at_split : goal.returns-then-not-at_split
@@ -11,4 +9,3 @@ returns-then-not-at_split c = λ ts. rw (sym c.at_split.ensures ∙ c.if-not-at_
 pub returns : goal.returns
 unfolding base_end
 returns c = λ ts. rw (sym c.at_split.ensures ∙ c.if-not-at_split.false) (c.walk_past.ensures ts)
-

@@ -10,7 +10,6 @@ use Rattle.update_definition.specs.ImageTrain.{train_of}
 use Rattle.splice.specs.declared.Again.{Again}
 use Rattle.splice.proofs.JoinLaws.{told}
 use Rattle.splice.proofs.ChangeLaws.{new-divs, change_order, change_past, change_full, change_done}
-use borrow.Author.Rules.{rules}
 use Rattle.splice.proofs.change.change_at.Goals as goal
 
 pub returns-then-e-b : goal.returns-then-e-b
@@ -54,4 +53,3 @@ returns c = let a = c.args in
           (d.ensures ∙ ap (λ (x : List DivergeNode). take a.r.div_split (listed a.h.diverge_count (div_at a.dt.now a.dn.now)) ++ x ++ drop a.k (listed a.h.diverge_count (div_at a.dt.now a.dn.now))) (new-divs a.pool.now a.nt.now a.nn.now t.new.to n.new.col a.count a.v.idx_begin a.v.idx_end a.r.split (omega (arith, u)) (omega (arith, w)) p.0.counted (omega (arith, p.1, p.2, p.0.first, p.0.new_trains, r, o)) (omega (arith, p.1, p.2, p.0.first, p.0.new_nodes, r, o)) t.ensures n.ensures)),
       ap (λ (y : Again). y.moves) c.changed.ensures,
     )
-

@@ -2,7 +2,6 @@ use mathlib.Core.Path.{◌∙◌}
 use native.Mathlib.Omega.{arith}
 use Rattle.splice.proofs.JoinLaws.{told}
 use Rattle.splice.proofs.ChangeLaws.{base_found, change_base, change_found}
-use borrow.Author.Rules.{rules}
 use Rattle.splice.proofs.change.change_diverge.Goals as goal
 
 pub returns-then-k-ne0 : goal.returns-then-k-ne0
@@ -21,4 +20,3 @@ pub returns : goal.returns
 returns c = let a = c.args in
     let k = c.base_end-k in
     ((λ R H S st ch. c.change_at.ensures.0 ∙ change_found a.img.now a.dt.now a.dn.now a.pool.now a.h a.r a.alt a.v a.count R H S st ch k.result.code k.result.at (k.ensures a.dt.now) c.if-k-ne0.false), c.change_at.ensures.1)
-

@@ -1,11 +1,7 @@
-use mathlib.Core.Path.{◌≡◌, refl, ap, ◌∙◌}
-use mathlib.Core.List.{List}
-use Prim.Native.Nat.{ℕ, ◌+◌, ◌-◌, ◌≤◌}
-use native.Mathlib.Omega.{arith}
-use lib.ListN.{length, get_or, drop, set}
-use lib.Seq.{paste, paste-zero}
-use Rattle.splice.proofs.ListLaws.{copy_turn}
-use borrow.Author.Rules.{rules}
+use mathlib.Core.Path.{◌≡◌}
+use Prim.Native.Nat.{◌-◌, ◌≤◌}
+use lib.ListN.{length, drop}
+use lib.Seq.{paste}
 use Rattle.splice.proofs.copies.copy_entries.Given as goal
 
 abbrev pub invariant-loop-j : goal.invariant-loop-j
@@ -13,4 +9,3 @@ invariant-loop-j l = (l.j ≤ l.k) × (length l.to ≡ length l.initial.to) × (
 
 abbrev pub decreases-loop-j : goal.decreases-loop-j
 decreases-loop-j l = l.k - l.j
-

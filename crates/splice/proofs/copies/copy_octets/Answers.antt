@@ -1,8 +1,8 @@
 use mathlib.Core.Path.{◌≡◌, refl, ap, ◌∙◌}
 use mathlib.Core.List.{List}
-use Prim.Native.Nat.{ℕ, ◌+◌, ◌-◌, ◌≤◌}
+use Prim.Native.Nat.{ℕ, ◌+◌}
 use native.Mathlib.Omega.{arith}
-use lib.ListN.{length, get_or, drop, set}
+use lib.ListN.{get_or, drop, set}
 use lib.Seq.{paste, paste-zero}
 use Rattle.splice.proofs.ListLaws.{copy_turn}
 use borrow.Author.Rules.{rules}
@@ -21,4 +21,3 @@ returns c = let l = c.loop-j in
     let a = c.args in
     let e : l.j ≡ a.k = omega arith in
     l.invariant.2 ∙ ap (λ (n : ℕ). paste a.to.now a.b (drop a.a a.from.now) n) e
-

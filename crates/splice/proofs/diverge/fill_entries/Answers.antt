@@ -1,8 +1,6 @@
 use mathlib.Core.Path.{◌≡◌, refl}
-use Prim.Native.Nat.{◌-◌, ◌≤◌}
 use native.Mathlib.Omega.{arith}
 use native.Mathlib.Numerals.{add-one}
-use lib.ListN.{length}
 use Rattle.splice.specs.Parts.{filled}
 use borrow.Author.Rules.{rules}
 use Rattle.splice.proofs.diverge.fill_entries.Goals as goal
@@ -17,4 +15,3 @@ loop-j-preserved c = (search rules, search rules, rw add-one (cc))
 
 pub returns : goal.returns
 returns c = let e : c.loop-j.j ≡ c.args.k = omega arith in cc
-

@@ -1,10 +1,7 @@
-use mathlib.Core.Path.{◌≡◌, refl}
+use mathlib.Core.Path.{◌≡◌}
 use Prim.Native.Nat.{◌-◌, ◌≤◌}
-use native.Mathlib.Omega.{arith}
-use native.Mathlib.Numerals.{add-one}
 use lib.ListN.{length}
 use Rattle.splice.specs.Parts.{filled}
-use borrow.Author.Rules.{rules}
 use Rattle.splice.proofs.diverge.fill_entries.Given as goal
 
 abbrev pub invariant-loop-j : goal.invariant-loop-j
@@ -12,4 +9,3 @@ invariant-loop-j l = (l.j ≤ l.k) × (length l.col ≡ length l.initial.col) ×
 
 abbrev pub decreases-loop-j : goal.decreases-loop-j
 decreases-loop-j l = l.k - l.j
-

@@ -1,8 +1,8 @@
-use mathlib.Core.Path.{◌≡◌, refl, sym, ap, ◌∙◌}
+use mathlib.Core.Path.{refl, sym, ap, ◌∙◌}
 use mathlib.Core.List.{List}
-use Prim.Native.Nat.{ℕ, ◌+◌, ◌-◌, ◌≤◌}
+use Prim.Native.Nat.{ℕ, ◌+◌}
 use native.Mathlib.Omega.{arith}
-use lib.ListN.{length, get_or}
+use lib.ListN.{get_or}
 use lib.Seq.{get_or-set_other}
 use Rattle.free_path.specs.Columns.{div_at}
 use Rattle.disp_structs.specs.Listed.{listed}
@@ -37,4 +37,3 @@ pub returns : goal.returns
 returns c = let l = c.loop-i in
     let a = c.args in
     λ ts h. sym (shift_end a.join a.base ts l.dn a.m l.i (omega arith)) ∙ l.invariant.2 ts h
-

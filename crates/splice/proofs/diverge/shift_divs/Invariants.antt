@@ -1,15 +1,11 @@
-use mathlib.Core.Path.{◌≡◌, refl, sym, ap, ◌∙◌}
+use mathlib.Core.Path.{◌≡◌}
 use mathlib.Core.List.{List}
-use Prim.Native.Nat.{ℕ, ◌+◌, ◌-◌, ◌≤◌}
-use native.Mathlib.Omega.{arith}
+use Prim.Native.Nat.{ℕ, ◌-◌, ◌≤◌}
 use lib.ListN.{length, get_or}
-use lib.Seq.{get_or-set_other}
 use Rattle.free_path.specs.Columns.{div_at}
 use Rattle.disp_structs.specs.Listed.{listed}
 use Rattle.update_definition.specs.Join.{shift_divs}
 use Rattle.splice.specs.Parts.{from_on}
-use Rattle.splice.proofs.DivLaws.{shift_end, shift_no, shift_turn}
-use borrow.Author.Rules.{rules}
 use Rattle.splice.proofs.diverge.shift_divs.Given as goal
 
 abbrev pub invariant-loop-i : goal.invariant-loop-i
@@ -17,4 +13,3 @@ invariant-loop-i l = (length l.dn ≡ length l.initial.dn) × ((j : ℕ) → l.i
 
 abbrev pub decreases-loop-i : goal.decreases-loop-i
 decreases-loop-i l = l.m - l.i
-

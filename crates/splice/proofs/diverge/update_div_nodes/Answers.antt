@@ -59,4 +59,3 @@ pub returns : goal.returns
 returns c = let a = c.args in
     let p = c.requires in
     (div_done a.room a.m a.c (div_at a.dt.now a.dn.now) (div_at a.dt.now c.move_divs-s.new.dn) (div_at a.nt.now a.nn.now) a.split a.base a.join _ _ (c.walk_above-k.ensures a.dt.now) c.if-k-ne0.false _ (c.move_divs-s.ensures a.dt.now (omega arith)) c.if-s-ne0.false c.if-c-eq0.false (omega arith) _ c.splice_divs.ensures, search rules)
-

@@ -1,15 +1,10 @@
-use mathlib.Core.Path.{◌≡◌, refl, sym, ◌∙◌}
-use mathlib.Core.List.{List}
-use Prim.Native.Nat.{ℕ, ◌-◌}
+use mathlib.Core.Path.{refl, sym, ◌∙◌}
 use native.Mathlib.Omega.{arith}
 use lib.Dec.{ltb}
 use lib.ListN.{get_or}
 use borrow.Author.Tests.{lt-ltb, le-ltb}
-use Rattle.free_path.specs.Base.{walk_from}
 use Rattle.free_path.specs.Columns.{div_at}
-use Rattle.disp_structs.specs.Listed.{listed}
 use Rattle.splice.proofs.ListLaws.{walk_hit, walk_miss, walk_none}
-use borrow.Author.Rules.{rules}
 use Rattle.splice.proofs.diverge.walk_above.Goals as goal
 
 pub loop-k-init : goal.loop-k-init
@@ -26,4 +21,3 @@ loop-k-preserved c = let a = c.args in
 pub returns : goal.returns
 returns c = let a = c.args in
     λ ts. sym (walk_none (λ d. ltb a.x d.disp_node_idx) a.m (div_at ts a.dn.now) c.loop-k.k (omega arith)) ∙ c.loop-k.invariant ts
-

@@ -1,15 +1,10 @@
-use mathlib.Core.Path.{◌≡◌, refl, sym, ◌∙◌}
+use mathlib.Core.Path.{◌≡◌}
 use mathlib.Core.List.{List}
 use Prim.Native.Nat.{ℕ, ◌-◌}
-use native.Mathlib.Omega.{arith}
 use lib.Dec.{ltb}
-use lib.ListN.{get_or}
-use borrow.Author.Tests.{lt-ltb, le-ltb}
 use Rattle.free_path.specs.Base.{walk_from}
 use Rattle.free_path.specs.Columns.{div_at}
 use Rattle.disp_structs.specs.Listed.{listed}
-use Rattle.splice.proofs.ListLaws.{walk_hit, walk_miss, walk_none}
-use borrow.Author.Rules.{rules}
 use Rattle.splice.proofs.diverge.walk_above.Given as goal
 
 abbrev pub invariant-loop-k : goal.invariant-loop-k
@@ -17,4 +12,3 @@ invariant-loop-k l = (ts : List ℕ) → walk_from (λ d. ltb l.x d.disp_node_id
 
 abbrev pub decreases-loop-k : goal.decreases-loop-k
 decreases-loop-k l = l.m - l.k
-

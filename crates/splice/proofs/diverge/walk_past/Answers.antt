@@ -1,16 +1,11 @@
-use mathlib.Core.Path.{◌≡◌, refl, sym, ap, ◌∙◌}
+use mathlib.Core.Path.{refl, sym, ap, ◌∙◌}
 use mathlib.Core.Bool.{not}
-use mathlib.Core.List.{List}
-use Prim.Native.Nat.{ℕ, ◌-◌}
 use native.Mathlib.Omega.{arith}
 use lib.Dec.{eqb}
 use lib.ListN.{get_or}
 use borrow.Author.Tests.{eq-eqb, ne_eqb}
-use Rattle.free_path.specs.Base.{walk_from}
 use Rattle.free_path.specs.Columns.{div_at}
-use Rattle.disp_structs.specs.Listed.{listed}
 use Rattle.splice.proofs.ListLaws.{walk_hit, walk_miss, walk_none}
-use borrow.Author.Rules.{rules}
 use Rattle.splice.proofs.diverge.walk_past.Goals as goal
 
 pub loop-k-init : goal.loop-k-init
@@ -27,4 +22,3 @@ loop-k-preserved c = let a = c.args in
 pub returns : goal.returns
 returns c = let a = c.args in
     λ ts. sym (walk_none (λ d. not (eqb d.disp_node_idx a.x)) a.m (div_at ts a.dn.now) c.loop-k.k (omega arith)) ∙ c.loop-k.invariant ts
-

@@ -1,16 +1,11 @@
-use mathlib.Core.Path.{◌≡◌, refl, sym, ap, ◌∙◌}
+use mathlib.Core.Path.{◌≡◌}
 use mathlib.Core.Bool.{not}
 use mathlib.Core.List.{List}
 use Prim.Native.Nat.{ℕ, ◌-◌}
-use native.Mathlib.Omega.{arith}
 use lib.Dec.{eqb}
-use lib.ListN.{get_or}
-use borrow.Author.Tests.{eq-eqb, ne_eqb}
 use Rattle.free_path.specs.Base.{walk_from}
 use Rattle.free_path.specs.Columns.{div_at}
 use Rattle.disp_structs.specs.Listed.{listed}
-use Rattle.splice.proofs.ListLaws.{walk_hit, walk_miss, walk_none}
-use borrow.Author.Rules.{rules}
 use Rattle.splice.proofs.diverge.walk_past.Given as goal
 
 abbrev pub invariant-loop-k : goal.invariant-loop-k
@@ -18,4 +13,3 @@ invariant-loop-k l = (ts : List ℕ) → walk_from (λ d. not (eqb d.disp_node_i
 
 abbrev pub decreases-loop-k : goal.decreases-loop-k
 decreases-loop-k l = l.m - l.k
-

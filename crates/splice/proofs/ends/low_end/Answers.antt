@@ -8,4 +8,3 @@ returns-then-low-split c = let a = c.args in (rw (lt-leb a.split a.low (omega ar
 
 pub returns : goal.returns
 returns c = let a = c.args in (rw (le-leb a.split a.low (omega arith)), search rules)
-

@@ -15,4 +15,3 @@ returns-then-n-i c = let a = c.args in
 pub returns : goal.returns
 returns c = let a = c.args in
     (c.match_new.ensures.0 ∙ ap (λ (v : LinkEvent). match_new (listed a.k (node_at a.fresh.now)) a.from v) c.node_link_event-e.ensures ∙ read_in a.n (node_at a.img.now) a.i (λ x. match_new (listed a.k (node_at a.fresh.now)) a.from x.link_event) (omega arith), c.match_new.ensures.1)
-

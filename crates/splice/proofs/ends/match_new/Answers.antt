@@ -1,11 +1,8 @@
-use mathlib.Core.Path.{◌≡◌, refl, sym, ap, ◌∙◌}
-use Prim.Native.Nat.{◌-◌}
+use mathlib.Core.Path.{refl, sym, ap, ◌∙◌}
 use native.Mathlib.Omega.{arith}
 use Rattle.disp_structs.specs.Values.{same_event}
 use Rattle.disp_structs.specs.declared.LinkEvent.{LinkEvent}
 use Rattle.image.specs.Image.{node_at}
-use Rattle.disp_structs.specs.Listed.{listed}
-use Rattle.update_definition.specs.Join.{match_new}
 use Rattle.splice.proofs.ListLaws.{walk_hit, walk_miss, walk_none}
 use borrow.Author.Rules.{rules}
 use Rattle.splice.proofs.ends.match_new.Goals as goal
@@ -27,4 +24,3 @@ pub returns : goal.returns
 returns c = let b = c.loop-j in
     let a = c.args in
     (sym (walk_none (λ x. same_event x.link_event a.e) a.k (node_at a.fresh.now) b.j (omega arith)) ∙ b.invariant, search rules)
-

@@ -1,13 +1,8 @@
-use mathlib.Core.Path.{◌≡◌, refl, sym, ap, ◌∙◌}
+use mathlib.Core.Path.{◌≡◌}
 use Prim.Native.Nat.{◌-◌}
-use native.Mathlib.Omega.{arith}
-use Rattle.disp_structs.specs.Values.{same_event}
-use Rattle.disp_structs.specs.declared.LinkEvent.{LinkEvent}
 use Rattle.image.specs.Image.{node_at}
 use Rattle.disp_structs.specs.Listed.{listed}
 use Rattle.update_definition.specs.Join.{match_new}
-use Rattle.splice.proofs.ListLaws.{walk_hit, walk_miss, walk_none}
-use borrow.Author.Rules.{rules}
 use Rattle.splice.proofs.ends.match_new.Given as goal
 
 abbrev pub invariant-loop-j : goal.invariant-loop-j
@@ -15,4 +10,3 @@ invariant-loop-j l = match_new (listed l.k (node_at l.fresh)) l.j l.e ≡ match_
 
 abbrev pub decreases-loop-j : goal.decreases-loop-j
 decreases-loop-j l = l.k - l.j
-

@@ -19,4 +19,3 @@ low_end-requires c = (omega (arith, c.match_low-a.ensures.1), search rules)
 pub returns : goal.returns
 returns c = let a = c.args in
     (ends_both (listed a.n (node_at a.img.now)) (listed a.k (node_at a.fresh.now)) a.split a.low a.high _ _ c.match_low-a.ensures.0 c.if-a-ne0.false _ _ c.match_at-b.ensures.0 c.if-b-ne0.false _ c.low_end.ensures.0, c.low_end.ensures.1, omega (arith, c.match_at-b.ensures.1))
-

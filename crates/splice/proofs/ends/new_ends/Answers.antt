@@ -15,4 +15,3 @@ returns-then-high-split c = let a = c.args in (rw (lt-ltb a.high a.base (omega a
 pub returns : goal.returns
 unfolding new_ends
 returns c = let a = c.args in (rw (lt-ltb a.high a.base (omega arith), le-leb a.split a.high (omega arith)) c.move_ends.ensures.0, c.move_ends.ensures.1, c.move_ends.ensures.2)
-

@@ -2,7 +2,6 @@ use mathlib.Core.Path.{sym, ◌∙◌}
 use Prim.Native.Nat.{◌+◌, ◌-◌}
 use native.Mathlib.Omega.{arith}
 use Rattle.splice.proofs.JoinLaws.{told, moves_none, finish-free, finish-done}
-use borrow.Author.Rules.{rules}
 use Rattle.splice.proofs.join.finish_at.Goals as goal
 
 pub returns-then-f-ne0 : goal.returns-then-f-ne0
@@ -22,4 +21,3 @@ overflow_cast-out-2 c = let a = c.args in
 pub returns : goal.returns
 returns c = let a = c.args in
     ((λ dt dn. finish-done a.img.now a.fresh.now dt dn a.h a.r a.base a.div_split c.splice_path-moved.new.img (a.r.split + a.r.new_count + (a.h.path_count - a.base)) c.splice_path-moved.ensures.0 c.free_is_correct-f.result c.free_is_correct-f.ensures.0 c.if-f-ne0.false c.splice_path-moved.ensures.1), c.splice_path-moved.ensures.1, c.splice_path-moved.ensures.2)
-

@@ -2,7 +2,6 @@ use native.Mathlib.Omega.{arith}
 use Rattle.image.specs.Image.{node_at}
 use Rattle.disp_structs.specs.Listed.{listed}
 use Rattle.splice.proofs.JoinLaws.{back-first, front-first}
-use borrow.Author.Rules.{rules}
 use Rattle.splice.proofs.join.front_back.Goals as goal
 
 pub returns-then-back-front : goal.returns-then-back-front
@@ -12,4 +11,3 @@ returns-then-back-front c = let a = c.args in
 pub returns : goal.returns
 returns c = let a = c.args in
     λ t p f b. front-first t (listed a.n (node_at a.img.now)) (listed a.k (node_at a.fresh.now)) a.split a.base a.front a.back p f b c.new_ends-y.result.code c.new_ends-y.result.low c.new_ends-y.result.high (omega arith) c.new_ends-y.ensures.0
-

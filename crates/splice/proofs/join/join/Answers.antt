@@ -4,7 +4,6 @@ use Rattle.free_path.specs.Base.{Res}
 use Rattle.free_path.specs.Columns.{answer}
 use Rattle.splice.specs.Parts.{moves_of}
 use Rattle.splice.proofs.JoinLaws.{told, moves_none, join_walk, join_found}
-use borrow.Author.Rules.{rules}
 use Rattle.splice.proofs.join.join.Goals as goal
 
 pub returns-then-found-ne0 : goal.returns-then-found-ne0
@@ -21,4 +20,3 @@ returns c = let a = c.args in
     let j = c.join_base-found in
     let t = c.splice_at in
     ((λ R H S st jo. t.ensures.0 R H S st jo ∙ join_found a.img.now a.dt.now a.dn.now a.h a.r a.est R H S st j.result.code j.result.at j.ensures c.if-found-ne0.false), t.ensures.1, t.ensures.2 ∙ ap (λ (b : Res ℕ). moves_of t.result.code (a.r.split + a.r.new_count) a.h.path_count b) (sym (ap (λ (x : ℕ). answer x j.result.at) c.if-found-ne0.false) ∙ j.ensures))
-

@@ -11,7 +11,6 @@ use Rattle.splice.specs.Parts.{DivsFit}
 use Rattle.splice.proofs.ListLaws.{walk_found}
 use Rattle.splice.proofs.NodeLaws.{kept-le, kept-count, kept_then}
 use Rattle.splice.proofs.JoinLaws.{told, moves_none, path-is, front-is, back_is, splice_helpers, splice_divs, splice_end}
-use borrow.Author.Rules.{rules}
 use Rattle.splice.proofs.join.splice_at.Goals as goal
 
 pub returns-then-x-ne0 : goal.returns-then-x-ne0
@@ -71,4 +70,3 @@ returns c = let a = c.args in
     let d = c.divs_at-d in
     let f = c.finish_at in
     ((λ R H S st jo. f.ensures.0 d.new.dt d.new.dn ∙ splice_end a.img.now a.dt.now a.dn.now a.h a.r a.est R H S st a.fresh.now a.nt.now a.nn.now a.curr jo a.base b.1 u.new.img u.result.code u.result.front u.result.back (u.ensures.0 (train_of a.img.now a.dt.now a.dn.now a.h) (path-is a.img.now a.dt.now a.dn.now a.h) (front-is a.img.now a.dt.now a.dn.now a.h) (back_is a.img.now a.dt.now a.dn.now a.h) ∙ ap (update_free_path_helpers (train_of a.img.now a.dt.now a.dn.now a.h) (listed a.r.new_count (node_at a.fresh.now)) a.r.split a.base) c.offset_change-change.ensures) c.if-x-ne0.false d.new.dt d.new.dn d.result.code d.result.count d.result.split (d.ensures.0 ∙ ap (λ (q : ℕ). update_div_nodes q (listed a.h.diverge_count (div_at a.dt.now a.dn.now)) (listed a.r.div_count (div_at a.nt.now a.nn.now)) a.r.div_split a.base a.r.join) (kept-le u.new.img a.img.now u.ensures.1 4 16 (omega arith))) c.if-d-ne0.false u.ensures.1), (λ z. kept_then _ u.new.img a.img.now f.ensures.1 u.ensures.1), f.ensures.2)
-

@@ -4,7 +4,6 @@ use Rattle.update_definition.specs.State.{with_path}
 use Rattle.image.specs.Image.{node_at}
 use Rattle.disp_structs.specs.Listed.{listed}
 use Rattle.splice.proofs.JoinLaws.{helped_links, helped_offsets, helped_sides}
-use borrow.Author.Rules.{rules}
 use Rattle.splice.proofs.join.update_free_path_helpers.Goals as goal
 
 pub exchange_links-c-requires : goal.exchange_links-c-requires
@@ -12,17 +11,17 @@ exchange_links-c-requires c = (c.requires.2, c.requires.3)
 
 pub returns-then-c-ne0 : goal.returns-then-c-ne0
 returns-then-c-ne0 c = let a = c.args in (
-      (λ t p f b. helped_links t (listed a.r.new_count (node_at a.fresh.now)) a.r.split a.base a.change (listed a.h.path_count (node_at a.img.now)) (listed a.h.path_count (node_at a.img.now)) p _ c.exchange_links-c.ensures.0 c.if-c-ne0.true _),
-      record { size = refl; below = λ i h. refl },
-      (λ z. absurd (c.if-c-ne0.true z)),
-    )
+  (λ t p f b. helped_links t (listed a.r.new_count (node_at a.fresh.now)) a.r.split a.base a.change (listed a.h.path_count (node_at a.img.now)) (listed a.h.path_count (node_at a.img.now)) p _ c.exchange_links-c.ensures.0 c.if-c-ne0.true _),
+  record { size = refl; below = λ i h. refl },
+  (λ z. absurd (c.if-c-ne0.true z)),
+)
 
 pub returns-then-s-ne0 : goal.returns-then-s-ne0
 returns-then-s-ne0 c = let a = c.args in (
-      (λ t p f b. helped_offsets t (listed a.r.new_count (node_at a.fresh.now)) a.r.split a.base a.change (listed a.h.path_count (node_at a.img.now)) _ p _ c.exchange_links-c.ensures.0 c.if-c-ne0.false _ c.update_offsets-s.ensures.0 c.if-s-ne0.true _),
-      c.update_offsets-s.ensures.1,
-      (λ z. absurd (c.if-s-ne0.true z)),
-    )
+  (λ t p f b. helped_offsets t (listed a.r.new_count (node_at a.fresh.now)) a.r.split a.base a.change (listed a.h.path_count (node_at a.img.now)) _ p _ c.exchange_links-c.ensures.0 c.if-c-ne0.false _ c.update_offsets-s.ensures.0 c.if-s-ne0.true _),
+  c.update_offsets-s.ensures.1,
+  (λ z. absurd (c.if-s-ne0.true z)),
+)
 
 pub returns : goal.returns
 returns c = let a = c.args in
@@ -31,4 +30,3 @@ returns c = let a = c.args in
       c.update_offsets-s.ensures.1,
       (λ z. c.exchange_links-c.ensures.1 c.if-c-ne0.false),
     )
-

@@ -2,9 +2,7 @@ use mathlib.Core.Path.{sym, ap, ◌∙◌}
 use Prim.Native.Nat.{ℕ}
 use lib.ListN.{set}
 use Rattle.splice.specs.Flags.{links_of, exchanged}
-use borrow.Author.Tests.{not-true, not-false}
 use Rattle.splice.proofs.FlagLaws.{event-none, event-no, event-put, gives_eq}
-use borrow.Author.Rules.{rules}
 use Rattle.splice.proofs.links.exchange_event.Goals as goal
 
 pub returns-then-not-is_arrive : goal.returns-then-not-is_arrive
@@ -20,4 +18,3 @@ pub returns : goal.returns
 returns c = let a = c.args in
     let t = sym c.is_arrive.ensures ∙ c.if-not-is_arrive.false in
     λ b on q h l. gives_eq 0 _ _ (exchanged b (links_of a.e) on) (c.put_flag.ensures ∙ ap (λ (x : ℕ). set a.flags.now a.e.link_idx.0 x) q) (event-put b a.flags.now on a.e h t (l t) (λ z. c.if-flag_at-x.false (c.flag_at.ensures ∙ z ∙ sym q)))
-

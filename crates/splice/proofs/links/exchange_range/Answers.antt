@@ -1,15 +1,6 @@
-use mathlib.Core.Path.{◌≡◌, refl}
-use mathlib.Core.Bool.{Bool}
-use mathlib.Core.List.{List}
-use Prim.Native.Nat.{ℕ, ◌-◌, ◌≤◌, ◌<◌}
+use mathlib.Core.Path.{refl}
 use native.Mathlib.Omega.{arith}
-use lib.ListN.{length}
-use Rattle.link_rules.specs.declared.link_idx.LinkIdx.{LinkIdx}
 use Rattle.image.specs.Image.{node_at}
-use Rattle.free_path.specs.Base.{part}
-use Rattle.free_path.specs.LinkOptType.{links_on_path}
-use Rattle.disp_structs.specs.Listed.{listed}
-use Rattle.splice.specs.Flags.{bit, Holds, Gives, Below, exchanged}
 use Rattle.splice.proofs.FlagLaws.{event_eq, range_next, range_stop, range_end}
 use borrow.Author.Rules.{rules}
 use Rattle.splice.proofs.links.exchange_range.Goals as goal
@@ -33,4 +24,3 @@ pub returns : goal.returns
 returns c = let l = c.loop-i in
     let a = c.args in
     λ n b on h q z bl. l.invariant.1 0 l.flags n b h q bl (λ x y. range_end b (node_at a.img.now) n l.i a.e l.flags x (omega arith) y) on z
-

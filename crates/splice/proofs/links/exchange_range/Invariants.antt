@@ -1,8 +1,7 @@
-use mathlib.Core.Path.{◌≡◌, refl}
+use mathlib.Core.Path.{◌≡◌}
 use mathlib.Core.Bool.{Bool}
 use mathlib.Core.List.{List}
 use Prim.Native.Nat.{ℕ, ◌-◌, ◌≤◌, ◌<◌}
-use native.Mathlib.Omega.{arith}
 use lib.ListN.{length}
 use Rattle.link_rules.specs.declared.link_idx.LinkIdx.{LinkIdx}
 use Rattle.image.specs.Image.{node_at}
@@ -10,8 +9,6 @@ use Rattle.free_path.specs.Base.{part}
 use Rattle.free_path.specs.LinkOptType.{links_on_path}
 use Rattle.disp_structs.specs.Listed.{listed}
 use Rattle.splice.specs.Flags.{bit, Holds, Gives, Below, exchanged}
-use Rattle.splice.proofs.FlagLaws.{event_eq, range_next, range_stop, range_end}
-use borrow.Author.Rules.{rules}
 use Rattle.splice.proofs.links.exchange_range.Given as goal
 
 abbrev pub invariant-loop-i : goal.invariant-loop-i
@@ -19,4 +16,3 @@ invariant-loop-i l = (length l.flags ≡ length l.initial.flags) × ((code : ℕ
 
 abbrev pub decreases-loop-i : goal.decreases-loop-i
 decreases-loop-i l = l.e - l.i
-

@@ -1,8 +1,6 @@
 use mathlib.Core.Path.{◌≡◌, refl, ap, subst, ◌∙◌}
-use mathlib.Core.List.{[]}
-use Prim.Native.Nat.{ℕ, ◌-◌, ◌≤◌}
+use Prim.Native.Nat.{ℕ}
 use native.Mathlib.Omega.{arith}
-use lib.ListN.{length}
 use Rattle.disp_structs.specs.declared.LinkEvent.{LinkEvent}
 use Rattle.image.specs.Image.{node_at}
 use Rattle.free_path.specs.LinkOptType.{links_on_path}
@@ -26,4 +24,3 @@ returns c = let l = c.loop-i in
     let a = c.args in
     let e : l.i ≡ a.n = omega arith in
     λ h. subst (λ (m : ℕ). Holds l.flags (links_on_path (listed m (node_at a.img.now)))) e (l.invariant.2 h)
-

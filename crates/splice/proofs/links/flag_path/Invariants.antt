@@ -1,15 +1,11 @@
-use mathlib.Core.Path.{◌≡◌, refl, ap, subst, ◌∙◌}
+use mathlib.Core.Path.{◌≡◌}
 use mathlib.Core.List.{[]}
-use Prim.Native.Nat.{ℕ, ◌-◌, ◌≤◌}
-use native.Mathlib.Omega.{arith}
+use Prim.Native.Nat.{◌-◌, ◌≤◌}
 use lib.ListN.{length}
-use Rattle.disp_structs.specs.declared.LinkEvent.{LinkEvent}
 use Rattle.image.specs.Image.{node_at}
 use Rattle.free_path.specs.LinkOptType.{links_on_path}
 use Rattle.disp_structs.specs.Listed.{listed}
-use Rattle.splice.specs.Flags.{Holds, flag_event}
-use Rattle.splice.proofs.FlagLaws.{holds_eq, path-turn}
-use borrow.Author.Rules.{rules}
+use Rattle.splice.specs.Flags.{Holds}
 use Rattle.splice.proofs.links.flag_path.Given as goal
 
 abbrev pub invariant-loop-i : goal.invariant-loop-i
@@ -17,4 +13,3 @@ invariant-loop-i l = (l.i ≤ l.n) × (length l.flags ≡ length l.initial.flags
 
 abbrev pub decreases-loop-i : goal.decreases-loop-i
 decreases-loop-i l = l.n - l.i
-

@@ -1,11 +1,10 @@
 use mathlib.Core.Path.{◌≡◌, refl, sym, ap, ◌∙◌}
 use mathlib.Core.Bool.{Bool, cond}
-use Prim.Native.Nat.{◌+◌, ◌-◌, ◌*◌, ◌≤◌}
+use Prim.Native.Nat.{◌+◌, ◌*◌}
 use native.Mathlib.Omega.{arith}
 use lib.Dec.{ltb}
-use lib.ListN.{length}
 use borrow.Author.Tests.{eq-eqb, ne_eqb}
-use Rattle.splice.proofs.MoveLaws.{Moved, moved_stay, moved-is, low, high, moved-first, moved-last, moved-next}
+use Rattle.splice.proofs.MoveLaws.{moved_stay, moved-is, moved-first, moved-last, moved-next}
 use borrow.Author.Rules.{rules}
 use Rattle.splice.proofs.moves.move_nodes.Goals as goal
 
@@ -36,4 +35,3 @@ returns c = let a = c.args in
       moved-last l.s a.s.now (a.p + 32 * a.i) (a.p + 32 * a.j) a.k l.moved (ltb a.i a.j) e (omega arith) (omega arith) l.invariant.2,
       e ∙ ap (λ (t : Bool). cond t 0 a.k) (sym (ne_eqb a.i a.j c.if-i-j.false)),
     )
-

@@ -11,4 +11,3 @@ returns-then-i-j c = let a = c.args in (ap (λ (t : Bool). next_moved t a.k a.mo
 
 pub returns : goal.returns
 returns c = let a = c.args in (ap (λ (t : Bool). next_moved t a.k a.moved) (sym (le-ltb a.i a.j (omega arith))), search rules)
-

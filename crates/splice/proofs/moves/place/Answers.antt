@@ -1,5 +1,4 @@
 use mathlib.Core.Path.{refl}
-use borrow.Author.Rules.{rules}
 use Rattle.splice.proofs.moves.place.Goals as goal
 
 -- src/moves.rt:68:1
@@ -8,4 +7,3 @@ returns-in-Tail c = let m = c.move_nodes in rw c.in-Tail.is (m.ensures.0, m.ensu
 
 pub returns-in-New : goal.returns-in-New
 returns-in-New c = rw c.in-New.is (c.copy_octets.ensures, refl)
-

@@ -1,12 +1,10 @@
 use mathlib.Core.Path.{sym, ap, ◌∙◌}
 use mathlib.Core.Bool.{true, false}
 use native.Mathlib.Omega.{arith}
-use borrow.Author.Tests.{not-true, not-false}
 use Rattle.disp_structs.specs.Values.{is_never, is_zero}
 use Rattle.disp_structs.specs.declared.DispNode.{DispNode}
 use Rattle.image.specs.Image.{node_at}
 use Rattle.splice.proofs.NodeLaws.{free_out, free-passed, free-first, free_zero, free_late}
-use borrow.Author.Rules.{rules}
 use Rattle.splice.proofs.path.free_is_correct.Goals as goal
 
 pub returns-then-n-free : goal.returns-then-n-free
@@ -39,4 +37,3 @@ returns c = let a = c.args in
     let t = ap (λ (y : DispNode). is_never y.time_pass) (sym c.node_at-x.ensures) ∙ sym c.is_never.ensures ∙ c.if-not-is_never.false in
     let z = ap (λ (y : DispNode). is_zero y.offset) (sym c.node_at-y.ensures) ∙ c.if-y.false in
     (free_late (node_at a.img.now) a.n a.free (omega arith) t c.if-free-eq0.false z false (ap (λ (y : DispNode). is_never y.time_pass) (sym c.node_at-y.ensures) ∙ sym c.is_never-2.ensures ∙ c.if-is_never.false), (λ z. omega arith))
-

@@ -1,14 +1,10 @@
-use mathlib.Core.Path.{◌≡◌, refl, sym, ap, ◌∙◌}
-use Prim.Native.Nat.{◌-◌}
+use mathlib.Core.Path.{refl, sym, ap, ◌∙◌}
 use native.Mathlib.Omega.{arith}
 use borrow.Author.Tests.{eq-eqb, ne_eqb}
 use Rattle.disp_structs.specs.Values.{same_est}
 use Rattle.disp_structs.specs.declared.EstIdx.{EstIdx}
 use Rattle.image.specs.Image.{node_at}
-use Rattle.free_path.specs.Base.{walk_from}
-use Rattle.disp_structs.specs.Listed.{listed}
 use Rattle.splice.proofs.ListLaws.{walk_hit, walk_miss, walk_none}
-use borrow.Author.Rules.{rules}
 use Rattle.splice.proofs.path.join_base.Goals as goal
 
 pub loop-k-init : goal.loop-k-init
@@ -28,4 +24,3 @@ pub returns : goal.returns
 returns c = let b = c.loop-k in
     let a = c.args in
     sym (walk_none (λ x. same_est a.next x.est_idx) a.n (node_at a.img.now) b.k (omega arith)) ∙ b.invariant
-

@@ -1,14 +1,9 @@
-use mathlib.Core.Path.{◌≡◌, refl, sym, ap, ◌∙◌}
+use mathlib.Core.Path.{◌≡◌}
 use Prim.Native.Nat.{◌-◌}
-use native.Mathlib.Omega.{arith}
-use borrow.Author.Tests.{eq-eqb, ne_eqb}
 use Rattle.disp_structs.specs.Values.{same_est}
-use Rattle.disp_structs.specs.declared.EstIdx.{EstIdx}
 use Rattle.image.specs.Image.{node_at}
 use Rattle.free_path.specs.Base.{walk_from}
 use Rattle.disp_structs.specs.Listed.{listed}
-use Rattle.splice.proofs.ListLaws.{walk_hit, walk_miss, walk_none}
-use borrow.Author.Rules.{rules}
 use Rattle.splice.proofs.path.join_base.Given as goal
 
 abbrev pub invariant-loop-k : goal.invariant-loop-k
@@ -16,4 +11,3 @@ invariant-loop-k l = walk_from (λ x. same_est l.next x.est_idx) (listed l.n (no
 
 abbrev pub decreases-loop-k : goal.decreases-loop-k
 decreases-loop-k l = l.n - l.k
-

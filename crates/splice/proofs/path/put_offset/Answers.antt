@@ -1,8 +1,6 @@
 use Rattle.splice.specs.Parts.{put_offset}
-use borrow.Author.Rules.{rules}
 use Rattle.splice.proofs.path.put_offset.Goals as goal
 
 pub returns : goal.returns
 unfolding put_offset
 returns c = cc
-

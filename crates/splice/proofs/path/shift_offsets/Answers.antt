@@ -1,18 +1,15 @@
-use mathlib.Core.Path.{◌≡◌, refl, sym, ap, ◌∙◌}
+use mathlib.Core.Path.{refl, sym, ap, ◌∙◌}
 use mathlib.Core.List.{List}
-use Prim.Native.Nat.{ℕ, ◌+◌, ◌-◌}
+use Prim.Native.Nat.{ℕ, ◌+◌}
 use native.Mathlib.Omega.{arith}
 use lib.Ieee.{binary64, add}
-use borrow.Author.Tests.{not-true, not-false}
 use Rattle.disp_structs.specs.Floats.{in_reach}
 use Rattle.disp_structs.specs.declared.DispNode.{DispNode}
 use Rattle.image.specs.Image.{node_at}
 use Rattle.disp_structs.specs.Listed.{listed}
 use Rattle.update_definition.specs.Join.{shift_offsets}
-use Rattle.splice.specs.Read.{Kept}
 use Rattle.splice.specs.Parts.{from_on, put_offset}
 use Rattle.splice.proofs.NodeLaws.{kept-count, kept_then, kept_eq, offset-kept, offsets-end, offsets-no, offsets-turn}
-use borrow.Author.Rules.{rules}
 use Rattle.splice.proofs.path.shift_offsets.Goals as goal
 
 pub loop-k-init : goal.loop-k-init
@@ -45,4 +42,3 @@ pub returns : goal.returns
 returns c = let l = c.loop-k in
     let a = c.args in
     (sym (offsets-end a.change l.img a.n l.k (omega arith)) ∙ l.invariant.1, l.invariant.0)
-

@@ -5,7 +5,6 @@ use lib.ListN.{drop}
 use lib.Seq.{paste}
 use Rattle.image.specs.Image.{est_count, node_place}
 use Rattle.splice.proofs.NodeLaws.{path_bytes, path-size, splice_kept, splice_nodes}
-use borrow.Author.Rules.{rules}
 use Rattle.splice.proofs.path.splice_path.Goals as goal
 
 pub returns : goal.returns
@@ -26,4 +25,3 @@ returns c = let a = c.args in
       splice_kept i f o.new.s a.n a.split a.base a.k p.0 p.1 bytes size,
       o.ensures.value,
     )
-

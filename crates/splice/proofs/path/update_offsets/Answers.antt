@@ -2,7 +2,6 @@ use Rattle.image.specs.Image.{node_at}
 use Rattle.disp_structs.specs.Listed.{listed}
 use Rattle.splice.proofs.ListLaws.{from-same}
 use mathlib.Core.Path.{refl, sym, ◌∙◌}
-use borrow.Author.Rules.{rules}
 use Rattle.splice.proofs.path.update_offsets.Goals as goal
 
 pub returns-then-near : goal.returns-then-near
@@ -11,4 +10,3 @@ returns-then-near c = let a = c.args in
 
 pub returns : goal.returns
 returns c = (rw (sym c.near.ensures ∙ c.if-near.false) c.shift_offsets.ensures.0, c.shift_offsets.ensures.1)
-

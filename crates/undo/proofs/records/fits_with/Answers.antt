@@ -1,4 +1,3 @@
-use borrow.Author.Rules.{rules}
 use Rattle.undo.proofs.records.fits_with.Goals as goal
 
 pub returns-then-yard_fits : goal.returns-then-yard_fits
@@ -6,4 +5,3 @@ returns-then-yard_fits c = rw (← c.yard_fits.ensures, c.if-yard_fits.true, c.s
 
 pub returns : goal.returns
 returns c = rw (← c.yard_fits.ensures, c.if-yard_fits.false)
-

@@ -4,7 +4,6 @@ use Prim.Native.Nat.{ℕ}
 use lib.Dec.{eqb}
 use Rattle.undo.specs.Undo.{written_offset}
 use Rattle.undo.proofs.TestLaws.{filled-over, filled_out, filled_wrong, old_wrong, written_asked}
-use borrow.Author.Rules.{rules}
 use Rattle.undo.proofs.records.numbers_fit.Goals as goal
 
 pub returns-then-y-gt2147483639 : goal.returns-then-y-gt2147483639
@@ -23,4 +22,3 @@ pub returns : goal.returns
 returns c = let a = c.args in
     ap (λ (n : ℕ). eqb n (written_offset a.y)) c.u32_at-2.ensures
     ∙ written_asked a.y a.undo_record.now c.if-undo_record-y.false (sym c.u32_at-filled.ensures ∙ c.if-filled-y.false) (sym c.u32_at.ensures ∙ c.if-u32_at-ne16.false)
-

@@ -7,7 +7,6 @@ use Rattle.yard_check.specs.Yard.{slot_count}
 use Rattle.link_rules.proofs.OctetLaws.{put_some}
 use Rattle.undo.specs.Undo.{with_numbers, with_old}
 use Rattle.undo.proofs.RecordLaws.{numbers-length}
-use borrow.Author.Rules.{rules}
 use Rattle.undo.proofs.records.put_old.Goals as goal
 
 pub returns : goal.returns
@@ -19,4 +18,3 @@ returns c = let a = c.args in
     c.put_bytes.ensures
     ∙ (ap (put_whole 16 old) (c.put_numbers.ensures ∙ ap (λ (n : ℕ). with_numbers (length old) n a.to.now) c.slot_count.ensures)
     ∙ put_some 16 old n (omega (arith, p.0, numbers-length (length old) (slot_count old) a.to.now)))
-

@@ -1,6 +1,5 @@
 use mathlib.Core.Path.{◌∙◌}
 use Rattle.undo.proofs.TestLaws.{room-over, room_within}
-use borrow.Author.Rules.{rules}
 use Rattle.undo.proofs.records.room_fault.Goals as goal
 
 pub returns-then-y-gt2147483639 : goal.returns-then-y-gt2147483639
@@ -8,4 +7,3 @@ returns-then-y-gt2147483639 c = let a = c.args in c.refused_unless.ensures ∙ r
 
 pub returns : goal.returns
 returns c = let a = c.args in c.refused_unless-2.ensures ∙ room_within a.y a.room c.if-y-gt2147483639.false
-

@@ -1,7 +1,6 @@
 use mathlib.Core.Path.{sym, ◌∙◌}
 use lib.ListN.{length}
 use Rattle.undo.proofs.TestLaws.{numbers-room, numbers_wrong, old_unfit, written-left}
-use borrow.Author.Rules.{rules}
 use Rattle.undo.proofs.records.undo_fits.Goals as goal
 
 pub old_fits-requires : goal.old_fits-requires
@@ -20,4 +19,3 @@ returns-else-old_fits c = let a = c.args in
 
 pub returns-else-numbers_fit : goal.returns-else-numbers_fit
 returns-else-numbers_fit c = let a = c.args in numbers_wrong a.yard.now a.undo_record.now (sym c.numbers_fit.ensures ∙ c.if-numbers_fit.false)
-

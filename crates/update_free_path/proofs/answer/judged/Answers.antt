@@ -2,7 +2,6 @@ use native.Mathlib.Omega.{arith}
 use mathlib.Core.Path.{sym, ◌∙◌}
 use Rattle.link_rules.specs.Refusals.{refused}
 use Rattle.update_free_path.proofs.AnswerLaws.{judged-no, judged-some}
-use borrow.Author.Rules.{rules}
 use Rattle.update_free_path.proofs.answer.judged.Goals as goal
 
 pub overflow_cast-e : goal.overflow_cast-e
@@ -13,4 +12,3 @@ returns-then-e-ne0 c = let e = c.args.e in c.refusal.ensures ∙ judged-no e.cod
 
 pub returns : goal.returns
 returns c = let e = c.args.e in judged-some e.code e.count c.if-e-ne0.false c.if-e-eq0.false
-

@@ -2,7 +2,6 @@ use mathlib.Core.Path.{sym, ◌∙◌}
 use Rattle.update_definition.specs.ImageTrain.{train_of}
 use Rattle.image_store.proofs.StoreLaws.{stored-train, stored_standing}
 use Rattle.update_free_path.proofs.AnswerLaws.{left-refused, left-done}
-use borrow.Author.Rules.{rules}
 use Rattle.update_free_path.proofs.answer.leave.Goals as goal
 
 pub returns-then-is_refusal : goal.returns-then-is_refusal
@@ -24,4 +23,3 @@ returns c = let a = c.args in
     c.store.ensures
     ∙ stored-train a.img.now a.dt.now a.dn.now a.h a.image.now g.0 g.1
     ∙ left-done (train_of a.img.now a.dt.now a.dn.now a.h) a.image.now a.s done
-

@@ -1,7 +1,6 @@
 use native.Mathlib.Omega.{arith}
 use mathlib.Core.Path.{sym, ap, ◌∙◌}
 use Rattle.update_free_path.specs.Updates.{errors_of, judged_by, status_by}
-use borrow.Author.Rules.{rules}
 use Rattle.update_free_path.proofs.answer.status_by.Goals as goal
 
 pub overflow_cast-c : goal.overflow_cast-c
@@ -18,4 +17,3 @@ returns-in-Blocked c = let a = c.args in sym (ap (λ k. status_by k (errors_of a
 
 pub returns-in-Ended : goal.returns-in-Ended
 returns-in-Ended c = let a = c.args in c.judged.ensures ∙ ap judged_by c.validate_free_path.ensures ∙ sym (ap (λ k. status_by k (errors_of a.img.now a.occ.now a.h)) c.in-Ended.is)
-

@@ -2,7 +2,6 @@ use mathlib.Core.Path.{◌≡◌, sym, ◌∙◌}
 use mathlib.Core.Bool.{true, false}
 use native.Mathlib.Omega.{arith}
 use lib.ListN.{length}
-use borrow.Author.Rules.{rules}
 use borrow.Author.Tests.{le-leb, lt-leb}
 use Rattle.update_definition.specs.UpdateImage.{links_below, call_fault}
 use Rattle.update_free_path.proofs.call.call_fault.Goals as goal
@@ -36,4 +35,3 @@ returns c occ q = let a = c.args in
     let l = a.l in
     let b : links_below l a.blocking.now ≡ false = sym c.links_below.ensures ∙ c.if-links_below.false in
     rw (q, le-leb 2 l (omega arith), le-leb l 4000 (omega arith), le-leb (length a.blocking.now) 4000 (omega arith), b)
-

@@ -6,4 +6,3 @@ returns-then-a-b c = rw (lt-ltb c.args.a c.args.b c.if-a-b.true)
 
 pub returns : goal.returns
 returns c = rw (le-ltb c.args.a c.args.b c.if-a-b.false)
-

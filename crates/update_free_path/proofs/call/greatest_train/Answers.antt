@@ -1,9 +1,9 @@
 use borrow.Author.Rules.{rules}
-use mathlib.Core.Path.{◌≡◌, refl, ap, ◌∙◌}
+use mathlib.Core.Path.{refl, ap, ◌∙◌}
 use mathlib.Core.Bool.{◌&&◌}
-use Prim.Native.Nat.{ℕ, ◌+◌, ◌-◌, ◌≤◌}
+use Prim.Native.Nat.{ℕ, ◌+◌}
 use lib.Dec.{leb}
-use lib.ListN.{length, drop}
+use lib.ListN.{drop}
 use Rattle.update_definition.specs.UpdateImage.{entries_up_to}
 use Rattle.update_free_path.proofs.FaultLaws.{entries-turn, entries-end}
 use Rattle.update_free_path.proofs.call.greatest_train.Goals as goal
@@ -22,4 +22,3 @@ loop-i-preserved c = let g = c.loop-i in
 pub returns : goal.returns
 returns c top = let g = c.loop-i in
     entries-end top c.args.occ.now g.i g.t c.loop-i-test.false ∙ g.invariant.1 top
-

@@ -1,11 +1,9 @@
-use borrow.Author.Rules.{rules}
-use mathlib.Core.Path.{◌≡◌, refl, ap, ◌∙◌}
+use mathlib.Core.Path.{◌≡◌}
 use mathlib.Core.Bool.{◌&&◌}
-use Prim.Native.Nat.{ℕ, ◌+◌, ◌-◌, ◌≤◌}
+use Prim.Native.Nat.{ℕ, ◌-◌, ◌≤◌}
 use lib.Dec.{leb}
 use lib.ListN.{length, drop}
 use Rattle.update_definition.specs.UpdateImage.{entries_up_to}
-use Rattle.update_free_path.proofs.FaultLaws.{entries-turn, entries-end}
 use Rattle.update_free_path.proofs.call.greatest_train.Given as goal
 
 abbrev pub invariant-loop-i : goal.invariant-loop-i
@@ -13,4 +11,3 @@ invariant-loop-i l = (l.i ≤ length l.occ) × ((top : ℕ) → (entries_up_to t
 
 abbrev pub decreases-loop-i : goal.decreases-loop-i
 decreases-loop-i l = length l.occ - l.i
-

@@ -1,6 +1,5 @@
 use mathlib.Core.Path.{sym, ◌∙◌}
 use Rattle.image.specs.Image.{largest_of}
-use borrow.Author.Rules.{rules}
 use Rattle.update_free_path.proofs.call.largest_train.Goals as goal
 
 pub returns-then-is_wide : goal.returns-then-is_wide
@@ -10,4 +9,3 @@ returns-then-is_wide c = rw (sym c.is_wide.ensures ∙ c.if-is_wide.true)
 pub returns : goal.returns
 unfolding largest_of
 returns c = rw (sym c.is_wide.ensures ∙ c.if-is_wide.false)
-

@@ -1,8 +1,5 @@
-use mathlib.Core.Path.{◌≡◌, refl, ◌∙◌}
-use Prim.Native.Nat.{◌-◌, ◌≤◌}
-use lib.ListN.{length, drop}
+use mathlib.Core.Path.{refl, ◌∙◌}
 use borrow.Author.Rules.{rules}
-use Rattle.update_definition.specs.UpdateImage.{links_below}
 use Rattle.update_free_path.proofs.FaultLaws.{below-turn, below_stop, below_end}
 use Rattle.update_free_path.proofs.call.links_below.Goals as goal
 
@@ -23,4 +20,3 @@ pub returns : goal.returns
 returns c = let g = c.loop-i in
     let a = c.args in
     below_end a.l a.blocking.now g.i c.loop-i-test.false ∙ g.invariant.1
-

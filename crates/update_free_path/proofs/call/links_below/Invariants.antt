@@ -1,9 +1,7 @@
-use mathlib.Core.Path.{◌≡◌, refl, ◌∙◌}
+use mathlib.Core.Path.{◌≡◌}
 use Prim.Native.Nat.{◌-◌, ◌≤◌}
 use lib.ListN.{length, drop}
-use borrow.Author.Rules.{rules}
 use Rattle.update_definition.specs.UpdateImage.{links_below}
-use Rattle.update_free_path.proofs.FaultLaws.{below-turn, below_stop, below_end}
 use Rattle.update_free_path.proofs.call.links_below.Given as goal
 
 abbrev pub invariant-loop-i : goal.invariant-loop-i
@@ -11,4 +9,3 @@ invariant-loop-i l = (l.i ≤ length l.blocking) × (links_below l.l (drop l.i l
 
 abbrev pub decreases-loop-i : goal.decreases-loop-i
 decreases-loop-i l = length l.blocking - l.i
-

@@ -11,4 +11,3 @@ returns-then-limit-eq0 c = let a = c.args in
 pub returns : goal.returns
 returns c = let a = c.args in
     rw (ne_eqb a.moved.0 0 c.if-moved-eq0.false, ne_eqb a.limit 0 c.if-limit-eq0.false)
-

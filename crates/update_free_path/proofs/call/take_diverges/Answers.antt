@@ -1,10 +1,7 @@
 use mathlib.Core.Path.{◌≡◌, refl}
-use Prim.Native.Nat.{◌-◌, ◌≤◌}
 use native.Mathlib.Omega.{arith}
-use lib.ListN.{length}
 use borrow.Author.Rules.{rules}
 use Rattle.disp_structs.specs.Listed.{listed}
-use Rattle.free_path.specs.Columns.{div_at}
 use Rattle.image.specs.Image.{diverge_at}
 use Rattle.update_free_path.proofs.DivergeLaws.{diverge-turn}
 use Rattle.update_free_path.proofs.call.take_diverges.Goals as goal
@@ -27,4 +24,3 @@ returns c = let g = c.loop-i in
     let a = c.args in
     let e : g.i ≡ a.m = omega arith in
     rw e at g.invariant.3
-

@@ -1,12 +1,9 @@
-use mathlib.Core.Path.{◌≡◌, refl}
+use mathlib.Core.Path.{◌≡◌}
 use Prim.Native.Nat.{◌-◌, ◌≤◌}
-use native.Mathlib.Omega.{arith}
 use lib.ListN.{length}
-use borrow.Author.Rules.{rules}
 use Rattle.disp_structs.specs.Listed.{listed}
 use Rattle.free_path.specs.Columns.{div_at}
 use Rattle.image.specs.Image.{diverge_at}
-use Rattle.update_free_path.proofs.DivergeLaws.{diverge-turn}
 use Rattle.update_free_path.proofs.call.take_diverges.Given as goal
 
 abbrev pub invariant-loop-i : goal.invariant-loop-i
@@ -14,4 +11,3 @@ invariant-loop-i l = (l.i ≤ l.m) × (length l.dt ≡ length l.initial.dt) × (
 
 abbrev pub decreases-loop-i : goal.decreases-loop-i
 decreases-loop-i l = l.m - l.i
-

@@ -7,7 +7,6 @@ use Rattle.link_rules.specs.declared.refusal.Refusal.{Refusal}
 use Rattle.image_fault.specs.ImageFault.{fault_with}
 use Rattle.update_definition.specs.UpdateImage.{update_fault_in}
 use Rattle.update_free_path.proofs.FaultLaws.{call-links}
-use borrow.Author.Rules.{rules}
 use Rattle.update_free_path.proofs.call.update_fault.Goals as goal
 
 pub returns-then-f-ne0 : goal.returns-then-f-ne0
@@ -26,4 +25,3 @@ unfolding update_fault_in
 returns c occ q g = let f = c.call_fault-f in
     let a = c.args in
     rw (← f.ensures occ q, eq-eqb f.result.number 0 c.if-f-ne0.false, q) (c.fault_with.ensures ∙ ap (λ (x : Refusal). fault_with a.w x a.image.now a.l) g)
-

@@ -1,11 +1,9 @@
-use mathlib.Core.Path.{◌≡◌, refl, ap}
-use Prim.Native.Nat.{◌-◌, ◌≤◌}
+use mathlib.Core.Path.{refl, ap}
 use native.Mathlib.Omega.{arith}
-use lib.ListN.{length}
 use Rattle.link_rules.specs.declared.link_idx.LinkIdx.{LinkIdx}
 use Rattle.disp_structs.specs.Values.{arriving}
 use Rattle.image.specs.Image.{node_at}
-use Rattle.update_free_path.proofs.PathLaws.{Filled, fill_turn, column-links}
+use Rattle.update_free_path.proofs.PathLaws.{fill_turn, column-links}
 use borrow.Author.Rules.{rules}
 use Rattle.update_free_path.proofs.path.link_path.Goals as goal
 
@@ -21,4 +19,3 @@ pub returns : goal.returns
 returns c = let a = c.args in
     let l = c.loop-i in
     column-links a.img.now a.n l.col (λ j h. l.invariant.2 j (omega arith))
-

@@ -1,5 +1,5 @@
 use mathlib.Core.Path.{◌≡◌, refl, ap, subst, ◌∙◌}
-use Prim.Native.Nat.{ℕ, ◌-◌, ◌≤◌}
+use Prim.Native.Nat.{ℕ}
 use native.Mathlib.Omega.{arith}
 use lib.ListN.{length, length-replicate}
 use Rattle.disp_structs.specs.declared.EstIdx.{EstIdx}
@@ -34,4 +34,3 @@ returns c = let a = c.args in
     let l = c.loop-i in
     let e : l.i ≡ a.n = omega arith in
     subst (λ (k : ℕ). Marked l.on (path_of a.img.now k)) e l.invariant.2
-

@@ -1,12 +1,8 @@
-use mathlib.Core.Path.{◌≡◌, refl, ap, subst, ◌∙◌}
-use Prim.Native.Nat.{ℕ, ◌-◌, ◌≤◌}
-use native.Mathlib.Omega.{arith}
-use lib.ListN.{length, length-replicate}
-use Rattle.disp_structs.specs.declared.EstIdx.{EstIdx}
+use mathlib.Core.Path.{◌≡◌}
+use Prim.Native.Nat.{◌-◌, ◌≤◌}
+use lib.ListN.{length}
 use Rattle.search.specs.Read.{Marked}
 use Rattle.image.specs.Image.{path_of}
-use Rattle.update_free_path.proofs.PathLaws.{mark-none, mark-turn}
-use borrow.Author.Rules.{rules}
 use Rattle.update_free_path.proofs.path.mark_path.Given as goal
 
 abbrev pub invariant-loop-i : goal.invariant-loop-i
@@ -14,4 +10,3 @@ invariant-loop-i l = (length l.on ≡ length l.initial.on) × (l.i ≤ l.n) × M
 
 abbrev pub decreases-loop-i : goal.decreases-loop-i
 decreases-loop-i l = l.n - l.i
-

@@ -1,6 +1,5 @@
 use mathlib.Core.Path.{refl, sym, ◌∙◌}
 use Rattle.update_free_path.proofs.RoundsLaws.{ran_same}
-use borrow.Author.Rules.{rules}
 use Rattle.update_free_path.proofs.rounds.closed.Goals as goal
 
 pub returns-then-is_due : goal.returns-then-is_due
@@ -8,4 +7,3 @@ returns-then-is_due c = let a = c.args in rw (sym c.is_due.ensures ∙ c.if-is_d
 
 pub returns : goal.returns
 returns c = let a = c.args in rw (sym c.is_due.ensures ∙ c.if-is_due.false) (c.ran_with-2.ensures ∙ ran_same _ a.w.header refl refl c.is_first-first.ensures)
-

@@ -1,5 +1,4 @@
 use borrow.Author.Tests.{lt-ltb, le-ltb}
-use borrow.Author.Rules.{rules}
 use Rattle.update_free_path.proofs.rounds.goes_on.Goals as goal
 
 pub returns-then-w-limit : goal.returns-then-w-limit
@@ -7,4 +6,3 @@ returns-then-w-limit c = let a = c.args in rw (lt-ltb a.w.tally.rounds a.limit c
 
 pub returns : goal.returns
 returns c = let a = c.args in rw (le-ltb a.w.tally.rounds a.limit c.if-w-limit.false)
-

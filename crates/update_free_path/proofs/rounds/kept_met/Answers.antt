@@ -1,5 +1,4 @@
 use mathlib.Core.Path.{sym, ◌∙◌}
-use borrow.Author.Rules.{rules}
 use Rattle.update_free_path.proofs.rounds.kept_met.Goals as goal
 
 pub returns-then-is_first : goal.returns-then-is_first
@@ -7,4 +6,3 @@ returns-then-is_first c = rw (sym c.is_first.ensures ∙ c.if-is_first.true)
 
 pub returns : goal.returns
 returns c = rw (sym c.is_first.ensures ∙ c.if-is_first.false)
-

@@ -1,5 +1,4 @@
 use mathlib.Core.Path.{ap₂}
-use borrow.Author.Rules.{rules}
 use Rattle.link_rules.specs.declared.link_idx.TrainIdx.{TrainIdx}
 use Rattle.round.specs.declared.RoundEnd.{RoundEnd}
 use Rattle.tally.specs.declared.Tally.{Tally}
@@ -13,4 +12,3 @@ after x t met = record { header = x.header; split = x.split; div_split = x.div_s
 
 pub returns : goal.returns
 returns c = ap₂ (after c.args.x) c.tallied.ensures c.kept_met.ensures
-

@@ -1,11 +1,9 @@
-use borrow.Author.Rules.{rules}
 use mathlib.Core.Path.{◌≡◌, refl, sym, ap, subst, ◌∙◌}
 use Rattle.update_free_path.specs.Updates.{RoundsEnded}
 use Rattle.update_free_path.specs.declared.rounds.Between.{Between}
 use Rattle.update_free_path.specs.declared.rounds.Ran.{Ran}
 use Rattle.update_free_path.proofs.RoundsLaws.{path-within, path-ests, strays-low, last-low, steps-few, due-turn, kept_goes, next-accepted, next-top, going_start, going_next, ended_stopped, ended-closed}
-use Prim.Native.Nat.{◌-◌}
-use Rattle.update_free_path.specs.Updates.{SameSizes, Top, Going}
+use Rattle.update_free_path.specs.Updates.{Top, Going}
 use Rattle.image.specs.Image.{est_count, diverge_room}
 use Rattle.splice.proofs.NodeLaws.{kept-count, kept-le}
 use native.Mathlib.Omega.{arith}
@@ -154,4 +152,3 @@ returns c = let a = c.args in
     let l = c.loop-g in
     subst (λ (r : Ran). RoundsEnded a.occ.now a.known.now a.g a.limit a.img.now a.dt.now a.dn.now a.start l.img l.dt l.dn r) (sym c.closed.ensures)
     (ended-closed a.occ.now a.known.now a.g a.limit a.img.now a.dt.now a.dn.now a.start l.img l.dt l.dn l.w l.invariant.2 l.invariant.1.faultless (sym c.goes_on.ensures ∙ c.loop-g-test.false))
-

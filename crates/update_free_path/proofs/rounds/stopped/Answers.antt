@@ -1,5 +1,4 @@
 use mathlib.Core.Path.{sym, ap, ◌∙◌}
-use borrow.Author.Rules.{rules}
 use Rattle.round.specs.declared.End.{End}
 use Rattle.update_free_path.specs.Updates.{kept_met, stopped_by}
 use Rattle.update_free_path.proofs.RoundsLaws.{ran_same}
@@ -28,4 +27,3 @@ returns-in-Again c = let a = c.args in
     c.ran_with-in-Again.ensures
     ∙ ran_same _ a.x.header c.tallied-in-Again.ensures c.kept_met-met.ensures c.is_first-first.ensures
     ∙ sym (ap (λ (e : End). stopped_by e a.x.header a.w.tally a.x.steps a.strays (kept_met a.w a.x)) c.in-Again.is)
-

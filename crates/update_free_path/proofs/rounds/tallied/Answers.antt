@@ -1,6 +1,5 @@
 use mathlib.Core.Path.{ap, ◌∙◌}
 use native.Mathlib.Omega.{arith}
-use borrow.Author.Rules.{rules}
 use Rattle.tally.specs.Tally.{stepped, counted_round}
 use Rattle.tally.specs.declared.Tally.{Tally}
 use Rattle.tally.proofs.TallyLaws.{counted-within, stepped_within}
@@ -12,4 +11,3 @@ returns c = let a = c.args in
     c.counted_round.ensures
     ∙ ap (λ (t : Tally). counted_round t a.strays 0) (c.counted_steps.ensures ∙ stepped_within a.t a.steps p.steps)
     ∙ counted-within (stepped a.t a.steps) a.strays p.rounds p.strays (omega (arith, p.faultless))
-

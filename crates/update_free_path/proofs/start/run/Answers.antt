@@ -11,7 +11,6 @@ use Rattle.round.specs.declared.Given.{Given}
 use Rattle.update_free_path.specs.declared.rounds.Between.{Between}
 use Rattle.update_free_path.proofs.RoundsLaws.{path-within, path-ests, strays-low}
 use Rattle.update_free_path.proofs.StartLaws.{begin-size, begin-accepted, begin-top, finished}
-use borrow.Author.Rules.{rules}
 use Rattle.update_free_path.proofs.start.run.Goals as goal
 
 pub start_diverges-requires : goal.start_diverges-requires
@@ -82,4 +81,3 @@ returns c = let a = c.args in
     finished a.img.now a.occ.now a.h p.0 bytes a.o v.new.dt v.new.dn v.ensures u.new.col u.ensures.0 (length a.flags.now) p.1.links a.blocking.now fl.new.flags kn.new.flags e k s.result s.ensures r.new.img r.new.dt r.new.dn r.result
     (subst (λ (w : Between). RoundsEnded a.occ.now kn.new.flags (given_at a.img.now a.blocking.now fl.new.flags a.o a.h.free) a.o.limit a.img.now v.new.dt v.new.dn w r.new.img r.new.dt r.new.dn r.result) c.start_of-w.ensures
     (subst (λ (g : Given). RoundsEnded a.occ.now kn.new.flags g a.o.limit a.img.now v.new.dt v.new.dn c.start_of-w.result r.new.img r.new.dt r.new.dn r.result) c.given_of-g.ensures r.ensures))
-

@@ -1,5 +1,4 @@
 use mathlib.Core.Path.{ap}
-use borrow.Author.Rules.{rules}
 use Rattle.link_rules.specs.LinkIdx.{no_train}
 use Rattle.tally.specs.declared.Tally.{Tally}
 use Rattle.image.specs.declared.codec.PathHeader.{PathHeader}
@@ -13,4 +12,3 @@ first h t = record { header = h; split = 1; div_split = 1; tally = t; met = no_t
 
 pub returns : goal.returns
 returns c = ap (first c.args.h) c.started.ensures
-

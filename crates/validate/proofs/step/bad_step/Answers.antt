@@ -1,7 +1,6 @@
 use mathlib.Core.Bool.{not}
 use mathlib.Core.Path.{ap}
 use Rattle.free_path.specs.Validate.{bad_step}
-use borrow.Author.Rules.{rules}
 use Rattle.validate.proofs.step.bad_step.Goals as goal
 
 pub returns-then-steps_next : goal.returns-then-steps_next
@@ -15,4 +14,3 @@ returns-then-steps_alt c = rw (← c.steps_next.ensures, c.if-steps_next.false, 
 pub returns : goal.returns
 unfolding bad_step
 returns c = rw (← c.steps_next.ensures, c.if-steps_next.false, ← c.steps_alt.ensures, c.if-steps_alt.false)
-

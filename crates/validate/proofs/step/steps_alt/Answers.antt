@@ -9,4 +9,3 @@ returns-then-x-b c = simp (ne_eqb _ _ c.if-x-b.true)
 pub returns : goal.returns
 unfolding steps_alt
 returns c = simp (eq-eqb _ _ c.if-x-b.false)
-

@@ -14,4 +14,3 @@ returns-then-y-a c = simp (eq-eqb _ _ c.if-x-b.false, eq-eqb _ _ c.if-y-a.true)
 pub returns : goal.returns
 returns c = let a = c.args in
     next_by_alt a.a a.b a.x a.y c.if-x-b.false c.if-y-a.false
-

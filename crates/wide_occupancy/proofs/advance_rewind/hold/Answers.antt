@@ -4,4 +4,3 @@ use Rattle.wide_occupancy.proofs.advance_rewind.hold.Goals as goal
 
 pub returns-else-at-occupancy : goal.returns-else-at-occupancy
 returns-else-at-occupancy c = let a = c.args in sym (set_out a.occupancy.now a.l a.t c.if-at-occupancy.false)
-

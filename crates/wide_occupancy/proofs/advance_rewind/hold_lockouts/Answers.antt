@@ -21,4 +21,3 @@ returns c = let a = c.args in
     let s = c.start_at-start in
     sym (hold-end a.table.now n.result s.result c.loop-j.j c.loop-j.occupancy a.train (omega arith))
     ∙ c.loop-j.invariant.2 ∙ ap₂ (λ (x y : ℕ). hold_all a.occupancy.now (lockouts a.table.now x y) a.train) n.ensures s.ensures
-

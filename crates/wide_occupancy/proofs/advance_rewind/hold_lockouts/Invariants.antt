@@ -10,4 +10,3 @@ invariant-loop-j l = (l.j ≤ l.n) × (length l.occupancy ≡ length l.initial.o
 
 abbrev pub decreases-loop-j : goal.decreases-loop-j
 decreases-loop-j l = l.n - l.j
-

@@ -9,4 +9,3 @@ returns-then-link-eq0 c = rw (eq-eqb c.args.link.0 0 c.if-link-eq0.true)
 pub returns : goal.returns
 unfolding is_link
 returns c = rw (ne_eqb c.args.link.0 0 c.if-link-eq0.false, c.link_count.ensures)
-

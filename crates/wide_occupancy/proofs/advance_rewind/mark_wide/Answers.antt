@@ -18,4 +18,3 @@ unfolding mark_wide_of
 returns c = let a = c.args in
     ap (marked Done) c.update_links_blocked.ensures
     ∙ ap (λ (n : ℕ). marked_by n a.occupancy.now (update_links_blocked a.table.now a.occupancy.now a.link a.train)) (sym c.if-number-ne0.false ∙ c.mark_refusal-number.ensures)
-

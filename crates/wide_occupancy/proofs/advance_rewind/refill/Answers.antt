@@ -39,4 +39,3 @@ returns c = let a = c.args in
     c.loop-j.invariant.1
     ∙ sym (refill_end a.table.now n.result s.result c.loop-j.j a.occupancy.now a.link (omega arith))
     ∙ c.loop-j.invariant.2 ∙ ap₂ (λ (x y : ℕ). refilled a.occupancy.now a.link (lockouts a.table.now x y)) n.ensures s.ensures
-

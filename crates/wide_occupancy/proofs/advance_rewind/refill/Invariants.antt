@@ -9,4 +9,3 @@ invariant-loop-j l = (l.j ≤ l.n) × (l.occupancy ≡ l.initial.occupancy) × (
 
 abbrev pub decreases-loop-j : goal.decreases-loop-j
 decreases-loop-j l = l.n - l.j
-

@@ -14,4 +14,3 @@ pub returns : goal.returns
 unfolding reset_link_train_idx
 returns c = let a = c.args in
     rw (lt-ltb 1 (length (link_at a.table.now a.link).link_idxs_lockout) (omega arith)) c.refill.ensures
-

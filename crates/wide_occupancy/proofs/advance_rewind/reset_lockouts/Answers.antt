@@ -21,4 +21,3 @@ returns c = let a = c.args in
     let s = c.start_at-start in
     sym (reset_end a.table.now n.result s.result c.loop-j.j c.loop-j.occupancy (omega arith))
     ∙ c.loop-j.invariant.2 ∙ ap₂ (λ (x y : ℕ). reset_all a.table.now a.occupancy.now (lockouts a.table.now x y)) n.ensures s.ensures
-

@@ -9,4 +9,3 @@ returns-then-train-eq0 c = rw (eq-eqb c.args.train.0 0 c.if-train-eq0.true, c.re
 pub returns-else-train-eq0 : goal.returns-else-train-eq0
 unfolding update_links_blocked hold_all reset_all
 returns-else-train-eq0 c = rw (ne_eqb c.args.train.0 0 c.if-train-eq0.false, c.hold_lockouts.ensures, c.hold.ensures, c.idx_flip-flip.ensures)
-

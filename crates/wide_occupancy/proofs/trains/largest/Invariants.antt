@@ -9,4 +9,3 @@ invariant-loop-i l = (l.i ≤ length l.occupancy) × (max l.top (largest (drop l
 
 abbrev pub decreases-loop-i : goal.decreases-loop-i
 decreases-loop-i l = length l.occupancy - l.i
-

@@ -5,7 +5,6 @@ use lib.ListN.{length, take}
 use lib.Seq.{length-take-le}
 use borrow.Author.Tests.{le-leb, lt-leb}
 use Rattle.yard_check.specs.Bytes.{same_bytes}
-use borrow.Author.Rules.{rules}
 use Rattle.yard_check.proofs.bytes.differs.Goals as goal
 
 pub returns-then-room-n : goal.returns-then-room-n
@@ -22,4 +21,3 @@ returns c = let a = c.args in
     let n = length a.image.now in
     ap not c.same_bytes.ensures
     ∙ sym (ap (λ (b : Bool). b && not (same_bytes (take n a.room.now) a.image.now)) (le-leb n (length a.room.now) (omega (arith, c.if-room-n.false))))
-

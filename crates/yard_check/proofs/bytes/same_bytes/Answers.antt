@@ -1,6 +1,5 @@
 use mathlib.Core.Path.{sym}
 use Rattle.yard_check.proofs.SeenLaws.{lengths_differ}
-use borrow.Author.Rules.{rules}
 use Rattle.yard_check.proofs.bytes.same_bytes.Goals as goal
 
 pub returns-then-a-b : goal.returns-then-a-b
@@ -11,4 +10,3 @@ same_words-requires c = c.if-a-b.false
 
 pub returns : goal.returns
 returns c = c.same_words.ensures
-

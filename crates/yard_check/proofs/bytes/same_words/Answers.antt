@@ -1,6 +1,6 @@
 use mathlib.Core.Path.{◌≡◌, refl, sym, ap, ap₂, ◌∙◌}
 use mathlib.Core.Bool.{Bool, true}
-use Prim.Native.Nat.{ℕ, ◌*◌, ◌/◌, ◌-◌, ◌≤◌}
+use Prim.Native.Nat.{ℕ, ◌*◌, ◌/◌}
 use native.Mathlib.Omega.{arith}
 use lib.Dec.{eqb}
 use lib.ListN.{length}
@@ -9,7 +9,6 @@ use Rattle.link_rules.specs.Network.{all_below}
 use Rattle.link_rules.specs.Octets.{le_at}
 use Rattle.link_rules.proofs.TableLaws.{all_more}
 use Rattle.yard_check.proofs.SeenLaws.{words_differ, last_word}
-use borrow.Author.Rules.{rules}
 use Rattle.yard_check.proofs.bytes.same_words.Goals as goal
 
 pub loop-w-init : goal.loop-w-init
@@ -40,4 +39,3 @@ returns c = let g = c.loop-w in
     let all : all_below W test ≡ true = ap (λ (n : ℕ). all_below n test) (sym full) ∙ g.invariant.2 in
     ap₂ eqb c.u64_at-2.ensures c.u64_at-3.ensures
     ∙ last_word xs ys (λ i. omega (arith, c.shared_slice_known-1.given i)) (λ i. omega (arith, c.shared_slice_known-2-1.given i)) c.requires all
-

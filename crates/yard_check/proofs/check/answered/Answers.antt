@@ -8,4 +8,3 @@ returns-then-y-ne0 c = let y = c.args.y in erred-answer y.erred (not (eqb y.bloc
 
 pub returns : goal.returns
 returns c = rw c.if-y-ne0.false
-

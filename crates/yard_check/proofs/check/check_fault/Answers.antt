@@ -4,7 +4,6 @@ use borrow.Author.Tests.{eq-eqb, ne_eqb}
 use Rattle.image_fault.specs.declared.Widths.TheVariants.{Narrow}
 use Rattle.yard_check.specs.Yard.{yard_fits}
 use Rattle.yard_check.specs.Check.{slots_fault, check_fault}
-use borrow.Author.Rules.{rules}
 use Rattle.yard_check.proofs.check.check_fault.Goals as goal
 
 pub returns-then-f-ne0 : goal.returns-then-f-ne0
@@ -24,4 +23,3 @@ returns c occ q = let f = c.call_fault-f in
     let y = c.args.yard.now in
     let bad : yard_fits y ≡ false = sym c.yard_fits.ensures ∙ c.if-yard_fits.false in
     rw (← f.ensures occ q, eq-eqb f.result.number 0 c.if-f-ne0.false, bad) c.fault.ensures
-

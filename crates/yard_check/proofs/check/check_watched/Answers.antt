@@ -4,7 +4,6 @@ use lib.ListN.{length}
 use Rattle.link_rules.specs.declared.refusal.Refusal.{Refusal}
 use Rattle.image_fault.specs.declared.Widths.TheVariants.{Narrow}
 use Rattle.yard_check.proofs.TurnLaws.{watched_refused, watched_done}
-use borrow.Author.Rules.{rules}
 use Rattle.yard_check.proofs.check.check_watched.Goals as goal
 
 pub returns-then-f-ne0 : goal.returns-then-f-ne0
@@ -34,4 +33,3 @@ returns c = let a = c.args in
     let w = c.visits_small in
     let x = c.all_watched-2 in
     watched_done Narrow a.yard.now a.occ.now a.blocking.now a.a a.report.now (length a.room.now) (ap (λ (x : Refusal). x.number) (sym f) ∙ c.if-f-ne0.false) w.result w.new.yard w.new.report w.ensures x.result x.ensures.0 x.ensures.1
-

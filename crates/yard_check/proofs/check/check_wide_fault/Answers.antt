@@ -3,7 +3,6 @@ use mathlib.Core.Bool.{true, false}
 use borrow.Author.Tests.{eq-eqb, ne_eqb}
 use Rattle.yard_check.specs.Yard.{yard_fits}
 use Rattle.yard_check.specs.Check.{slots_fault, check_fault}
-use borrow.Author.Rules.{rules}
 use Rattle.yard_check.proofs.check.check_wide_fault.Goals as goal
 
 pub returns-then-f-ne0 : goal.returns-then-f-ne0
@@ -25,4 +24,3 @@ returns c = let a = c.args in
     let f = c.call_fault-f in
     let bad : yard_fits a.yard.now ≡ false = sym c.yard_fits.ensures ∙ c.if-yard_fits.false in
     rw (← f.ensures a.occ.now refl, eq-eqb f.result.number 0 c.if-f-ne0.false, bad) c.fault.ensures
-

@@ -1,5 +1,5 @@
-use mathlib.Core.Path.{◌≡◌, sym, ap, ◌∙◌}
-use mathlib.Core.Bool.{Bool, not}
+use mathlib.Core.Path.{◌≡◌, ap, ◌∙◌}
+use mathlib.Core.Bool.{not}
 use mathlib.Core.List.{[]}
 use Prim.Native.Nat.{ℕ}
 use lib.Dec.{eqb}
@@ -9,10 +9,9 @@ use Rattle.link_rules.specs.declared.refusal.Refusal.{Refusal}
 use Rattle.image.specs.Image.{is_wide, largest_of}
 use Rattle.image_fault.specs.declared.Widths.TheVariants.{Either}
 use Rattle.wide_occupancy.specs.WideOccupancy.{large_train_fault}
-use Rattle.yard_check.specs.Yard.{slot_count, part_of}
+use Rattle.yard_check.specs.Yard.{part_of}
 use Rattle.yard_check.specs.Check.{how_many, wide_count, slots_fault, report_fault, held_fault}
 use Rattle.yard_check.specs.Checks.{args_of}
-use borrow.Author.Rules.{rules}
 use Rattle.yard_check.proofs.check.held_or_late_fault.Goals as goal
 
 pub returns : goal.returns
@@ -30,4 +29,3 @@ returns c = let a = c.args in
     l.ensures Either ∙ (ap (λ (k : ℕ). or_else (slots_fault s.result (args_of Either [] a.a)) (report_fault (not (eqb k 0)) s.result a.long)) many
     ∙ ap (λ (k : ℕ). or_else (slots_fault k (args_of Either [] a.a)) (report_fault (not (eqb (wide_count a.yard.now) 0)) k a.long)) s.ensures) in
     c.or_else.ensures ∙ (ap (λ (x : Refusal). or_else x l.result) held ∙ ap (or_else (held_fault Either a.yard.now a.occ.now)) late)
-

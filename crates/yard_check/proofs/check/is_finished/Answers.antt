@@ -1,8 +1,6 @@
 use Rattle.yard_check.specs.Check.{is_finished}
-use borrow.Author.Rules.{rules}
 use Rattle.yard_check.proofs.check.is_finished.Goals as goal
 
 pub returns : goal.returns
 unfolding is_finished
 returns c = rw (c.free_of.ensures, c.path_count.ensures)
-

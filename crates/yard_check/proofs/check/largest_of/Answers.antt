@@ -8,4 +8,3 @@ returns-then-wide c = rw c.if-wide.true
 pub returns-else-wide : goal.returns-else-wide
 unfolding largest_of
 returns-else-wide c = rw c.if-wide.false
-

@@ -1,5 +1,4 @@
 use borrow.Author.Tests.{eq-eqb, ne_eqb}
-use borrow.Author.Rules.{rules}
 use Rattle.yard_check.proofs.check.next_begin.Goals as goal
 
 pub returns-then-next-t : goal.returns-then-next-t
@@ -10,4 +9,3 @@ returns-else-next-t c = let a = c.args in rw (c.if-finished.true, ne_eqb a.next 
 
 pub returns-else-finished : goal.returns-else-finished
 returns-else-finished c = rw c.if-finished.false
-

@@ -2,7 +2,6 @@ use mathlib.Core.Path.{ap, ◌∙◌}
 use Prim.Native.Nat.{◌+◌}
 use Rattle.link_rules.specs.Octets.{put_le}
 use Rattle.yard_check.specs.Check.{put_row}
-use borrow.Author.Rules.{rules}
 use Rattle.yard_check.proofs.check.put_wide_row.Goals as goal
 
 pub returns : goal.returns
@@ -17,4 +16,3 @@ returns c = let a = c.args in
     ∙ ap (put_le 2 0 (a.at + 6)) (c.put_u16-3.ensures
     ∙ ap (put_le 2 r.rounds (a.at + 4)) (c.put_u16-2.ensures
     ∙ ap (put_le 2 r.place (a.at + 2)) c.put_u16.ensures))))))
-

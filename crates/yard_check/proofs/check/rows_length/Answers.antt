@@ -1,4 +1,3 @@
-use borrow.Author.Rules.{rules}
 use Rattle.yard_check.proofs.check.rows_length.Goals as goal
 
 pub returns-then-wide : goal.returns-then-wide
@@ -6,4 +5,3 @@ returns-then-wide c = rw c.if-wide.true
 
 pub returns : goal.returns
 returns c = rw c.if-wide.false
-

@@ -1,4 +1,4 @@
-use mathlib.Core.Path.{sym, ap, ◌∙◌}
+use mathlib.Core.Path.{ap, ◌∙◌}
 use mathlib.Core.Bool.{not, ◌&&◌}
 use mathlib.Core.List.{List}
 use Prim.Native.Nat.{ℕ}
@@ -9,7 +9,6 @@ use Rattle.yard_check.specs.Check as Check
 use Rattle.yard_check.specs.Checks.{args_of}
 use Rattle.yard_check.proofs.SeenLaws.{seen_in_room}
 use Rattle.yard_check.proofs.VisitLaws.{visit-length}
-use borrow.Author.Rules.{rules}
 use Rattle.yard_check.proofs.check.seen_visit.Goals as goal
 
 pub visit-r-requires : goal.visit-r-requires
@@ -27,4 +26,3 @@ returns c = let a = c.args in
           ∙ (ap (λ (x : List ℕ). leb (length img') (length x) && not (same_bytes (take (length img') x) img')) p.ensures
           ∙ seen_in_room a.room.now a.img.now img' long),
     )
-

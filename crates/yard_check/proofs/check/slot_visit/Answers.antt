@@ -7,7 +7,6 @@ use Rattle.update_definition.specs.UpdateImage.{given_fault}
 use Rattle.yard_check.specs.Check.{visited, is_seen}
 use Rattle.yard_check.specs.Checks.{args_of, SlotVisited}
 use Rattle.yard_check.proofs.TurnLaws.{slot_kept, slot-left, lent-up, lent-inside, lent-part, part_returned}
-use borrow.Author.Rules.{rules}
 use Rattle.yard_check.proofs.check.slot_visit.Goals as goal
 
 pub returns-then-t-a : goal.returns-then-t-a

@@ -2,7 +2,6 @@ use Prim.Native.Nat.{◌+◌}
 use native.Mathlib.Omega.{arith}
 use borrow.Author.Tests.{le-leb, lt-leb}
 use Rattle.yard_check.specs.Check.{slots_fault}
-use borrow.Author.Rules.{rules}
 use Rattle.yard_check.proofs.check.slots_fault.Goals as goal
 
 pub returns-then-slots-a : goal.returns-then-slots-a
@@ -24,4 +23,3 @@ pub returns : goal.returns
 unfolding slots_fault
 returns c w = let a = c.args in
     rw (le-leb a.a.moved.0 a.slots (omega arith), le-leb 1 a.a.begin (omega arith), le-leb a.a.begin (a.slots + 1) (omega arith)) c.fault-2.ensures
-

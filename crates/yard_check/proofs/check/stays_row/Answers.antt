@@ -9,7 +9,6 @@ use Rattle.image_fault.specs.declared.Widths.{Widths}
 use Rattle.yard_check.specs.Checks.{stays_row}
 use Rattle.image_fault.proofs.NumberLaws.{fault-number}
 use Rattle.yard_check.proofs.RowLaws.{stays_refused}
-use borrow.Author.Rules.{rules}
 use Rattle.yard_check.proofs.check.stays_row.Goals as goal
 
 -- the call's own refusal is none
@@ -36,4 +35,3 @@ returns c = let a = c.args in
     let code = a.code in
     let e = own-none a.w a.img.now a.links f.result c.fault.result c.fault.ensures f.ensures in
     c.plain_row.ensures ∙ (ap (λ (n : ℕ). stays_row n f.result code) (sym c.if-f-ne0.false) ∙ ap (λ (x : Refusal). stays_row x.number x code) e)
-

@@ -2,7 +2,6 @@ use native.Mathlib.Omega.{arith}
 use lib.Dec.{leb, eqb}
 use Rattle.yard_check.proofs.SlotLaws.{bit-few}
 use Rattle.yard_check.proofs.SeenLaws.{set_room}
-use borrow.Author.Rules.{rules}
 use Rattle.yard_check.proofs.check.tallied.Goals as goal
 
 pub overflow_add-result : goal.overflow_add-result
@@ -22,4 +21,3 @@ overflow_add-result-3 c = omega (arith, c.bit_if.ensures, set_room c.args.y c.ar
 
 pub returns : goal.returns
 returns c = rw (c.one_if.ensures, c.one_if-2.ensures, c.next_begin.ensures, c.bit_if.ensures)
-

@@ -4,7 +4,6 @@ use Rattle.update_free_path.specs.Updates.{status_of}
 use Rattle.update_free_path.specs.declared.answer.Status.{Status}
 use Rattle.yard_check.specs.Check.{status_row}
 use Rattle.yard_check.specs.Checks.{StatusFits}
-use borrow.Author.Rules.{rules}
 use Rattle.yard_check.proofs.check.updated_row.Goals as goal
 
 pub overflow_cast-n : goal.overflow_cast-n
@@ -29,4 +28,3 @@ returns-in-Faulty c = let a = c.args in
 pub returns-in-Refused : goal.returns-in-Refused
 returns-in-Refused c = let a = c.args in
     c.refused_row.ensures ∙ ap (λ (s : Status). status_row (status_of s) a.u.tally.rounds a.u.tally.strays a.u.met.0) (sym c.in-Refused.is)
-

@@ -5,7 +5,6 @@ use Rattle.update_free_path.proofs.FaultLaws.{call-links}
 use Rattle.yard_check.specs.Check as Check
 use Rattle.yard_check.specs.Checks.{args_of, ColumnsFit}
 use Rattle.yard_check.proofs.RowLaws.{columns_fit, finished_stays, moved_stays, updated_at_once}
-use borrow.Author.Rules.{rules}
 use Rattle.yard_check.proofs.check.visit.Goals as goal
 
 pub stays_row-requires : goal.stays_row-requires
@@ -36,4 +35,3 @@ returns c = let a = c.args in
     ap (λ (r : Check.Row). Check.visit r c.update_in-u.new.img) c.updated_row.ensures
     ∙ (ap (λ (x : UpdatedImage). Check.visit (Check.updated_row x.answer) x.image) c.update_in-u.ensures
     ∙ sym (updated_at_once a.occ.now (args_of a.w a.blocking.now a.a) a.t a.img.now c.requires.0 c.requires.1 (sym c.is_finished.ensures ∙ c.if-is_finished.false) c.if-t-a.false))
-

@@ -1,11 +1,10 @@
 use mathlib.Core.Path.{◌≡◌, refl, sym, ap, subst, ◌∙◌}
-use mathlib.Core.Bool.{Bool}
 use mathlib.Core.List.{List}
-use Prim.Native.Nat.{ℕ, ◌+◌, ◌*◌, ◌-◌, ◌≤◌, ◌<◌}
+use Prim.Native.Nat.{ℕ, ◌+◌, ◌*◌, ◌≤◌}
 use native.Mathlib.Omega.{arith}
 use lib.ListN.{length}
-use Rattle.yard_check.specs.Check.{row_size, Row, put_row, yard_after, report_after}
-use Rattle.yard_check.specs.Checks.{args_of, row_of, tallied_of, tally_after, NextTurn, Visits, SlotVisited, span_image, Agree}
+use Rattle.yard_check.specs.Check.{row_size, put_row, yard_after, report_after}
+use Rattle.yard_check.specs.Checks.{args_of, row_of, tallied_of, tally_after, NextTurn, Visits, SlotVisited, span_image}
 use Rattle.yard_check.specs.declared.check.Counts.{Counts}
 use Rattle.yard_check.proofs.ReportLaws.{rows_few}
 use Rattle.yard_check.proofs.TurnLaws.{next-slot, few-slots, span_start, turn-length, turn_visits, turn-yard, turn-report, turn-tally}
@@ -105,4 +104,3 @@ returns c = let a = c.args in
       tally = λ rows seen q h. (i.6 rows seen q).0 h ∙ ap (tally_after rows seen A.begin) e;
       report-left = λ rows seen r q h. (i.6 rows seen q).1 r h ∙ ap (report_after a.s.wide rows r) e;
     }
-

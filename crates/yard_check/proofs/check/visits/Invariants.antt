@@ -1,15 +1,10 @@
-use mathlib.Core.Path.{◌≡◌, refl, sym, ap, subst, ◌∙◌}
+use mathlib.Core.Path.{◌≡◌}
 use mathlib.Core.Bool.{Bool}
 use mathlib.Core.List.{List}
-use Prim.Native.Nat.{ℕ, ◌+◌, ◌*◌, ◌-◌, ◌≤◌, ◌<◌}
-use native.Mathlib.Omega.{arith}
+use Prim.Native.Nat.{ℕ, ◌+◌, ◌-◌, ◌≤◌, ◌<◌}
 use lib.ListN.{length}
-use Rattle.yard_check.specs.Check.{row_size, Row, put_row, yard_after, report_after}
-use Rattle.yard_check.specs.Checks.{args_of, row_of, tallied_of, tally_after, NextTurn, Visits, SlotVisited, span_image, Agree}
-use Rattle.yard_check.specs.declared.check.Counts.{Counts}
-use Rattle.yard_check.proofs.ReportLaws.{rows_few}
-use Rattle.yard_check.proofs.TurnLaws.{next-slot, few-slots, span_start, turn-length, turn_visits, turn-yard, turn-report, turn-tally}
-use borrow.Author.Rules.{rules}
+use Rattle.yard_check.specs.Check.{Row, yard_after, report_after}
+use Rattle.yard_check.specs.Checks.{args_of, tally_after, NextTurn, span_image, Agree}
 use Rattle.yard_check.proofs.check.visits.Given as goal
 
 abbrev pub invariant-loop-n : goal.invariant-loop-n
@@ -20,4 +15,3 @@ invariant-loop-n l = let A = args_of l.w l.blocking l.a in
 
 abbrev pub decreases-loop-n : goal.decreases-loop-n
 decreases-loop-n l = l.s.until - l.n
-

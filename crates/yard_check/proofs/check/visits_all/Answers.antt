@@ -1,11 +1,10 @@
-use mathlib.Core.Path.{refl, sym, ap, ◌∙◌}
+use mathlib.Core.Path.{refl}
 use native.Mathlib.Omega.{arith}
 use lib.ListN.{length}
 use Rattle.yard_check.specs.Checks.{args_of}
 use Rattle.yard_check.specs.declared.check.Span.{Span}
 use Rattle.yard_check.specs.declared.check.Counts.{Counts}
 use Rattle.yard_check.proofs.TurnLaws.{slots-few, all_spans, all_visited}
-use borrow.Author.Rules.{rules}
 use Rattle.yard_check.proofs.check.visits_all.Goals as goal
 
 pub overflow_cast-s : goal.overflow_cast-s
@@ -24,4 +23,3 @@ returns c = let a = c.args in
     let y : Counts = record { erred = 0; blocked = 0; next = a.a.begin; changed = 0 } in
     let w = c.visits in
     all_visited a.yard.now a.occ.now (args_of a.w a.blocking.now a.a) a.report.now c.requires (length a.room.now) s y refl c.slot_count.ensures c.wide_rows.ensures refl w.result w.new.yard w.new.report w.ensures
-

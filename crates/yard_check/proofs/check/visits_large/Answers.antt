@@ -6,7 +6,6 @@ use lib.Seq.{length-take-le}
 use Rattle.image_fault.specs.declared.Widths.TheVariants.{Narrow}
 use Rattle.yard_check.specs.Checks.{args_of}
 use Rattle.yard_check.proofs.TurnLaws.{few-links}
-use borrow.Author.Rules.{rules}
 use Rattle.yard_check.proofs.check.visits_large.Goals as goal
 
 pub slice_bounds-wide-end : goal.slice_bounds-wide-end
@@ -26,4 +25,3 @@ visits_widened-requires c = let a = c.args in
 
 pub returns : goal.returns
 returns c = c.visits_widened.ensures
-

@@ -3,7 +3,6 @@ use Prim.Native.Nat.{ℕ}
 use native.Mathlib.Omega.{arith}
 use lib.ListN.{length, replicate, length-replicate}
 use lib.Seq.{length-take-le}
-use borrow.Author.Rules.{rules}
 use Rattle.yard_check.proofs.check.visits_small.Goals as goal
 
 pub slice_bounds-wide-end : goal.slice_bounds-wide-end
@@ -23,4 +22,3 @@ visits_widened-requires c = let a = c.args in
 
 pub returns : goal.returns
 returns c = c.visits_widened.ensures
-

@@ -5,7 +5,6 @@ use lib.ListN.{length}
 use Rattle.image_fault.specs.declared.Widths.TheVariants.{Narrow}
 use Rattle.yard_check.specs.Check.{check_fault}
 use Rattle.yard_check.specs.Checks.{args_of, AllVisited}
-use borrow.Author.Rules.{rules}
 use Rattle.yard_check.proofs.check.visits_widened.Goals as goal
 
 pub visits_all-requires : goal.visits_all-requires
@@ -16,4 +15,3 @@ pub returns : goal.returns
 returns c = let a = c.args in
     let w = c.visits_all in
     subst (λ (xs : List ℕ). AllVisited a.yard.now xs (args_of Narrow a.blocking.now a.a) a.report.now (length a.room.now) w.result w.new.yard w.new.report) (c.widen.ensures c.requires.1) w.ensures
-

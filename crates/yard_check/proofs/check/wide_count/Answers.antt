@@ -1,13 +1,11 @@
 use mathlib.Core.Path.{◌≡◌, sym, ap, ◌∙◌}
-use mathlib.Core.Bool.{Bool}
 use mathlib.Core.List.{List}
-use Prim.Native.Nat.{ℕ, ◌+◌, ◌-◌, ◌≤◌}
+use Prim.Native.Nat.{ℕ}
 use native.Mathlib.Omega.{arith}
 use Rattle.image.specs.Image.{is_wide}
 use Rattle.yard_check.specs.Yard.{part_of}
 use Rattle.yard_check.specs.Check.{how_many}
 use Rattle.yard_check.proofs.SlotLaws.{bit, bit-few, many_few, many_more, many_start}
-use borrow.Author.Rules.{rules}
 use Rattle.yard_check.proofs.check.wide_count.Goals as goal
 
 pub loop-i-init : goal.loop-i-init
@@ -32,4 +30,3 @@ returns c = let y = c.args.yard.now in
     let g = c.loop-i in
     let e : g.i ≡ c.args.n = omega (arith, g.invariant.0, c.loop-i-test.false) in
     g.invariant.1 ∙ ap (how_many (λ t. is_wide (part_of y t))) e
-

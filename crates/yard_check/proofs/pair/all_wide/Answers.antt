@@ -1,6 +1,6 @@
 use mathlib.Core.Path.{refl, ◌≡◌, sym, ◌∙◌}
 use mathlib.Core.Bool.{true}
-use Prim.Native.Nat.{◌+◌, ◌-◌, ◌≤◌}
+use Prim.Native.Nat.{◌+◌}
 use native.Mathlib.Omega.{arith}
 use borrow.Author.Rules.{rules}
 use Rattle.link_rules.specs.Network.{all_below}
@@ -21,4 +21,3 @@ returns-else-slot_wide c = let a = c.args in sym (all_fails (λ j. is_wide (pair
 
 pub returns : goal.returns
 returns c = let a = c.args in let e : c.loop-i.i ≡ a.slots = omega (arith, c.loop-i.invariant.0, c.loop-i-test.false) in rw (← e) (sym c.loop-i.invariant.1)
-

@@ -5,7 +5,6 @@ use Rattle.yard_check.specs.Check.{Answer}
 use Rattle.yard_check.specs.Checks.{args_of}
 use Rattle.yard_check.specs.Pair.{pair_of}
 use Rattle.yard_check.proofs.PairLaws.{pair_refused, pair-done}
-use borrow.Author.Rules.{rules}
 use Rattle.yard_check.proofs.pair.check_pair.Goals as goal
 
 pub returns-then-f-ne0 : goal.returns-then-f-ne0
@@ -22,4 +21,3 @@ returns c = let a = c.args in
     let v = c.visits_pair-y in
     let clean = ap (λ (x : Refusal). x.number) (sym f.ensures) ∙ c.if-f-ne0.false in
     ap (λ (x : Answer). pair_of x v.new.yard v.new.second v.new.report) c.answered.ensures ∙ (v.ensures ∙ pair-done a.yard.now a.second.now a.count a.occ.now (args_of Either a.blocking.now a.a) a.report.now clean)
-

@@ -12,7 +12,6 @@ use Rattle.wide_occupancy.specs.WideOccupancy.{large_train_fault}
 use Rattle.yard_check.specs.Check.{slots_fault, report_fault}
 use Rattle.yard_check.specs.Checks.{args_of}
 use Rattle.yard_check.specs.Pair.{pair_image, pair_largest, late_fault}
-use borrow.Author.Rules.{rules}
 use Rattle.yard_check.proofs.pair.late_fault.Goals as goal
 
 pub returns : goal.returns
@@ -27,4 +26,3 @@ returns c = let a = c.args in
     t.ensures ∙ ap (λ (k : ℕ). large_train_fault k a.occ.now no_train) (c.largest_of-top.ensures ∙ ap largest_of wide) in
     let late = l.ensures Either ∙ ap (λ (k : ℕ). or_else (slots_fault k (args_of Either [] a.a)) (report_fault true k a.long)) s.ensures in
     c.or_else.ensures ∙ (ap (λ (x : Refusal). or_else x l.result) held ∙ ap (or_else (large_train_fault (pair_largest y a.second.now a.count) a.occ.now no_train)) late)
-

@@ -4,7 +4,6 @@ use borrow.Author.Tests.{eq-eqb, ne_eqb}
 use Rattle.yard_check.specs.Yard.{yard_fits}
 use Rattle.yard_check.specs.Check.{slots_fault}
 use Rattle.yard_check.specs.Pair.{second_lies, late_fault, pair_fault}
-use borrow.Author.Rules.{rules}
 use Rattle.yard_check.proofs.pair.pair_fault.Goals as goal
 
 pub returns-then-f-ne0 : goal.returns-then-f-ne0
@@ -38,4 +37,3 @@ returns c = let a = c.args in
     let f = c.call_fault-f in
     let bad : yard_fits a.yard.now ≡ false = sym c.yard_fits.ensures ∙ c.if-yard_fits.false in
     rw (← f.ensures a.occ.now refl, eq-eqb f.result.number 0 c.if-f-ne0.false, bad) c.refused_unless-2.ensures
-

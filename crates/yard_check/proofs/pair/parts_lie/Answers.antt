@@ -1,6 +1,6 @@
 use mathlib.Core.Path.{refl, ◌≡◌, sym, ◌∙◌}
 use mathlib.Core.Bool.{true}
-use Prim.Native.Nat.{◌+◌, ◌-◌, ◌≤◌}
+use Prim.Native.Nat.{◌+◌}
 use native.Mathlib.Omega.{arith}
 use borrow.Author.Rules.{rules}
 use Rattle.link_rules.specs.Network.{all_below}
@@ -20,4 +20,3 @@ returns-else-part_lies c = let a = c.args in sym (all_fails (λ j. part_lies a.y
 
 pub returns : goal.returns
 returns c = let a = c.args in let e : c.loop-i.i ≡ a.slots = omega (arith, c.loop-i.invariant.0, c.loop-i-test.false) in rw (← e) (sym c.loop-i.invariant.1)
-

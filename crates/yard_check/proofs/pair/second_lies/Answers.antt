@@ -6,7 +6,6 @@ use borrow.Author.Tests.{eq-eqb, ne_eqb, le-leb, lt-leb, lt-ltb, le-ltb}
 use Rattle.yard_check.specs.Yard.{yard_size, slot_count, part_begin}
 use Rattle.yard_check.specs.Pair.{second_lies}
 use Rattle.yard_check.proofs.YardLaws.{fits}
-use borrow.Author.Rules.{rules}
 use Rattle.yard_check.proofs.pair.second_lies.Goals as goal
 
 pub returns-then-count-lt1 : goal.returns-then-count-lt1
@@ -66,4 +65,3 @@ returns c = let a = c.args in
     let s = c.slot_count-slots in
     let n : part_begin z 1 ≡ 8 + 4 * slot_count y = omega (arith, c.if-u32_at-slots.false, c.u32_at-2.ensures, s.ensures) in
     rw (le-leb 1 a.count (omega (arith, c.if-count-lt1.false)), lt-ltb a.count (slot_count y) (omega (arith, s.ensures, c.if-slots-count.false)), eq-eqb (slot_count z) (slot_count y) (sym c.slot_count.ensures ∙ (c.if-slot_count-slots.false ∙ s.ensures)), eq-eqb (yard_size z) (length z) (sym c.u32_at.ensures ∙ c.if-u32_at-second.false), eq-eqb (part_begin z 1) (8 + 4 * slot_count y) n, ← s.ensures) c.parts_lie.ensures
-

@@ -1,11 +1,8 @@
 use native.Mathlib.Omega.{arith}
-use mathlib.Core.Path.{◌≡◌}
-use mathlib.Core.Bool.{true}
 use lib.ListN.{length}
 use Rattle.image_fault.specs.declared.Widths.TheVariants.{Either}
 use Rattle.yard_check.specs.Checks.{args_of}
 use Rattle.yard_check.proofs.PairLaws.{count-few, slots-few, low_spans, high_spans, pair_visited}
-use borrow.Author.Rules.{rules}
 use Rattle.yard_check.proofs.pair.visits_pair.Goals as goal
 
 pub overflow_cast-low : goal.overflow_cast-low
@@ -36,4 +33,3 @@ returns c = let a = c.args in
     let w = c.visits in
     let s = c.slot_count in
     pair_visited a.yard.now a.second.now a.count a.occ.now (args_of Either a.blocking.now a.a) a.report.now c.requires (length a.room.now) (length v.new.room) v.result v.new.yard v.new.report v.ensures s.result s.ensures w.result w.new.yard w.new.report w.ensures
-

@@ -1,7 +1,6 @@
 use mathlib.Core.Path.{sym, ◌∙◌}
 use native.Mathlib.Omega.{arith}
 use Rattle.yard_check.proofs.YardLaws.{image-low, image-high, image-is}
-use borrow.Author.Rules.{rules}
 use Rattle.yard_check.proofs.yard.image_in.Goals as goal
 
 pub returns-then-slot-lt1 : goal.returns-then-slot-lt1
@@ -14,4 +13,3 @@ returns-then-slot_count-slot c = let a = c.args in
 pub returns : goal.returns
 returns c = let a = c.args in
     c.part.ensures ∙ sym (image-is a.yard.now a.slot.0 (omega (arith, c.if-slot-lt1.false)) (omega (arith, c.if-slot_count-slot.false, c.slot_count.ensures)))
-

@@ -1,6 +1,5 @@
 use native.Mathlib.Omega.{arith}
 use Rattle.yard_check.proofs.PartLaws.{from_until, until_inside, part_span}
-use borrow.Author.Rules.{rules}
 use Rattle.yard_check.proofs.yard.part.Goals as goal
 
 pub slice_bounds-result-count : goal.slice_bounds-result-count

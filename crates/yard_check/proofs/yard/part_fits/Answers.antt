@@ -2,7 +2,6 @@ use Prim.Native.Nat.{◌+◌, ◌≤◌, ◌<◌}
 use native.Mathlib.Omega.{arith}
 use borrow.Author.Tests.{lt-leb, le-leb}
 use Rattle.yard_check.specs.Yard.{part_begin, part_end, part_fits}
-use borrow.Author.Rules.{rules}
 use Rattle.yard_check.proofs.yard.part_fits.Goals as goal
 
 pub returns-then-part_end-b : goal.returns-then-part_end-b
@@ -17,4 +16,3 @@ returns c = let a = c.args in
     let b = c.part_begin-b in
     let h : part_begin a.yard.now a.t + 64 ≤ part_end a.yard.now a.t = omega (arith, c.part_end.ensures, b.ensures) in
     rw (le-leb (part_begin a.yard.now a.t + 64) (part_end a.yard.now a.t) h, ← b.ensures, ← c.u16_at.ensures)
-

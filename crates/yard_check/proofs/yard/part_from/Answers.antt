@@ -1,6 +1,5 @@
 use native.Mathlib.Omega.{arith}
 use Rattle.yard_check.specs.Yard.{part_from}
-use borrow.Author.Rules.{rules}
 use Rattle.yard_check.proofs.yard.part_from.Goals as goal
 
 pub returns-then-b-yard : goal.returns-then-b-yard
@@ -10,4 +9,3 @@ returns-then-b-yard c = omega arith
 pub returns : goal.returns
 unfolding part_from
 returns c = omega arith
-

@@ -1,6 +1,5 @@
 use native.Mathlib.Omega.{arith}
 use Rattle.yard_check.specs.Yard.{part_from, part_until}
-use borrow.Author.Rules.{rules}
 use Rattle.yard_check.proofs.yard.part_until.Goals as goal
 
 pub returns-then-e-a : goal.returns-then-e-a
@@ -14,4 +13,3 @@ returns-then-e-yard c = omega arith
 pub returns : goal.returns
 unfolding part_until part_from
 returns c = omega arith
-

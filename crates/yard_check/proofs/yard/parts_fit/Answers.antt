@@ -1,6 +1,6 @@
 use mathlib.Core.Path.{refl, ◌≡◌, sym, ◌∙◌}
 use mathlib.Core.Bool.{true}
-use Prim.Native.Nat.{◌+◌, ◌-◌, ◌≤◌}
+use Prim.Native.Nat.{◌+◌}
 use native.Mathlib.Omega.{arith}
 use borrow.Author.Rules.{rules}
 use Rattle.link_rules.specs.Network.{all_below}
@@ -20,4 +20,3 @@ returns-else-part_fits c = sym (all_fails (λ j. part_fits c.args.yard.now (j + 
 
 pub returns : goal.returns
 returns c = let e : c.loop-i.i ≡ c.args.slots = omega arith in rw (← e) (sym c.loop-i.invariant.1)
-

@@ -1,10 +1,7 @@
-use mathlib.Core.Path.{refl, ◌≡◌, sym, ◌∙◌}
+use mathlib.Core.Path.{◌≡◌}
 use mathlib.Core.Bool.{true}
 use Prim.Native.Nat.{◌+◌, ◌-◌, ◌≤◌}
-use native.Mathlib.Omega.{arith}
-use borrow.Author.Rules.{rules}
 use Rattle.link_rules.specs.Network.{all_below}
-use Rattle.link_rules.proofs.TableLaws.{all_more, all_fails}
 use Rattle.yard_check.specs.Yard.{part_fits}
 use Rattle.yard_check.proofs.yard.parts_fit.Given as goal
 
@@ -13,4 +10,3 @@ invariant-loop-i l = (l.i ≤ l.slots) × (all_below l.i (λ j. part_fits l.yard
 
 abbrev pub decreases-loop-i : goal.decreases-loop-i
 decreases-loop-i l = l.slots - l.i
-

@@ -4,7 +4,6 @@ use native.Mathlib.Omega.{arith}
 use lib.ListN.{length}
 use borrow.Author.Tests.{eq-eqb, ne_eqb, le-leb, lt-leb}
 use Rattle.yard_check.specs.Yard.{yard_size, slot_count, part_begin, yard_fits}
-use borrow.Author.Rules.{rules}
 use Rattle.yard_check.proofs.yard.yard_fits.Goals as goal
 
 pub returns-then-u32_at-yard : goal.returns-then-u32_at-yard
@@ -39,4 +38,3 @@ returns c = let y = c.args.yard.now in
     let s = c.slot_count-slots in
     let n : part_begin y 1 ≡ 8 + 4 * slot_count y = omega (arith, c.if-part_begin-slots.false, c.part_begin.ensures, s.ensures) in
     rw (eq-eqb (yard_size y) (length y) (sym u.ensures ∙ c.if-u32_at-yard.false), le-leb 1 (slot_count y) (omega (arith, s.ensures)), le-leb (slot_count y) 63 (omega (arith, s.ensures)), eq-eqb (part_begin y 1) (8 + 4 * slot_count y) n, ← s.ensures) c.parts_fit.ensures
-

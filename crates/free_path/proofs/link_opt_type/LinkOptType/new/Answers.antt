@@ -15,4 +15,3 @@ pub returns : goal.returns
 unfolding link_opt_type_of
 returns c = let a = c.args in
     c.class_end.ensures ∙ ap class_end (sym (class-done a.blocking.now (flagged a.on.now) c.loop-i.i c.loop-i.class (omega arith)) ∙ c.loop-i.invariant)
-

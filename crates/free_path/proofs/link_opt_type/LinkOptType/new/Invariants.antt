@@ -9,4 +9,3 @@ invariant-loop-i l = class_walk (drop l.i (links l.blocking)) (flagged l.on) l.c
 
 abbrev pub decreases-loop-i : goal.decreases-loop-i
 decreases-loop-i l = length l.blocking - l.i
-
