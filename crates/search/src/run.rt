@@ -1,7 +1,7 @@
 // The search of a round of update_free_path (free_path.rs 345-633): turn after turn, up to the one that ends it, proved equal to
 // search_from of update_definition. The first nodes of the new path stand in an array of path nodes; each node that it gains goes to a buffer of an
 // image's layout too, where a join finds it. The crate assumes nothing of its own.
-ghost use Rattle.std.specs.Prelude.{◌≡◌, true, false, cond, ◌+◌, ◌-◌, ◌≤◌, ◌<◌, ltb};
+ghost use Rattle.std.specs.Prelude.{◌≡◌, true, false, cond, ◌+◌, ◌-◌, ◌≤◌, ◌<◌, eqb, ltb};
 ghost use Rattle.image.specs.Image.{whole_node};
 ghost use Rattle.search.specs.Read.{arrays};
 ghost use Rattle.splice.specs.Read.{Kept};
@@ -52,11 +52,14 @@ fn slot_of(k: usize) -> usize
     63
 }
 
-// disp_path_new.last(): top, or behind the array the buffer has it.
-fn last(fresh: &[u8], count: usize, top: DispNode) -> DispNode
-    requires { count ≤ 512 }
-    ensures { result ≡ cond (ltb 63 count) (whole_node fresh.now (count - 1)) top }
+// The current node where none was pushed: disp_path_new.last(), which is top or stands behind the array, else disp_path[idx_split - 1].
+fn current(img: &[u8], fresh: &[u8], split: usize, count: usize, top: DispNode) -> DispNode
+    requires { (split ≤ 512) × (count ≤ 512) }
+    ensures { result ≡ cond (eqb count 0) (whole_node img.now (split - 1)) (cond (ltb 63 count) (whole_node fresh.now (count - 1)) top) }
 {
+    if count == 0 {
+        return codec::whole_node(img, one_less(split) as u32);
+    }
     if 63 < count {
         return codec::whole_node(fresh, one_less(count) as u32);
     }
@@ -190,7 +193,7 @@ pub fn run(
             curr = codec::whole_node(img, one_less(p.idx_split) as u32);
         } else {
             let top = slot_of(one_less(a.count));
-            curr = last(fresh, a.count, new[top]);
+            curr = current(img, fresh, p.idx_split, a.count, new[top]);
         }
     }
     out_of_turns(curr, p, steps)

@@ -4,7 +4,7 @@ use mathlib.Core.List.{[]}
 use Prim.Native.Nat.{ℕ, suc, ◌+◌, ◌-◌, ◌*◌, ◌≤◌, ◌<◌}
 use native.Mathlib.Omega.{arith}
 use lib.ListN.{length, get_or, set, length-set}
-use borrow.Author.Tests.{not-true, not-false}
+use borrow.Author.Tests.{not-true, not-false, ne_eqb}
 use Rattle.disp_structs.specs.Train.{Train}
 use Rattle.disp_structs.specs.Listed.{listed}
 use Rattle.disp_structs.proofs.ListedLaws.{listed-length}
@@ -253,8 +253,8 @@ pub bounds-new-top : goal.bounds-new-top
 bounds-new-top c =
     omega (arith, c.slot_of-top.ensures, slot-low c.one_less-else-a-eq0.result, c.loop-left.invariant.7)
 
-pub last-curr-requires : goal.last-curr-requires
-last-curr-requires c =
+pub current-curr-requires : goal.current-curr-requires
+current-curr-requires c =
     let v = c.loop-left in
     let g = c.requires in
     let a = c.args in
@@ -272,7 +272,7 @@ last-curr-requires c =
     let next_split : (1 ≤ u.result.place.idx_split) × (u.result.place.idx_split ≤ a.r.path_count) × (u.result.place.idx_split + r.result.count ≤ 512) × (u.result.place.idx_split + r.result.count ≤ a.r.est_count) =
     top_split a.occ.now a.img.now a.dt.now a.dn.now a.r g.train _ g.begins _ (v.left - 1) (v.steps + 1) (counted u.result.place r.result.count) v.fresh u.new.nt u.new.nn (arrays u.new.pool u.new.begins u.new.ends) (going g.train g.begins) in
     let next : (1 ≤ c.at_count-p.result.idx_split) × (c.at_count-p.result.idx_split ≤ a.r.path_count) × (c.at_count-p.result.idx_split + r.result.count ≤ 512) = rw c.at_count-p.ensures (next_split.0, next_split.1, next_split.2) in
-    omega (arith, next.2)
+    (omega (arith, next.2), omega (arith, next.2))
 
 pub loop-left-smaller : goal.loop-left-smaller
 loop-left-smaller c =
@@ -309,7 +309,7 @@ loop-left-preserved c =
     let at = c.slot_of-top.ensures ∙ ap slot_of c.one_less-else-a-eq0.ensures in
     let e = c.at_count-p.ensures in
     let same : (i : ℕ) → i < r.result.count → i < 63 → get_or v.new i blank ≡ node_at v.fresh i = λ i j k. v.invariant.8 i (omega (arith, j, few)) k in
-    let read : c.last-curr.result ≡ current_in a.img.now v.fresh c.at_count-p.result.idx_split r.result.count = c.last-curr.ensures ∙ current-last a.img.now v.fresh _ m _ o (left_whole _ (omega (arith, o))) (λ k. rw (at, slot_in (m - 1) (omega (arith, k))) (v.invariant.8 (m - 1) (omega (arith, few, o)) (omega (arith, o, k)))) in (
+    let read : c.current-curr.result ≡ current_in a.img.now v.fresh c.at_count-p.result.idx_split r.result.count = (rw (ne_eqb m 0 o) at c.current-curr.ensures) ∙ current-last a.img.now v.fresh _ m _ o (left_whole _ (omega (arith, o))) (λ k. rw (at, slot_in (m - 1) (omega (arith, k))) (v.invariant.8 (m - 1) (omega (arith, few, o)) (omega (arith, o, k)))) in (
       v.invariant.0,
       lent,
       u.auto.nt ∙ v.invariant.2,
