@@ -1,6 +1,7 @@
 pub mod GridLaws
 pub mod NearLaws
 pub mod ProfileLaws
+pub mod ShiftNumbers
 pub mod ShiftLaws
 pub mod ImageLaws
 pub mod StepLaws

@@ -20,40 +20,18 @@ use Rattle.track_profile.specs.Profile.{longest, Worth, InProfile, in_profile}
 use Rattle.track_profile.proofs.GridLaws.{sum_sign, sum_size, add_exact, sub_exact}
 use Rattle.track_profile.proofs.NearLaws.{worth_eq, zero_side, nought-is, or_cases}
 use Rattle.track_profile.proofs.ProfileLaws.{profile_sound, profile_complete}
+use Rattle.track_profile.proofs.ShiftNumbers.{farthest, shift, metres, most, base, lower, upper}
 
 -- ---- the test that the code makes
-
--- 40,000 and 2 ^ 42
-abbrev pub farthest : Float
-farthest = of_bits binary64 0x40e3_8800_0000_0000
-
-abbrev pub shift : Float
-shift = of_bits binary64 0x4290_0000_0000_0000
 
 unfoldable pub shift_test : Float → Bool
 shift_test x = le nought x && (le x farthest && eq (sub binary64 (add binary64 x shift) shift) x)
 
 -- ---- its numbers
 
-abbrev metres : ℕ
-metres = 40000
-
-abbrev most : Float
-most = fin false 625 (pos 6)
-
 farthest_value : farthest ≡ most
 unfolding of_bits
 farthest_value = refl
-
-abbrev base : ℕ
-base = 2 ^ 42
-
--- base and twice base
-abbrev lower : Float
-lower = fin false 1 (pos 42)
-
-abbrev upper : Float
-upper = fin false 1 (pos 43)
 
 shift_value : shift ≡ lower
 unfolding of_bits
