@@ -1,6 +1,6 @@
 /* The calls of the proved free path core of a dispatch yard, for C on x86-64.
  *
- * Link with libfree_path_c.a (`rt staticlib free_path_c`). Every call is total: any bytes, lengths and numbers get an
+ * Link with libfree_path_c.a (`rt lib` in crates/free_path_c). Every call is total: any bytes, lengths and numbers get an
  * answer. A pointer goes with the length that follows it, counted in elements; with length 0 it is not read. No buffer that a
  * call writes may overlap another of its buffers. A refused call changes no buffer but the words of an update's `answer`; a
  * refused check leaves `answer` as it was.

@@ -1,5 +1,5 @@
 //! Links the static library of the proved core. LAVTOEU_LIB names its folder, a relative one from where cargo was called;
-//! without it, it is looked for where `rt staticlib free_path_c` writes it.
+//! without it, it is looked for where `rt lib` in crates/free_path_c writes it.
 
 use std::env;
 use std::path::{Path, PathBuf};
@@ -15,10 +15,10 @@ fn from_caller(folder: String, here: &Path) -> PathBuf {
 fn main() {
     println!("cargo:rerun-if-env-changed=LAVTOEU_LIB");
     let here = PathBuf::from(env::var_os("CARGO_MANIFEST_DIR").expect("CARGO_MANIFEST_DIR"));
-    let folder = env::var("LAVTOEU_LIB").map_or(here.join("../../target/staticlib"), |folder| from_caller(folder, &here));
+    let folder = env::var("LAVTOEU_LIB").map_or(here.join("../../crates/free_path_c/out"), |folder| from_caller(folder, &here));
     let library = folder.join("libfree_path_c.a");
     if !library.exists() {
-        panic!("there is no {}: run `rt staticlib free_path_c` in the project first, or set LAVTOEU_LIB", library.display());
+        panic!("there is no {}: run `rt lib` in crates/free_path_c of the project first, or set LAVTOEU_LIB", library.display());
     }
     println!("cargo:rerun-if-changed={}", library.display());
     println!("cargo:rustc-link-search=native={}", folder.display());

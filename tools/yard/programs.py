@@ -1,4 +1,4 @@
-"""The proved programs that commands of yard run, in target/bin or in the folder that --programs names, and the sheets that they write."""
+"""The proved programs that commands of yard run, crates/NAME/out/NAME or NAME in the folder that --programs names, and the sheets that they write."""
 import os
 import re
 import subprocess
@@ -7,14 +7,14 @@ from yard import Wrong, in_file, read_file, text_of
 
 COLUMNS = ["slot", "code word", "rounds", "holder", "strays", "faults", "free", "met"]
 TRAINS = [3, 7]  # which columns hold trains
-BUILT = os.path.join(os.path.dirname(os.path.dirname(os.path.dirname(os.path.abspath(__file__)))), "target", "bin")
+BUILT = os.path.join(os.path.dirname(os.path.dirname(os.path.dirname(os.path.abspath(__file__)))), "crates")
 
 
 def output(name, given, folder):
     """What a program writes where it reads these bytes."""
-    path = os.path.join(folder or BUILT, name)
+    path = os.path.join(folder, name) if folder else os.path.join(BUILT, name, "out", name)
     if not os.path.exists(path):
-        raise Wrong(0, f"it is not built: 'rt check {name}' builds it, and --programs names another folder that has it", path)
+        raise Wrong(0, f"it is not built: 'rt run' in crates/{name} builds it, and --programs names another folder that has it", path)
     try:
         ran = subprocess.run([path], input=given, stdout=subprocess.PIPE, stderr=subprocess.PIPE)
     except OSError as e:
