@@ -1,14 +1,16 @@
 #!/usr/bin/env python3
 """Spells the repository's own definitions and lemmas as today's library spells its own.
 
-usage: tools/port/names.py [--check]     at the top of the repository, once, after port.py
+usage: tools/port/names.py GUIDES [--check] [--rows FILE]     at the top of the repository, once, after the kit's port.py
+
+GUIDES is the folder of the kit that has its guides and its library.
 
 Definitions, fields, variables and lemmas are in snake case: linkCount is link_count. In the name of a lemma a dash
 joins two names, and a plain word is added with an underscore: length-holdAll is length-hold_all, arrive-is is
 arrive_is. Types and modules keep their capitals. Names of the library, names that Rattle makes and names of Rust
 stay. Only code of .antt files and, in .rt files, clauses, ghost blocks and 'ghost use' items turn, and code spans
 of comments. A name that would fall together with another one stays, and a line 'left:' says so. --check writes
-nothing. /tmp/names-said.tsv has the rows.
+nothing. --rows FILE writes each name and what it became, a tab between them.
 """
 
 import collections
@@ -19,7 +21,6 @@ import sys
 WORD = re.compile(r'[^\s(){}.;,@"«»]+')
 HIDDEN = re.compile(r'"(?:[^"\\\n]|\\.)*"|(?<![^\s(){}.;,@"«»])--[^\n]*|\{-.*?-\}', re.S)
 CAMEL = re.compile(r"[a-z][a-z0-9]*[A-Z]")
-KIT = "/opt/rattle/rattle"
 HEAD = re.compile(
     r"(?m)^( *)((?:(?:abbrev|unfoldable|opaque|pub|private|data|record|constructor|field)\s+)*)"
     r"([^\s(){}.;,@\"«»:|]+)((?: *[({][^:\n]*:[^\n]*?[)}]| *\([^()\n]*\)| *\{[^{}\n]*\})*) :(?= |$)"
@@ -70,7 +71,7 @@ def snake(part):
 
 def library():
     words = set()
-    for folder, dirs, files in os.walk(KIT):
+    for folder, dirs, files in os.walk(sys.argv[1]):
         if "/examples" in folder:
             continue
         for f in files:
@@ -177,9 +178,10 @@ def main():
                 uses = len(re.findall(rf"\b(?:let (?:mut )?)?{n}\s*:(?!:)|let (?:mut )?{n}\b", text[p]))
                 if uses:
                     print(f"look: {p}: {w} is {n}, which {uses} places of Rust bind")
-    with open("/tmp/names-said.tsv", "w") as f:
-        for w, n in sorted(names.items()):
-            f.write(f"{w}\t{n}\n")
+    if "--rows" in sys.argv:
+        with open(sys.argv[sys.argv.index("--rows") + 1], "w") as f:
+            for w, n in sorted(names.items()):
+                f.write(f"{w}\t{n}\n")
     turn = lambda s: WORD.sub(lambda m: names.get(m.group(), m.group()), s)
     spans = lambda c: re.sub(r"`[^`\n]+`", lambda m: turn(m.group()), c)
 
