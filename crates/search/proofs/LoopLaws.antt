@@ -1,7 +1,7 @@
 -- The turns of the loop: how it begins, goes on and stops, and the bounds by which it indexes. Assumes nothing.
 use Prim.Native.Nat.{ℕ, zero, suc, ◌+◌, ◌-◌, ◌≤◌, ◌<◌}
 use mathlib.Core.Path.{◌≡◌, refl, sym, ap, ap₂, subst, ◌∙◌}
-use mathlib.Core.Bool.{true, false, cond}
+use mathlib.Core.Bool.{Bool, true, false, cond}
 use mathlib.Core.List.{List, [], ◌∷◌, ◌++◌}
 use mathlib.Core.Logic.{⊎_elim}
 use native.Mathlib.Omega.{arith}
@@ -10,7 +10,7 @@ use lib.Ieee.{Float, nan, inf, fin, is_nan, eq, le}
 use mathlib.Core.Bool.{not}
 use lib.ListN.{length, get_or, take, set, length-append}
 use lib.Seq.{take-append-le, take_all, get_or_at, get_or-set_same, get_or-set_other}
-use borrow.Author.Tests.{ne_eqb, lt-ltb, le-ltb}
+use borrow.Author.Tests.{ne_eqb, ltb-false, lt-ltb, le-ltb}
 use Rattle.link_rules.specs.declared.link_idx.TrainIdx.{TrainIdx}
 use Rattle.disp_structs.specs.Listed.{listed}
 use Rattle.disp_structs.proofs.ListedLaws.{listed-length, listed_same, listed_at, listed-take}
@@ -155,14 +155,20 @@ not_more c k h w = ⊎_elim (λ (u : c < k + 1). omega arith) (λ (u : k + 1 ≤
 pub not_pushed : (fresh : List ℕ) (k : ℕ) (n : DispNode) (c : ℕ) → c ≤ k → listed c (node_at fresh) ≡ take c (listed k (node_at fresh) ++ (n ∷ []))
 not_pushed fresh k n c m = sym (take-append-le c (listed k (node_at fresh)) (n ∷ []) (omega (arith, listed-length k (node_at fresh))) ∙ listed-take c k (node_at fresh) m)
 
--- the current node then is the one before the split where none is left, else the last that is left: top, or a record that lies within the buffer
-module _ (img fresh : List ℕ) (split c : ℕ) where
-  pub current-none : c ≡ 0 → node_at img (split - 1) ≡ current_in img fresh split c
-  current-none q = rw q
+-- the current node as it is read then: top, or a record that lies within its image
+pub current-in : (img fresh : List ℕ) (split c : ℕ) (top : DispNode) → whole_node img (split - 1) ≡ node_at img (split - 1)
+    → (0 < c → whole_node fresh (c - 1) ≡ node_at fresh (c - 1)) → (0 < c → c ≤ 63 → top ≡ node_at fresh (c - 1))
+    → cond (eqb c 0) (whole_node img (split - 1)) (cond (ltb 63 c) (whole_node fresh (c - 1)) top) ≡ current_in img fresh split c
+current-in img fresh split zero top w f t = w
+current-in img fresh split (suc m) top w f t = ap₂ (cond (eqb (suc m) 0)) w (behind (ltb 63 (suc m)) refl)
+  where
+    behind : (b : Bool) → ltb 63 (suc m) ≡ b → cond b (whole_node fresh (suc m - 1)) top ≡ node_at fresh (suc m - 1)
+    behind true q = f (omega arith)
+    behind false q = t (omega arith) (ltb-false 63 (suc m) q)
 
-  pub current-last : (top : DispNode) → (c ≡ 0 → ⊥) → whole_node fresh (c - 1) ≡ node_at fresh (c - 1) → (c ≤ 63 → top ≡ node_at fresh (c - 1))
-      → cond (ltb 63 c) (whole_node fresh (c - 1)) top ≡ current_in img fresh split c
-  current-last top q w t = rw (ne_eqb c 0 q) (⊎_elim (λ (h : 63 < c). rw (lt-ltb 63 c h) w) (λ (h : c ≤ 63). rw (le-ltb 63 c h) (t h)) (below_or_not 63 c))
+-- and where none is left
+pub current-none : (img fresh : List ℕ) (split c : ℕ) → c ≡ 0 → node_at img (split - 1) ≡ current_in img fresh split c
+current-none img fresh split c q = rw q
 
 -- ---- after a turn
 

@@ -39,14 +39,14 @@ module _ (y : ℕ) (r : List ℕ) where
     unfolding numbers_fit
     filled_wrong h = rw (le-leb (filled_bytes y) (length r) room, ne_eqb (le_at 4 r 0) (filled_bytes y) h)
 
-    module _ (Filled-is : le_at 4 r 0 ≡ filled_bytes y) where
+    module _ (filled_is : le_at 4 r 0 ≡ filled_bytes y) where
       pub old_wrong : (le_at 4 r 8 ≡ old_offset → ⊥) → false ≡ numbers_fit y r
       unfolding numbers_fit
-      old_wrong h = rw (le-leb (filled_bytes y) (length r) room, eq-eqb (le_at 4 r 0) (filled_bytes y) Filled-is, ne_eqb (le_at 4 r 8) old_offset h)
+      old_wrong h = rw (le-leb (filled_bytes y) (length r) room, eq-eqb (le_at 4 r 0) (filled_bytes y) filled_is, ne_eqb (le_at 4 r 8) old_offset h)
 
       pub written_asked : le_at 4 r 8 ≡ old_offset → eqb (le_at 4 r 12) (written_offset y) ≡ numbers_fit y r
       unfolding numbers_fit
-      written_asked h = rw (le-leb (filled_bytes y) (length r) room, eq-eqb (le_at 4 r 0) (filled_bytes y) Filled-is, eq-eqb (le_at 4 r 8) old_offset h)
+      written_asked h = rw (le-leb (filled_bytes y) (length r) room, eq-eqb (le_at 4 r 0) (filled_bytes y) filled_is, eq-eqb (le_at 4 r 8) old_offset h)
 
 -- a record whose numbers fit lies within its buffer
 pub numbers-room : (y : ℕ) (r : List ℕ) → numbers_fit y r ≡ true → filled_bytes y ≤ length r

@@ -1,6 +1,5 @@
 use mathlib.Core.Path.{ap, ◌∙◌}
 use Rattle.search.proofs.PushLaws.{seconds, forever_is}
-use Rattle.disp_structs.specs.Floats.{real_of}
 use Rattle.search.proofs.moves.forever.Goals as goal
 
 pub returns : goal.returns

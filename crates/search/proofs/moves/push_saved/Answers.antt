@@ -1,6 +1,5 @@
 use mathlib.Core.Path.{refl, sym, ap, ◌∙◌}
 use native.Mathlib.Omega.{arith}
-use Rattle.disp_structs.specs.Values.{near}
 use Rattle.image.specs.Image.{node_at}
 use Rattle.free_path.specs.Base.{ok}
 use Rattle.free_path.proofs.ColumnLaws.{listed_read, listed_out}

@@ -1,10 +1,9 @@
 use mathlib.Core.Path.{◌≡◌, refl, sym, ap, ◌∙◌}
-use mathlib.Core.Bool.{true}
 use mathlib.Core.List.{[]}
 use Prim.Native.Nat.{ℕ, suc, ◌+◌, ◌-◌, ◌*◌, ◌≤◌, ◌<◌}
 use native.Mathlib.Omega.{arith}
 use lib.ListN.{length, get_or, set, length-set}
-use borrow.Author.Tests.{not-true, not-false, ne_eqb}
+use borrow.Author.Tests.{not-true, not-false}
 use Rattle.disp_structs.specs.Train.{Train}
 use Rattle.disp_structs.specs.Listed.{listed}
 use Rattle.disp_structs.proofs.ListedLaws.{listed-length}
@@ -17,7 +16,7 @@ use Rattle.splice.specs.Parts.{Sound}
 use Rattle.splice.proofs.NodeLaws.{kept-count, kept_then}
 use Rattle.search.specs.Runs.{counted, slot_of, SearchBegins, Going}
 use Rattle.image.proofs.RecordLaws.{whole-node}
-use Rattle.search.proofs.LoopLaws.{current_in, place-split, going_first, top_split, top_small, top-current, slot_in, slot-low, pushed_kept, pushed, pushed_current, array_pushed, not_more, not_pushed, current-none, current-last, blank, turn_sound, turn_on, turn-ends, turns_out}
+use Rattle.search.proofs.LoopLaws.{current_in, place-split, going_first, top_split, top_small, top-current, slot_in, slot-low, pushed_kept, pushed, pushed_current, array_pushed, not_more, not_pushed, current-in, current-none, blank, turn_sound, turn_on, turn-ends, turns_out}
 use Rattle.search.proofs.run.run.Goals as goal
 
 pub overflow_cast-one_less : goal.overflow_cast-one_less
@@ -305,11 +304,12 @@ loop-left-preserved c =
     let lent : Lent a.r.est_count (arrays u.new.pool u.new.begins u.new.ends) =
     record { est = v.invariant.1.est; trains = u.auto.pool ∙ v.invariant.1.trains; first = omega (arith, u.auto.begins, v.invariant.1.first); last = omega (arith, u.auto.ends, v.invariant.1.last) } in
     let m = r.result.count in
-    let o = c.if-a-eq0.false in
     let at = c.slot_of-top.ensures ∙ ap slot_of c.one_less-else-a-eq0.ensures in
     let e = c.at_count-p.ensures in
     let same : (i : ℕ) → i < r.result.count → i < 63 → get_or v.new i blank ≡ node_at v.fresh i = λ i j k. v.invariant.8 i (omega (arith, j, few)) k in
-    let read : c.current-curr.result ≡ current_in a.img.now v.fresh c.at_count-p.result.idx_split r.result.count = (rw (ne_eqb m 0 o) at c.current-curr.ensures) ∙ current-last a.img.now v.fresh _ m _ o (left_whole _ (omega (arith, o))) (λ k. rw (at, slot_in (m - 1) (omega (arith, k))) (v.invariant.8 (m - 1) (omega (arith, few, o)) (omega (arith, o, k)))) in (
+    let read : c.current-curr.result ≡ current_in a.img.now v.fresh c.at_count-p.result.idx_split r.result.count =
+    c.current-curr.ensures ∙ current-in a.img.now v.fresh _ m _ (whole-node a.img.now _ (omega (arith, next.0, next.1, g.nodes))) (λ h. left_whole _ (omega (arith, h)))
+    (λ h k. rw (at, slot_in (m - 1) (omega (arith, k))) (v.invariant.8 (m - 1) (omega (arith, few, h)) (omega (arith, h, k)))) in (
       v.invariant.0,
       lent,
       u.auto.nt ∙ v.invariant.2,

@@ -4,7 +4,7 @@ use Prim.Native.Nat.{ℕ, ◌+◌, ◌≤◌, ◌<◌}
 use lib.ListN.{length, get_or}
 use Rattle.disp_structs.specs.Train.{Train}
 use Rattle.disp_structs.specs.Listed.{listed}
-use Rattle.image.specs.Image.{est_count, node_at}
+use Rattle.image.specs.Image.{node_at}
 use Rattle.search.specs.Read.{divs_of, round_of, search_in, arrays, Lent}
 use Rattle.splice.specs.Read.{Kept}
 use Rattle.search.specs.Runs.{SearchBegins, Going}
