@@ -1,5 +1,5 @@
 // A reader over one lent image (document 01): the slice and the index of a path node, and thin functions over those of `image`.
-// The functions over a Reader are proved by walks of their MIR, by hand; whoever calls `free_of` or `node_of`, which take a plain slice, needs none.
+// Whoever has a plain slice calls `free_of` or `node_of`.
 // The crate assumes nothing of its own, and no public function has a `requires`.
 #![tactic(auto)]
 

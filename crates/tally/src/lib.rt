@@ -1,5 +1,5 @@
 // The tally of an update (document 01): rounds, strays and faults, lent to one thin function that each round calls; and the steps of its searches (Q-9).
-// `count_round` and `counted_round` are proved by walks of their MIR, by hand; whoever calls `counted_round`, which takes the tally by value, needs none.
+// `count_round` takes the tally lent, `counted_round` by value.
 // The crate assumes nothing of its own, and no public function has a `requires`.
 #![tactic(auto)]
 
