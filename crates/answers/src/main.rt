@@ -3,9 +3,7 @@
 // Behind the argument `--sums` each case has a line of its own, with a checksum of each buffer that its call left: what the oracle prints of the same cases.
 #![tactic(auto)]
 
-ghost use Rattle.std.specs.Prelude.{◌≡◌, ◌<◌, length, take, IfOk};
-ghost use Rattle.std.specs.Io.{ReadsAtMost};
-ghost use Rattle.std.specs.Io.KnownBytes.{Consumes, IsAtEnd};
+ghost use Rattle.std.specs.Prelude.{◌≡◌, length};
 
 mod act;
 mod carried;
@@ -33,6 +31,7 @@ use std::io::Read;
 use std::rt::Files;
 use std::{env, io};
 use track_profile;
+use whole_input::read_full;
 
 fn main(rt: HostRuntime) -> io::Result<()> {
     let words = env::args(&rt)?;
@@ -96,24 +95,6 @@ fn room() -> [u8; 262144]
     ensures { 262144 ≡ length result }
 {
     [0u8; 262144]
-}
-
-// Reads until the room is full or the input ends, and says how many bytes there are.
-fn read_full<R: Read>(input: &mut R, room: &mut [u8]) -> io::Result<usize>
-    ensures within { ReadsAtMost result room.new }
-    ensures bytes { IfOk result
-        (λ n. Consumes (R.remaining input.old) (R.remaining input.new) (take n room.new)) }
-    ensures end { IfOk result (λ n. n < length room.old → IsAtEnd (R.remaining input.new)) }
-{
-    let mut got = 0;
-    while got < room.len() {
-        let n = input.read(&mut room[got..])?;
-        if n == 0 {
-            return Ok(got);
-        }
-        got += n;
-    }
-    Ok(got)
 }
 
 // Reads one case and answers it.

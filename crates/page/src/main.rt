@@ -2,14 +2,12 @@
 // The largest image, a wide one, has 41,024 bytes. One more is read, so that a longer input is refused by 6.
 #![tactic(auto)]
 
-ghost use Rattle.std.specs.Prelude.{◌≡◌, ◌<◌, length, take, IfOk};
-ghost use Rattle.std.specs.Io.{ReadsAtMost};
-ghost use Rattle.std.specs.Io.KnownBytes.{Consumes, IsAtEnd};
+ghost use Rattle.std.specs.Prelude.{◌≡◌, length};
 
 use image::codec;
 use path_page;
 use std::io;
-use std::io::Read;
+use whole_input::read_full;
 
 fn input_room() -> [u8; 41025]
     ensures { 41025 ≡ length result }
@@ -22,24 +20,6 @@ fn page_room() -> [u8; 20480]
     ensures { 20480 ≡ length result }
 {
     [0u8; 20480]
-}
-
-// Reads until the room is full or the input ends, and says how many bytes there are.
-fn read_full<R: Read>(input: &mut R, room: &mut [u8]) -> io::Result<usize>
-    ensures within { ReadsAtMost result room.new }
-    ensures bytes { IfOk result
-        (λ n. Consumes (R.remaining input.old) (R.remaining input.new) (take n room.new)) }
-    ensures end { IfOk result (λ n. n < length room.old → IsAtEnd (R.remaining input.new)) }
-{
-    let mut got = 0;
-    while got < room.len() {
-        let n = input.read(&mut room[got..])?;
-        if n == 0 {
-            return Ok(got);
-        }
-        got += n;
-    }
-    Ok(got)
 }
 
 fn main(rt: HostRuntime) -> io::Result<()> {

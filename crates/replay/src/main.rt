@@ -3,9 +3,7 @@
 // At most 262,145 bytes are read: a longer input is refused by 19 as those are.
 #![tactic(auto)]
 
-ghost use Rattle.std.specs.Prelude.{◌≡◌, ◌<◌, length, take, IfOk};
-ghost use Rattle.std.specs.Io.{ReadsAtMost};
-ghost use Rattle.std.specs.Io.KnownBytes.{Consumes, IsAtEnd};
+ghost use Rattle.std.specs.Prelude.{◌≡◌, length};
 
 use image::codec;
 use image_fault;
@@ -16,7 +14,7 @@ use link_rules::refusal::Answer;
 use sheet_text::bundle;
 use sitting;
 use std::io;
-use std::io::Read;
+use whole_input::read_full;
 use yard_check::yard;
 
 // ---- room
@@ -188,24 +186,6 @@ fn play(rt: &impl Print, file: &[u8]) -> io::Result<()> {
         &mut occupancy[..links],
         &mut list[..steps],
     )
-}
-
-// Reads until the room is full or the input ends, and says how many bytes there are.
-fn read_full<R: Read>(input: &mut R, room: &mut [u8]) -> io::Result<usize>
-    ensures within { ReadsAtMost result room.new }
-    ensures bytes { IfOk result
-        (λ n. Consumes (R.remaining input.old) (R.remaining input.new) (take n room.new)) }
-    ensures end { IfOk result (λ n. n < length room.old → IsAtEnd (R.remaining input.new)) }
-{
-    let mut got = 0;
-    while got < room.len() {
-        let n = input.read(&mut room[got..])?;
-        if n == 0 {
-            return Ok(got);
-        }
-        got += n;
-    }
-    Ok(got)
 }
 
 fn main(rt: HostRuntime) -> io::Result<()> {

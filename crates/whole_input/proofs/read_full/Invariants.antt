@@ -1,7 +1,7 @@
 -- The bytes that were read stand at the front of the room, and each turn reads one at least.
 use Rattle.std.proofs.Common.{◌-◌, ◌≤◌, length, take}
 use Rattle.std.specs.Io.KnownBytes.{Consumes}
-use Rattle.answers.proofs.read_full.Given as goal
+use Rattle.whole_input.proofs.read_full.Given as goal
 
 abbrev pub invariant-loop-got : goal.invariant-loop-got
 invariant-loop-got g l = (l.got ≤ length l.room)

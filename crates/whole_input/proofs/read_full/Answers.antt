@@ -3,7 +3,7 @@ use Rattle.std.proofs.Common.{◌≡◌, ℕ, ◌+◌, ◌≤◌, List, ◌++◌
 use Rattle.std.proofs.lemmas.List.{take-append-le, places}
 use Rattle.std.specs.Io.KnownBytes.{Consumes}
 use Rattle.std.proofs.KnownBytes.{Consumes-trans}
-use Rattle.page.proofs.read_full.Goals as goal
+use Rattle.whole_input.proofs.read_full.Goals as goal
 
 taken_behind : (xs ys zs : List ℕ) (i n : ℕ) → i ≤ length xs → n ≤ length ys → take (i + n) (take i xs ++ (ys ++ zs)) ≡ take i xs ++ take n ys
 taken_behind xs ys zs i n within fits =
