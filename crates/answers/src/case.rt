@@ -124,33 +124,27 @@ pub(crate) fn no_entries() -> [u64; 8192]
 // Fills a column with the u16 numbers that begin at `first` and stand `step` bytes apart; past the bytes they are 0.
 pub(crate) fn u16s(to: &mut [u16], bytes: &[u8], first: usize, step: usize) {
     let mut at = first;
-    let mut i = 0;
-    while i < to.len() {
+    for i in 0..to.len() {
         to[i] = octets::u16_at(bytes, at);
         at = std::num::wrapping_add_usize(at, step);
-        i += 1;
     }
 }
 
 // Fills a column with u32 numbers; past the bytes they are 0.
 pub(crate) fn u32s(to: &mut [u32], bytes: &[u8]) {
     let mut at: usize = 0;
-    let mut i = 0;
-    while i < to.len() {
+    for i in 0..to.len() {
         to[i] = octets::u32_at(bytes, at);
         at = std::num::wrapping_add_usize(at, 4);
-        i += 1;
     }
 }
 
 // Fills a column with u64 numbers; past the bytes they are 0.
 pub(crate) fn u64s(to: &mut [u64], bytes: &[u8]) {
     let mut at: usize = 0;
-    let mut i = 0;
-    while i < to.len() {
+    for i in 0..to.len() {
         to[i] = octets::u64_at(bytes, at);
         at = std::num::wrapping_add_usize(at, 8);
-        i += 1;
     }
 }
 

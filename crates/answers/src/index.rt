@@ -25,15 +25,15 @@ fn answer_in(
     if sums {
         return print_sum(rt, f, index);
     }
-    if f.number == 0 {
-        return print_index(rt, index);
+    if let Err(r) = f {
+        print::refused(rt, r)?;
+        return print::end(rt);
     }
-    print::refused(rt, f)?;
-    print::end(rt)
+    print_index(rt, index)
 }
 
-fn print_sum(rt: &impl Print, f: Refusal, index: &[u64]) -> io::Result<()> {
-    print::fault(rt, f)?;
+fn print_sum(rt: &impl Print, f: Result<(), Refusal>, index: &[u64]) -> io::Result<()> {
+    print::answer(rt, f)?;
     print::number_line(rt, " index ", print::sum_of_u64s(index))
 }
 
@@ -45,14 +45,7 @@ fn print_index(rt: &impl Print, index: &[u64]) -> io::Result<()> {
 }
 
 fn is_empty(index: &[u64]) -> bool {
-    let mut i = 0;
-    while i < index.len() {
-        if index[i] != 0 {
-            return false;
-        }
-        i += 1;
-    }
-    true
+    index.iter().all(|entry| *entry == 0)
 }
 
 fn print_links(rt: &impl Print, index: &[u64]) -> io::Result<()> {

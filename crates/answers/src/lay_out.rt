@@ -5,7 +5,7 @@ use conversion;
 use disp_structs::{Metres, floats};
 use link_rules::link_idx::NarrowTrainIdx;
 use link_rules::octets;
-use link_rules::refusal::{Answer, Refusal};
+use link_rules::refusal::Refusal;
 use std::io;
 use train_disp::Settings;
 
@@ -34,15 +34,14 @@ fn answer_in(
     )
 }
 
-// What refuses the call; number 0 where it is done.
-fn written(head: &[u8], from: &[u8], image: &mut [u8]) -> Refusal {
+fn written(head: &[u8], from: &[u8], image: &mut [u8]) -> Result<(), Refusal> {
     if case::operation(head) == case::WIDEN {
         return conversion::widen(from, image);
     }
     if case::operation(head) == case::NARROW {
         return conversion::narrow(from, image);
     }
-    laid_out(head, from, image)
+    train_disp::lay_out(from, settings_of(head), image)
 }
 
 pub(crate) fn settings_of(head: &[u8]) -> Settings {
@@ -55,18 +54,13 @@ pub(crate) fn settings_of(head: &[u8]) -> Settings {
     }
 }
 
-fn laid_out(head: &[u8], ests: &[u8], image: &mut [u8]) -> Refusal {
-    match train_disp::lay_out(ests, settings_of(head), image) {
-        Answer::Done => Refusal {
-            number: 0,
-            place: 0,
-        },
-        Answer::Refused(r) => r,
-    }
-}
-
-fn print_written(rt: &impl Print, f: Refusal, image: &[u8], sums: bool) -> io::Result<()> {
-    print::fault(rt, f)?;
+fn print_written(
+    rt: &impl Print,
+    f: Result<(), Refusal>,
+    image: &[u8],
+    sums: bool,
+) -> io::Result<()> {
+    print::answer(rt, f)?;
     if sums {
         return print::sum_line(rt, " image ", image);
     }

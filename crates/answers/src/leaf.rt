@@ -4,6 +4,7 @@ ghost use Rattle.std.specs.Prelude.{◌≡◌, length};
 
 use crate::{case, print};
 use disp_structs::{DispNode, EstIdx, EstType, LinkEvent, Metres, Seconds, TrainIdxsView, floats};
+use free_path::halt::Halt;
 use free_path::link_opt_type::LinkOptType;
 use free_path::train_idxs_view::Union;
 use free_path::{columns, link_opt_type, train_idxs_view};
@@ -59,6 +60,14 @@ fn print_numbers(rt: &impl Print, x: u32, y: usize, z: usize) -> io::Result<()> 
 fn print_line(rt: &impl Print, x: u32, y: usize, z: usize) -> io::Result<()> {
     print_numbers(rt, x, y, z)?;
     print::end(rt)
+}
+
+// The number of a refusal within an update.
+fn number_of(h: Halt) -> u32 {
+    match h {
+        Halt::NoRoom => 11,
+        Halt::Panic => 13,
+    }
 }
 
 fn print_flag(rt: &impl Print, flag: bool) -> io::Result<()> {
@@ -154,7 +163,10 @@ fn answer_sentinels(rt: &impl Print, head: &[u8], body: &[u8]) -> io::Result<()>
     let i = case::argument(head, 0) as usize;
     let moved = TrainIdx(case::argument(head, 1) % 65536);
     let r = link_opt_type::calc_idx_sentinels(i, moved, &trains, &nodes, divs.len() / 4);
-    print_line(rt, r.code, r.node, r.divs)
+    match r {
+        Ok(s) => print_line(rt, 0, s.node, s.divs),
+        Err(h) => print_line(rt, number_of(h), 0, 0),
+    }
 }
 
 // ---- intersection
@@ -182,7 +194,10 @@ fn answer_intersection(rt: &impl Print, head: &[u8], body: &[u8]) -> io::Result<
     let sentinel = case::argument(head, 1) as usize;
     let n = links.len() / 4;
     let r = link_opt_type::find_train_intersect(split, sentinel, class_in(head), &path, n, &occ);
-    print_line(rt, r.code, r.idx, r.met.0 as usize)
+    match r {
+        Ok(x) => print_line(rt, 0, x.idx, x.met.0 as usize),
+        Err(h) => print_line(rt, number_of(h), 0, 0),
+    }
 }
 
 // ---- union
@@ -221,21 +236,28 @@ fn answer_union_in(
 
 // The low 16 bits of each number.
 fn narrowed(to: &mut [u16], from: &[u32]) {
-    let mut i = 0;
-    while i < to.len() {
-        to[i] = (columns::u32_of(from, i) % 65536) as u16;
-        i += 1;
+    for (to, from) in to.iter_mut().zip(from) {
+        *to = (*from % 65536) as u16;
     }
 }
 
 // Of a refused union the pool is of no account.
-fn print_union(rt: &impl Print, pool: &[u16], r: Union, sums: bool) -> io::Result<()> {
-    if r.code != 0 {
-        return print_line(rt, r.code, 0, 0);
+fn print_union(
+    rt: &impl Print,
+    pool: &[u16],
+    r: Result<Union, Halt>,
+    sums: bool,
+) -> io::Result<()> {
+    match r {
+        Ok(u) => print_made(rt, pool, u, sums),
+        Err(h) => print_line(rt, number_of(h), 0, 0),
     }
-    print_numbers(rt, 0, r.view.idx_begin as usize, r.view.idx_end as usize)?;
+}
+
+fn print_made(rt: &impl Print, pool: &[u16], u: Union, sums: bool) -> io::Result<()> {
+    print_numbers(rt, 0, u.view.idx_begin as usize, u.view.idx_end as usize)?;
     if sums {
-        return print::number_line(rt, " pool ", print::sum_of_u16s(pool, r.len));
+        return print::number_line(rt, " pool ", print::sum_of_u16s(pool, u.len));
     }
     print::end(rt)
 }

@@ -1,7 +1,6 @@
 // A lesson game of closer and dispatcher. Arguments: moved, local, limit, turns.
 use crate::{case, print};
 use game;
-use game::Verdict;
 use link_rules::link_idx::TrainIdx;
 use link_rules::refusal::Refusal;
 use std::io;
@@ -44,15 +43,12 @@ fn answer_with(
     )
 }
 
-fn print_verdict(rt: &impl Print, v: Verdict) -> io::Result<()> {
-    let f = v.fault;
-    if f.number != 0 {
-        return print_refused(rt, f);
+fn print_verdict(rt: &impl Print, v: Result<bool, Refusal>) -> io::Result<()> {
+    match v {
+        Ok(true) => print::line(rt, "closer can force it yes"),
+        Ok(false) => print::line(rt, "closer can force it no"),
+        Err(f) => print_refused(rt, f),
     }
-    if v.can_force {
-        return print::line(rt, "closer can force it yes");
-    }
-    print::line(rt, "closer can force it no")
 }
 
 fn print_refused(rt: &impl Print, f: Refusal) -> io::Result<()> {

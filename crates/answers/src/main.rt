@@ -24,7 +24,7 @@ mod update;
 mod view;
 
 use ceiling;
-use ceiling::StepCeiling;
+use link_rules::refusal::Refusal;
 use std::env::Args;
 use std::fs::File;
 use std::io::Read;
@@ -276,7 +276,7 @@ fn checks(operation: u32) -> bool {
 // The training track profile, of which nothing is left but its answer.
 fn answer_profile(rt: &impl Print, head: &[u8], body: &[u8]) -> io::Result<()> {
     let f = track_profile::profile_fault(case::first_input(head, body));
-    print::fault(rt, f)?;
+    print::answer(rt, f)?;
     print::end(rt)
 }
 
@@ -289,11 +289,12 @@ fn answer_yard_ceiling(rt: &impl Print, head: &[u8], body: &[u8]) -> io::Result<
     )
 }
 
-fn print_ceiling(rt: &impl Print, c: StepCeiling) -> io::Result<()> {
-    let f = c.fault;
-    if f.number == 0 {
-        return print::number_line(rt, "ceiling ", c.steps);
+fn print_ceiling(rt: &impl Print, c: Result<u64, Refusal>) -> io::Result<()> {
+    match c {
+        Ok(steps) => print::number_line(rt, "ceiling ", steps),
+        Err(f) => {
+            print::refused(rt, f)?;
+            print::end(rt)
+        }
     }
-    print::refused(rt, f)?;
-    print::end(rt)
 }

@@ -2,7 +2,7 @@
 use crate::{case, print};
 use link_rules::advance_rewind;
 use link_rules::link_idx::{LinkIdx, NarrowTrainIdx, TrainIdx};
-use link_rules::refusal::{Answer, Refusal};
+use link_rules::refusal::Refusal;
 use std::io;
 use wide_occupancy;
 
@@ -67,14 +67,14 @@ fn answer_wide_in(
 // The occupancy after a call that is done is printed.
 pub(crate) fn print_marked(
     rt: &impl Print,
-    answer: Answer,
+    answer: Result<(), Refusal>,
     narrow: &[u16],
     wide: &[u32],
     sums: bool,
 ) -> io::Result<()> {
     match answer {
-        Answer::Done => print_done(rt, narrow, wide, sums),
-        Answer::Refused(r) => print_refused(rt, r, narrow, wide, sums),
+        Ok(()) => print_done(rt, narrow, wide, sums),
+        Err(r) => print_refused(rt, r, narrow, wide, sums),
     }
 }
 

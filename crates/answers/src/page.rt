@@ -28,15 +28,15 @@ fn answer_in(
     if sums {
         return print_sum(rt, f, page);
     }
-    if f.number == 0 {
-        return print_lines(rt, image, page);
+    if let Err(r) = f {
+        print::refused(rt, r)?;
+        return print::end(rt);
     }
-    print::refused(rt, f)?;
-    print::end(rt)
+    print_lines(rt, image, page)
 }
 
-fn print_sum(rt: &impl Print, f: Refusal, page: &[u8]) -> io::Result<()> {
-    print::fault(rt, f)?;
+fn print_sum(rt: &impl Print, f: Result<(), Refusal>, page: &[u8]) -> io::Result<()> {
+    print::answer(rt, f)?;
     print::sum_line(rt, " page ", page)
 }
 

@@ -1,7 +1,7 @@
 // Answers on standard output. As soon as something cannot be written, no more is.
 ghost use Rattle.std.specs.Prelude.{◌<◌};
 
-use link_rules::refusal::{Answer, Refusal};
+use link_rules::refusal::Refusal;
 use std::io;
 
 pub(crate) fn bytes(rt: &impl Print, bytes: &[u8]) -> io::Result<()> {
@@ -35,18 +35,10 @@ pub(crate) fn refused(rt: &impl Print, f: Refusal) -> io::Result<()> {
     number(rt, " at ", f.place as u64)
 }
 
-// Done where the number is 0.
-pub(crate) fn fault(rt: &impl Print, f: Refusal) -> io::Result<()> {
-    if f.number == 0 {
-        return rt.print("done");
-    }
-    refused(rt, f)
-}
-
-pub(crate) fn answer(rt: &impl Print, answer: Answer) -> io::Result<()> {
+pub(crate) fn answer(rt: &impl Print, answer: Result<(), Refusal>) -> io::Result<()> {
     match answer {
-        Answer::Done => rt.print("done"),
-        Answer::Refused(r) => refused(rt, r),
+        Ok(()) => rt.print("done"),
+        Err(r) => refused(rt, r),
     }
 }
 
@@ -61,10 +53,8 @@ pub(crate) fn with(sum: u64, byte: u8) -> u64
 
 pub(crate) fn sum_of(bytes: &[u8]) -> u64 {
     let mut sum: u64 = 1;
-    let mut i = 0;
-    while i < bytes.len() {
-        sum = with(sum, bytes[i]);
-        i += 1;
+    for byte in bytes {
+        sum = with(sum, *byte);
     }
     sum
 }
@@ -72,14 +62,12 @@ pub(crate) fn sum_of(bytes: &[u8]) -> u64 {
 // Of the bytes of numbers of 16 bits, the lower one first.
 pub(crate) fn sum_of_u16s(col: &[u16], n: usize) -> u64 {
     let mut sum: u64 = 1;
-    let mut i = 0;
-    while i < n {
+    for i in 0..n {
         if col.len() <= i {
             return sum;
         }
         let low = with(sum, (col[i] % 256) as u8);
         sum = with(low, (col[i] / 256 % 256) as u8);
-        i += 1;
     }
     sum
 }
@@ -87,10 +75,8 @@ pub(crate) fn sum_of_u16s(col: &[u16], n: usize) -> u64 {
 // Of the bytes of numbers of 32 bits.
 pub(crate) fn sum_of_u32s(col: &[u32]) -> u64 {
     let mut sum: u64 = 1;
-    let mut i = 0;
-    while i < col.len() {
-        sum = with_u32(sum, col[i]);
-        i += 1;
+    for n in col {
+        sum = with_u32(sum, *n);
     }
     sum
 }
@@ -108,11 +94,9 @@ fn with_u32(sum: u64, n: u32) -> u64
 // Of the bytes of numbers of 64 bits.
 pub(crate) fn sum_of_u64s(col: &[u64]) -> u64 {
     let mut sum: u64 = 1;
-    let mut i = 0;
-    while i < col.len() {
-        let low = with_u32(sum, (col[i] % 4294967296) as u32);
-        sum = with_u32(low, (col[i] / 4294967296 % 4294967296) as u32);
-        i += 1;
+    for n in col {
+        let low = with_u32(sum, (*n % 4294967296) as u32);
+        sum = with_u32(low, (*n / 4294967296 % 4294967296) as u32);
     }
     sum
 }

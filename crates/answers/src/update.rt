@@ -204,5 +204,5 @@ fn print_image_fault(rt: &impl Print, head: &[u8], body: &[u8]) -> io::Result<()
     }
     let f = image_fault::image_fault(case::first_input(head, body), links as u32);
     rt.print(" by itself ")?;
-    print::fault(rt, f)
+    print::answer(rt, f)
 }

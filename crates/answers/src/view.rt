@@ -1,8 +1,8 @@
 // A candidate's view of a node. Arguments: slot, node.
 use crate::{case, print};
 use candidate;
-use candidate::Viewed;
 use link_rules::octets;
+use link_rules::refusal::Refusal;
 use std::io;
 
 pub(crate) fn answer(rt: &impl Print, head: &[u8], body: &[u8], sums: bool) -> io::Result<()> {
@@ -54,16 +54,16 @@ fn answer_in(
     print_view(rt, v, record)
 }
 
-fn print_sum(rt: &impl Print, v: Viewed, record: &[u8]) -> io::Result<()> {
+fn print_sum(rt: &impl Print, v: Result<bool, Refusal>, record: &[u8]) -> io::Result<()> {
     print_answer(rt, v)?;
     print::sum_line(rt, " record ", record)
 }
 
-fn print_answer(rt: &impl Print, v: Viewed) -> io::Result<()> {
-    if v.fault.number == 0 {
-        return print_taken(rt, v.taken);
+fn print_answer(rt: &impl Print, v: Result<bool, Refusal>) -> io::Result<()> {
+    match v {
+        Ok(taken) => print_taken(rt, taken),
+        Err(f) => print::refused(rt, f),
     }
-    print::refused(rt, v.fault)
 }
 
 fn print_taken(rt: &impl Print, taken: bool) -> io::Result<()> {
@@ -74,8 +74,8 @@ fn print_taken(rt: &impl Print, taken: bool) -> io::Result<()> {
 }
 
 // Of the record its type, its link and its est record.
-fn print_view(rt: &impl Print, v: Viewed, record: &[u8]) -> io::Result<()> {
-    if v.fault.number == 0 {
+fn print_view(rt: &impl Print, v: Result<bool, Refusal>, record: &[u8]) -> io::Result<()> {
+    if v.is_ok() {
         print_node(rt, record)?;
     }
     print_answer(rt, v)?;

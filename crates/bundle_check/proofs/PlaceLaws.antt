@@ -9,7 +9,7 @@ use lib.Seq.{take_all}
 use borrow.Rule.Slice.PartMut.{mid_of, post_of, put_mid}
 use Rattle.link_rules.specs.Octets.{le_at}
 use Rattle.link_rules.specs.Refusals.{refused}
-use Rattle.yard_check.specs.Check.{row_size, Answer, Checked, Refused}
+use Rattle.yard_check.specs.Check.{row_size, Checked, Refused}
 use Rattle.yard_check.specs.Checks.{checked_of}
 use Rattle.yard_check.specs.declared.check.Answer as Code
 use Rattle.yard_check.specs.Yard.{yard_fits}

@@ -96,11 +96,8 @@ fn check_fitting(bundle: &mut [u8], report: &mut [u8]) -> Answer
 pub fn check_bundle(bundle: &mut [u8], report: &mut [u8]) -> Answer
     ensures { bundle_of result bundle.new report.new ≡ bundle_checked bundle.old report.old }
 {
-    if bundle::bundle_fits(bundle) {
-        return check_fitting(bundle, report);
+    if !bundle::bundle_fits(bundle) {
+        return Answer::Refused(Refusal::new(17));
     }
-    Answer::Refused(Refusal {
-        number: 17,
-        place: 0,
-    })
+    check_fitting(bundle, report)
 }

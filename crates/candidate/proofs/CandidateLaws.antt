@@ -2,30 +2,32 @@
 use mathlib.Core.Path.{◌≡◌, refl, sym, ap, ◌∙◌, subst}
 use mathlib.Core.Bool.{Bool, true, false, cond, not, ◌||◌}
 use mathlib.Core.List.{List, []}
-use Prim.Native.Nat.{ℕ, zero, suc, ◌+◌, ◌-◌, min, ◌≤◌, ◌<◌}
+use Prim.Native.Nat.{ℕ, zero, suc, ◌+◌, ◌-◌, min, max, ◌≤◌, ◌<◌}
 use native.Mathlib.Omega.{arith}
 use native.Mathlib.Numerals.{add-one}
-use lib.Dec.{ltb, eqb, lit<}
+use lib.Dec.{ltb, leb, eqb, lit<}
 use lib.ListN.{length, get_or, take, drop, length-drop, drop_of_length-le}
 use lib.Seq.{take_all, take-nil}
-use borrow.Author.Tests.{ltb-true, ltb-false, eqb-true, eqb-false, eq-eqb, ne_eqb}
+use borrow.Author.Tests.{ltb-true, ltb-false, eqb-true, eqb-false, eq-eqb}
 use Rattle.link_rules.specs.LinkIdx.{no_train, occupied}
-use Rattle.link_rules.specs.Network.{link_count}
+use Rattle.link_rules.specs.Network.{link_count, table_fits}
 use Rattle.link_rules.specs.declared.link_idx.LinkIdx.{LinkIdx}
 use Rattle.link_rules.specs.declared.refusal.Refusal.{Refusal}
-use Rattle.link_rules.specs.Refusals.{no_refusal, or_else, refused_unless}
-use Rattle.link_rules.specs.AdvanceRewind.{table_fault, entries_fault}
+use Rattle.link_rules.specs.Refusals.{no_refusal, refused, or_else, refused_unless, Refused, raised}
+use Rattle.link_rules.specs.AdvanceRewind.{table_fault, entries_fault, marked, marked_by}
+use Rattle.link_rules.proofs.RefusalLaws.{some_raised, unless_place, chain_place}
+use Rattle.link_rules.proofs.MarkLaws.{refused_by}
 use Rattle.link_rules.specs.Octets.{le_at}
 use Rattle.disp_structs.specs.Values.{is_arrive}
 use Rattle.disp_structs.specs.declared.LinkEvent.{LinkEvent}
-use Rattle.image.specs.Image.{path_count_of, node_at}
+use Rattle.image.specs.Image.{node_at}
 use Rattle.image_fault.specs.ImageFault.{counts_fit, image_fits, arrives_on, arrived, fault_with, is_accepted}
 use Rattle.image_fault.specs.declared.Widths.TheVariants.{Either}
 use Rattle.image_fault.proofs.AcceptLaws.{or_else_clean, refused_clean, accepted_in}
-use Rattle.wide_occupancy.specs.WideOccupancy.{six_digits, large_train_fault}
-use Rattle.yard_check.specs.Yard.{slot_count, image_in, yard_fault}
+use Rattle.wide_occupancy.specs.WideOccupancy.{largest, six_digits, large_train_fault}
+use Rattle.yard_check.specs.Yard.{slot_count, image_in, yard_fits, yard_fault}
 use Rattle.yard_check.proofs.YardLaws.{image-low, image-high}
-use Rattle.candidate.specs.Candidate.{is_arrive_link, sitting_fault, view_fault, act_refusal, shown, link_taken, View, seen, seen_by, view_of}
+use Rattle.candidate.specs.Candidate.{is_arrive_link, candidate_fault, sitting_fault, view_fault, act_fault, act_refusal, shown, link_taken, View, seen, seen_by, view_of}
 
 -- ---- the candidate's image
 
@@ -149,19 +151,29 @@ module _ (tbl occ yard : List ℕ) (slot : ℕ) where
   unfolding act_refusal
   act_slot l h = sitting_slot (or_else_clean (sitting_fault tbl occ yard slot) _ h).0
 
-module _ (tbl occ yard : List ℕ) (slot : ℕ) (l : LinkIdx) (f : Refusal) (e : f ≡ sitting_fault tbl occ yard slot) where
-  abbrev number : Refusal → Bool → ℕ
-  number g b = (or_else g (refused_unless b 27)).number
+-- all refusals have place 0
+sitting_place : (tbl occ yard : List ℕ) (slot : ℕ) → (sitting_fault tbl occ yard slot).place ≡ 0
+unfolding sitting_fault
+sitting_place tbl occ yard slot =
+    let e = candidate_fault tbl yard slot in
+    let d = or_else (yard_fault yard) e in
+    let c = or_else (large_train_fault six_digits occ no_train) d in
+    let b = or_else (entries_fault tbl (length occ)) c in
+    chain_place (table_fits tbl) 1 b (chain_place (eqb (length occ) (link_count tbl)) 2 c (chain_place (leb (max no_train.0 (largest occ)) six_digits) 22 d
+    (chain_place (yard_fits yard) 14 e (unless_place (is_accepted (image_in yard slot) (link_count tbl)) 26))))
 
-  pub act_refused : (f.number ≡ 0 → ⊥) → f.number ≡ act_refusal tbl occ yard slot l
-  unfolding act_refusal
-  act_refused h =
-      ap (λ (b : Bool). (cond b (refused_unless (is_arrive_link (image_in yard slot) l) 27) f).number) (sym (ne_eqb f.number 0 h))
-      ∙ ap (λ (g : Refusal). number g (is_arrive_link (image_in yard slot) l)) e
+act_place : (tbl occ yard : List ℕ) (slot : ℕ) (l : LinkIdx) → (act_fault tbl occ yard slot l).place ≡ 0
+act_place tbl occ yard slot l = go (eqb (sitting_fault tbl occ yard slot).number 0)
+  where
+    go : (b : Bool) → (cond b (refused_unless (is_arrive_link (image_in yard slot) l) 27) (sitting_fault tbl occ yard slot)).place ≡ 0
+    go true = unless_place (is_arrive_link (image_in yard slot) l) 27
+    go false = sitting_place tbl occ yard slot
 
-  pub act_by : (b : Bool) (img : List ℕ) → f.number ≡ 0 → img ≡ image_in yard slot → arrived img l (path_count_of img) ≡ b → (refused_unless b 27).number ≡ act_refusal tbl occ yard slot l
-  unfolding act_refusal is_arrive_link
-  act_by b img h i a =
-      ap (λ (u : Bool). (cond u (refused_unless b 27) f).number) (sym (eq-eqb f.number 0 h))
-      ∙ ap (number f) (sym a ∙ ap (λ (x : List ℕ). arrived x l (path_count_of x)) i)
-      ∙ ap (λ (g : Refusal). number g (is_arrive_link (image_in yard slot) l)) e
+pub act-refused : (tbl occ yard : List ℕ) (slot : ℕ) (l : LinkIdx) (f : Refusal) (left : List ℕ) → raised (act_fault tbl occ yard slot l) ≡ Refused f
+    → marked (Refused f) occ ≡ marked_by (act_refusal tbl occ yard slot l) occ left
+unfolding act_refusal
+act-refused tbl occ yard slot l f left e =
+    let g = act_fault tbl occ yard slot l in
+    let h = some_raised g f e in
+    ap (λ (r : Refusal). marked (Refused r) occ) (sym h.0 ∙ ap (λ (p : ℕ). refused g.number p) (act_place tbl occ yard slot l))
+    ∙ sym (refused_by g.number occ left h.1)

@@ -8,7 +8,7 @@ use native.Mathlib.Omega.{arith}
 use Rattle.link_rules.specs.LinkIdx.{occupied}
 use Rattle.link_rules.specs.Network.{lockouts, header_fits, record_fits, lockout_fits, table_fits}
 use Rattle.link_rules.specs.AdvanceRewind.{hold_all, refilled, reset_link_train_idx, reset_all, update_links_blocked, marked}
-use Rattle.link_rules.specs.declared.refusal.Answer.TheVariants.{Done}
+use Rattle.link_rules.specs.Refusals.{Done}
 use Rattle.text.specs.Text.{written}
 use Rattle.wide_occupancy.specs.WideOccupancy.{largest}
 use Rattle.yard_check.proofs.Siding.{words, everything}

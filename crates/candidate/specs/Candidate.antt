@@ -1,8 +1,8 @@
 -- Examiner and candidate (change request Q-11): what a candidate sees of the path of their train and of the occupancy, what they may mark or release, and refusals 26 and 27. Assumes nothing.
-use Rattle.std.specs.Prelude.{ℕ, zero, suc, Bool, false, cond, ◌&&◌, List, ltb, length, take, drop}
+use Rattle.std.specs.Prelude.{◌≡◌, ℕ, zero, suc, Bool, false, cond, ◌&&◌, List, Result, ltb, length, take, drop}
 use Rattle.link_rules.specs.LinkIdx.{no_train, occupied}
 use Rattle.link_rules.specs.Network.{link_count}
-use Rattle.link_rules.specs.Refusals.{or_else, refused_unless}
+use Rattle.link_rules.specs.Refusals.{or_else, refused_unless, raised_with}
 use Rattle.link_rules.specs.AdvanceRewind.{update_links_blocked, table_fault, entries_fault, Marked, marked_by}
 use Rattle.link_rules.specs.declared.link_idx.LinkIdx.{LinkIdx}
 use Rattle.link_rules.specs.declared.link_idx.TrainIdx.{TrainIdx}
@@ -14,7 +14,6 @@ use Rattle.image_fault.specs.ImageFault.{arrived, is_accepted}
 use Rattle.text.specs.Text.{written}
 use Rattle.wide_occupancy.specs.WideOccupancy.{six_digits, large_train_fault}
 use Rattle.yard_check.specs.Yard.{image_in, yard_fault}
-use Rattle.candidate.specs.declared.Viewed.{Viewed}
 
 -- ---- the candidate's image: the one in their slot
 
@@ -42,8 +41,11 @@ unfoldable pub view_fault : (tbl occ yard : List ℕ) (slot node : ℕ) → Refu
 view_fault tbl occ yard slot node = or_else (sitting_fault tbl occ yard slot) (refused_unless (ltb node (path_count_of (image_in yard slot))) 27)
 
 -- 27: a link that is no Arrive link of the path
+abbrev pub act_fault : (tbl occ yard : List ℕ) (slot : ℕ) (l : LinkIdx) → Refusal
+act_fault tbl occ yard slot l = or_else (sitting_fault tbl occ yard slot) (refused_unless (is_arrive_link (image_in yard slot) l) 27)
+
 unfoldable pub act_refusal : (tbl occ yard : List ℕ) (slot : ℕ) (l : LinkIdx) → ℕ
-act_refusal tbl occ yard slot l = (or_else (sitting_fault tbl occ yard slot) (refused_unless (is_arrive_link (image_in yard slot) l) 27)).number
+act_refusal tbl occ yard slot l = (act_fault tbl occ yard slot l).number
 
 -- ---- view: a path record, and whether its link is taken
 
@@ -58,6 +60,11 @@ shown img i buffer = (written (node_bytes img i) buffer).buffer
 -- an Arrive on a link that some train holds, the candidate's own too
 unfoldable pub link_taken : (occ : List ℕ) (e : LinkEvent) → Bool
 link_taken occ e = is_arrive e.est_type && occupied occ e.link_idx
+
+-- refused, or a refusal 0 and whether the record's link is taken
+pub record Viewed : Type 0 where
+  pub fault : Refusal
+  pub taken : Bool
 
 -- the answer, and the bytes that are left
 pub record View : Type 0 where
@@ -77,6 +84,10 @@ view_of tbl occ yard slot node buffer =
     let img = image_in yard slot in
     let f = view_fault tbl occ yard slot node in
     seen_by f.number f (link_taken occ (node_at img node).link_event) buffer (shown img node buffer)
+
+-- what the code's answer and the bytes that it leaves are
+abbrev pub seen_as : View → Result Bool Refusal → List ℕ → Type 0
+seen_as v r bs = (r ≡ raised_with v.answer.fault v.answer.taken) × (bs ≡ v.bytes)
 
 -- ---- act: a mark for the slot's own train, or a release of whoever holds the link
 

@@ -3,7 +3,7 @@ use Rattle.std.specs.Prelude.{ℕ, ◌≤◌, ◌≡◌, Bool, true, List, [], �
 use Rattle.link_rules.specs.LinkIdx.{occupied}
 use Rattle.link_rules.specs.Network.{link_count, table_fits}
 use Rattle.link_rules.specs.declared.link_idx.LinkIdx.{LinkIdx}
-use Rattle.link_rules.specs.declared.refusal.Answer.{Answer}
+use Rattle.link_rules.specs.Refusals.{Answer}
 use Rattle.wide_occupancy.specs.WideOccupancy.{largest, six_digits}
 use Rattle.yard_check.specs.Yard.{yard_fits, image_in}
 use Rattle.candidate.specs.Candidate.{is_arrive_link, View, view_of, act_of}

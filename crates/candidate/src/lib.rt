@@ -4,30 +4,25 @@
 #![tactic(auto)]
 
 ghost use Rattle.std.specs.Prelude.{◌≡◌, ◌||◌, min};
+ghost use Rattle.link_rules.specs.Refusals.{raised};
 ghost use Rattle.link_rules.specs.AdvanceRewind.{marked};
 ghost use Rattle.image.specs.Image.{path_count_of, node_at};
 ghost use Rattle.image_fault.specs.ImageFault.{arrives_on, arrived};
 ghost use Rattle.yard_check.specs.Yard.{image_in};
-ghost use Rattle.candidate.specs.Candidate.{node_bytes, sitting_fault, view_fault, act_refusal, link_taken, shown, seen, view_of, train_given, act_of};
+ghost use Rattle.candidate.specs.Candidate.{node_bytes, sitting_fault, view_fault, act_fault, link_taken, shown, seen_as, view_of, train_given, act_of};
 
 use disp_structs::{LinkEvent, events};
 use image::codec;
 use image_fault;
 use link_rules::link_idx::{LinkIdx, TrainIdx};
-use link_rules::refusal::{Answer, Refusal};
-use link_rules::{network, refusal};
+use link_rules::network;
+use link_rules::refusal::{Refusal, refuse_unless};
 use text;
 use wide_occupancy::{advance_rewind, trains};
 use yard_check::yard;
 
-// Refused, or number 0 and whether the record's link is taken.
-#[derive(Clone, Copy)]
-pub struct Viewed {
-    pub fault: Refusal,
-    pub taken: bool,
-}
-
-// Shows the path record of a node, as many of its 32 bytes as `buffer` has room for. Refused by 1, 2, 22, 14, 26, 27: then `buffer` stays.
+// Shows the path record of a node, as many of its 32 bytes as `buffer` has room for, and tells whether its link is taken. Refused by 1, 2, 22, 14, 26, 27: then
+// `buffer` stays.
 pub fn view(
     table: &[u8],
     occupancy: &[u32],
@@ -35,21 +30,13 @@ pub fn view(
     slot: u16,
     node: u32,
     buffer: &mut [u8],
-) -> Viewed
-    ensures { seen result buffer.new ≡ view_of table.now occupancy.now yard.now slot node buffer.old }
+) -> Result<bool, Refusal>
+    ensures { seen_as (view_of table.now occupancy.now yard.now slot node buffer.old) result buffer.new }
 {
-    let fault = view_fault(table, occupancy, yard, slot, node);
-    if fault.number != 0 {
-        return Viewed {
-            fault: fault,
-            taken: false,
-        };
-    }
-    show(candidate_image(yard, slot), node, buffer);
-    Viewed {
-        fault: fault,
-        taken: node_taken(occupancy, candidate_image(yard, slot), node),
-    }
+    view_fault(table, occupancy, yard, slot, node)?;
+    let image = candidate_image(yard, slot);
+    show(image, node, buffer);
+    Ok(node_taken(occupancy, image, node))
 }
 
 // Marks a link for the train of the slot, or releases it whoever holds it. Refused by 1, 2, 22, 14, 26, 27: then nothing is changed.
@@ -60,60 +47,57 @@ pub fn act(
     slot: u16,
     link: LinkIdx,
     marks: bool,
-) -> Answer
+) -> Result<(), Refusal>
     ensures { marked result occupancy.new ≡ act_of table.now occupancy.old yard.now slot link marks }
 {
-    let number = act_refusal(table, occupancy, yard, slot, link);
-    if number != 0 {
-        return Answer::Refused(Refusal {
-            number: number,
-            place: 0,
-        });
-    }
+    act_fault(table, occupancy, yard, slot, link)?;
     advance_rewind::update_links_blocked(table, occupancy, link, train_of(slot, marks));
-    Answer::Done
+    Ok(())
 }
 
 // ---- refusals
 
 // 1, 2, 22, 14, 26.
-fn sitting_fault(table: &[u8], occupancy: &[u32], yard: &[u8], slot: u16) -> Refusal
-    ensures { result ≡ sitting_fault table.now occupancy.now yard.now slot }
+fn sitting_fault(table: &[u8], occupancy: &[u32], yard: &[u8], slot: u16) -> Result<(), Refusal>
+    ensures { result ≡ raised (sitting_fault table.now occupancy.now yard.now slot) }
 {
     let links = network::link_count(table);
-    let bad_table = refusal::refused_unless(network::table_fits(table), 1);
-    let bad_length = refusal::refused_unless(occupancy.len() == links as usize, 2);
-    let bad_train = trains::large_train_fault(occupancy, TrainIdx(0), 999999);
-    let bad_yard = refusal::refused_unless(yard::yard_fits(yard), 14);
-    let bad_slot = refusal::refused_unless(
+    refuse_unless(network::table_fits(table), 1)?;
+    refuse_unless(occupancy.len() == links as usize, 2)?;
+    trains::large_train_fault(occupancy, TrainIdx(0), 999999)?;
+    refuse_unless(yard::yard_fits(yard), 14)?;
+    refuse_unless(
         image_fault::is_accepted(candidate_image(yard, slot), links),
         26,
-    );
-    let late = refusal::or_else(bad_train, refusal::or_else(bad_yard, bad_slot));
-    refusal::or_else(bad_table, refusal::or_else(bad_length, late))
+    )
 }
 
 // Then 27: a node beyond the path.
-fn view_fault(table: &[u8], occupancy: &[u32], yard: &[u8], slot: u16, node: u32) -> Refusal
-    ensures { result ≡ view_fault table.now occupancy.now yard.now slot node }
+fn view_fault(
+    table: &[u8],
+    occupancy: &[u32],
+    yard: &[u8],
+    slot: u16,
+    node: u32,
+) -> Result<(), Refusal>
+    ensures { result ≡ raised (view_fault table.now occupancy.now yard.now slot node) }
 {
-    let fault = sitting_fault(table, occupancy, yard, slot);
-    let on_path = node < codec::path_count(candidate_image(yard, slot));
-    refusal::or_else(fault, refusal::refused_unless(on_path, 27))
+    sitting_fault(table, occupancy, yard, slot)?;
+    refuse_unless(node < codec::path_count(candidate_image(yard, slot)), 27)
 }
 
 // Then 27: a link that is none of the path's Arrive links. A refused image's path is not walked.
-fn act_refusal(table: &[u8], occupancy: &[u32], yard: &[u8], slot: u16, link: LinkIdx) -> u16
-    ensures { result ≡ act_refusal table.now occupancy.now yard.now slot link }
+fn act_fault(
+    table: &[u8],
+    occupancy: &[u32],
+    yard: &[u8],
+    slot: u16,
+    link: LinkIdx,
+) -> Result<(), Refusal>
+    ensures { result ≡ raised (act_fault table.now occupancy.now yard.now slot link) }
 {
-    let fault = sitting_fault(table, occupancy, yard, slot);
-    if fault.number != 0 {
-        return fault.number;
-    }
-    if arrives(candidate_image(yard, slot), link) {
-        return 0;
-    }
-    27
+    sitting_fault(table, occupancy, yard, slot)?;
+    refuse_unless(arrives(candidate_image(yard, slot), link), 27)
 }
 
 // ---- the candidate's image
@@ -130,10 +114,8 @@ fn arrives(image: &[u8], link: LinkIdx) -> bool
 {
     let n = codec::path_count(image);
     let mut found = false;
-    let mut i: u32 = 0;
-    while i < n {
+    for i in 0..n {
         found = either(found, arrives_on(codec::node_link_event(image, i), link));
-        i += 1;
     }
     found
 }

@@ -16,7 +16,7 @@ use Rattle.link_rules.specs.Octets.{le_at, put_le}
 use Rattle.link_rules.specs.Network.{all_below}
 use Rattle.link_rules.specs.Refusals.{refused, refused_unless}
 use Rattle.link_rules.specs.declared.refusal.Refusal.{Refusal}
-use Rattle.link_rules.specs.declared.refusal.Answer.TheVariants as Stepped
+use Rattle.link_rules.specs.Refusals as Stepped
 use Rattle.link_rules.proofs.OctetLaws.{Bytes, length-put, get_d_put, le_put_other, le_put_same, le_cong}
 use Rattle.disp_structs.specs.Train.{Train}
 use Rattle.disp_structs.proofs.ListedLaws.{listed-length}

@@ -1,7 +1,7 @@
 -- Where the parts of the second yard lie, and what the refusals of a step tell. Assumes nothing.
 use mathlib.Core.Path.{◌≡◌, refl, sym, ap, ◌∙◌}
 use mathlib.Core.Logic.{⊎_elim}
-use mathlib.Core.Bool.{Bool, true, false}
+use mathlib.Core.Bool.{Bool, true, false, ◌&&◌}
 use mathlib.Core.List.{List, ◌++◌}
 use Prim.Native.Nat.{ℕ, zero, suc, ◌+◌, ◌*◌, ◌-◌, ◌≤◌, ◌<◌}
 use native.Mathlib.Nat.{eq-or-lt_of_le}
@@ -10,11 +10,11 @@ use native.Mathlib.Numerals.{add-one}
 use lib.Dec.{ltb, leb, eqb, lit<}
 use lib.ListN.{length, take, drop, length-take, length-drop}
 use lib.Seq.{length-take-le}
-use borrow.Author.Tests.{eqb-true, leb-true, ltb-true, lt-leb, le-leb, eq-eqb, ne_eqb}
+use borrow.Author.Tests.{eqb-true, leb-true, ltb-true, eq-eqb, ne_eqb}
 use Rattle.link_rules.specs.Octets.{put_le}
-use Rattle.link_rules.specs.Refusals.{no_refusal, refused_unless, or_else}
+use Rattle.link_rules.specs.Refusals.{no_refusal, refused_unless, or_else, raised}
 use Rattle.link_rules.specs.declared.refusal.Refusal.{Refusal}
-use Rattle.link_rules.specs.declared.refusal.Answer.TheVariants as Stepped
+use Rattle.link_rules.specs.Refusals as Stepped
 use Rattle.link_rules.proofs.OctetLaws.{Bytes, le_lt}
 use Rattle.image.specs.Fields.{est_offset_field, path_offset_field, diverge_offset_field, diverge_words, read_field}
 use Rattle.image.specs.Image.{size_of, est_count, diverge_room, is_wide, est_place, node_place, diverge_offset, image_size}
@@ -111,17 +111,14 @@ into_part yard wide n a e img p q r ok h long =
 
 -- ---- 2
 
-pub lengths_low : (l m : ℕ) → l < 2 → refused_unless false 2 ≡ occupancies_fault l m
+-- the two tests of a length are one
+pub lengths_by : (l m : ℕ) → raised (or_else (refused_unless (leb 2 l) 2) (or_else (refused_unless (leb l 4000) 2) (refused_unless (eqb m l) 2))) ≡ raised (occupancies_fault l m)
 unfolding occupancies_fault
-lengths_low l m h = rw (lt-leb 2 l h)
-
-pub lengths_high : (l m : ℕ) → 2 ≤ l → 4000 < l → refused_unless false 2 ≡ occupancies_fault l m
-unfolding occupancies_fault
-lengths_high l m g h = rw (le-leb 2 l g, lt-leb l 4000 h)
-
-pub lengths_equal : (l m : ℕ) → 2 ≤ l → l ≤ 4000 → refused_unless (eqb m l) 2 ≡ occupancies_fault l m
-unfolding occupancies_fault
-lengths_equal l m g h = rw (le-leb 2 l g, le-leb l 4000 h)
+lengths_by l m = ap raised (go (leb 2 l) (leb l 4000) (refused_unless (eqb m l) 2))
+  where
+    go : (a b : Bool) (r : Refusal) → or_else (refused_unless a 2) (or_else (refused_unless b 2) r) ≡ or_else (refused_unless (a && b) 2) r
+    go true b r = refl
+    go false b r = refl
 
 pub lengths_clean : (l m : ℕ) → (occupancies_fault l m).number ≡ 0 → (2 ≤ l) × (l ≤ 4000) × (m ≡ l)
 unfolding occupancies_fault
@@ -199,17 +196,9 @@ pub yard-few : (yard : List ℕ) → Bytes yard → yard_fits yard ≡ true → 
 yard-few yard b h = let f = fits yard h in (omega (arith, f.size, le_lt 4 yard 0 b), f.few)
 
 module _ (yard : List ℕ) (l count : ℕ) (wide : List ℕ) (m : ℕ) where
-  pub carry_short : ((occupancies_fault l m).number ≡ 0 → ⊥) → occupancies_fault l m ≡ carry_fault yard l count wide m
-  unfolding carry_fault
-  carry_short h = sym (or_first (occupancies_fault l m) (or_else (yard_fault yard) (rest_fault yard l count wide)) h)
-
   pub carry_slots : (occupancies_fault l m).number ≡ 0 → yard_fits yard ≡ true → rest_fault yard l count wide ≡ carry_fault yard l count wide m
   unfolding carry_fault
   carry_slots h k = sym (or_next (occupancies_fault l m) (or_else (yard_fault yard) (rest_fault yard l count wide)) h ∙ rw k)
-
-  pub carry_yard : (occupancies_fault l m).number ≡ 0 → yard_fits yard ≡ false → refused_unless false 14 ≡ carry_fault yard l count wide m
-  unfolding carry_fault
-  carry_yard h k = sym (or_next (occupancies_fault l m) (or_else (yard_fault yard) (rest_fault yard l count wide)) h ∙ rw k)
 
   -- what a step that is not refused was asked
   pub record Passed : Type 0 where

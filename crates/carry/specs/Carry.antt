@@ -5,8 +5,7 @@ use Rattle.link_rules.specs.Octets.{le_at, put_le}
 use Rattle.link_rules.specs.Network.{all_below}
 use Rattle.link_rules.specs.Refusals.{no_refusal, or_else, refused_unless}
 use Rattle.link_rules.specs.declared.refusal.Refusal.{Refusal}
-use Rattle.link_rules.specs.declared.refusal.Answer as Step
-use Rattle.link_rules.specs.declared.refusal.Answer.TheVariants as Stepped
+use Rattle.link_rules.specs.Refusals as Step
 use Rattle.image.specs.Image.{diverge_room}
 use Rattle.image.specs.Codec.{decoded, encoded}
 use Rattle.image_fault.specs.ImageFault.{length_fault, image_fault}
@@ -114,10 +113,10 @@ carrying answer yard occ = record { answer = answer; yard = yard; occupancy = oc
 -- by the number of the refusal f, which leaves both
 abbrev pub carried_by : (number : ℕ) (f : Refusal) (done : Carried) (wide wide_occ : List ℕ) → Carried
 carried_by zero f done wide wide_occ = done
-carried_by (suc n) f done wide wide_occ = carrying (Stepped.Refused f) wide wide_occ
+carried_by (suc n) f done wide wide_occ = carrying (Step.Refused f) wide wide_occ
 
 abbrev pub carried_done : (yard occ : List ℕ) (count : ℕ) (wide wide_occ : List ℕ) → Carried
-carried_done yard occ count wide wide_occ = carrying Stepped.Done (with_widened yard count (begun_by count yard wide)) (occupancy_by count occ wide_occ)
+carried_done yard occ count wide wide_occ = carrying Step.Done (with_widened yard count (begun_by count yard wide)) (occupancy_by count occ wide_occ)
 
 -- the first yard and occupancy, how many slots are carried, the second yard and occupancy
 unfoldable pub carried : (yard occ : List ℕ) (count : ℕ) (wide wide_occ : List ℕ) → Carried

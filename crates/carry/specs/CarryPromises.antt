@@ -1,7 +1,7 @@
 -- The promises of change request Q-7 on a sitting that is carried while it runs: steps, and checks between them. Stated here, proved in
 -- proofs/StepsCarry.antt, proofs/HalfKeeps.antt and proofs/HalfAgrees.antt. Yards are of u8. Assumes nothing.
 use Rattle.std.specs.Prelude.{ℕ, suc, ◌*◌, ◌≤◌, ◌<◌, ◌≡◌, Bool, true, false, List, length}
-use Rattle.link_rules.specs.declared.refusal.Answer.TheVariants as Stepped
+use Rattle.link_rules.specs.Refusals as Stepped
 use Rattle.image_fault.specs.ImageFault.{image_fault}
 use Rattle.update_definition.specs.Fits.{TrainsWithin}
 use Rattle.conversion.specs.WidthsAgree.{Octets}

@@ -8,16 +8,18 @@ pub mod half;
 ghost use Rattle.std.specs.Prelude.{◌≡◌, suc, ◌+◌, ◌*◌, ◌-◌, ◌≤◌, ◌<◌, length, get_or};
 ghost use Rattle.link_rules.specs.Octets.{put_le};
 ghost use Rattle.link_rules.specs.Network.{all_below};
+ghost use Rattle.link_rules.specs.Refusals.{raised};
 ghost use Rattle.image_fault.specs.ImageFault.{image_fault};
 ghost use Rattle.yard_check.specs.Yard.{slot_count, part_of};
 ghost use Rattle.carry.specs.Carry.{wide_length, wide_end, wide_size, occupancies_fault, images_fault, offset_fits, second_header_fits, carried_fits, zero_from, begun_fits, second_fits, rest_fault, carry_fault, with_offsets, begun, begun_by, occupancy_by, with_widened, carrying, carried};
 
 use conversion;
+use free_path::columns;
 use image::codec;
 use image_fault;
 use link_rules::link_idx::TrainIdx;
-use link_rules::refusal::{Answer, Refusal};
-use link_rules::{octets, refusal};
+use link_rules::octets;
+use link_rules::refusal::{Refusal, refuse_unless};
 use yard_check::yard;
 
 // ---- where the parts of the second yard lie
@@ -35,38 +37,24 @@ fn wide_end(yard: &[u8], n: u32) -> usize
     requires { (length yard.now < 4294967296) × (slot_count yard.now ≤ 63) × (n ≤ slot_count yard.now) }
     ensures { (result ≡ wide_end yard.now n) × (result ≤ 260 + 21474836480 * n) }
 {
-    let mut i: u32 = 0;
     let mut end = 8 + 4 * (yard::slot_count(yard) as usize);
-    while i < n {
+    for i in 0..n {
         end += wide_length(yard, i + 1);
-        i += 1;
     }
     end
 }
 
 // ---- 6 to 9
 
-fn image_fault_of(yard: &[u8], t: u32, l: u32) -> Refusal
-    ensures { result ≡ image_fault (part_of yard.now t) l }
-{
-    image_fault::image_fault(yard::part(yard, TrainIdx(t)), l)
-}
-
 // Of the slots behind the first count, lowest first.
-fn images_fault(yard: &[u8], l: u32, count: u32) -> Refusal
-    ensures { result ≡ images_fault yard.now l (slot_count yard.now - count) count }
+fn images_fault(yard: &[u8], l: u32, count: u32) -> Result<(), Refusal>
+    ensures { result ≡ raised (images_fault yard.now l (slot_count yard.now - count) count) }
 {
     let slots = yard::slot_count(yard);
-    let mut t = count;
-    while t < slots {
-        let f = image_fault_of(yard, t + 1, l);
-        if f.number == 0 {
-            t += 1;
-        } else {
-            return f;
-        }
+    for t in count..slots {
+        image_fault::image_fault(yard::part(yard, TrainIdx(t + 1)), l)?;
     }
-    refusal::refused_unless(true, 0)
+    Ok(())
 }
 
 // ---- 24
@@ -84,11 +72,8 @@ fn offsets_fit(yard: &[u8], wide: &[u8]) -> bool
     ensures { result ≡ all_below (slot_count yard.now) (offset_fits yard.now wide.now) }
 {
     let slots = yard::slot_count(yard);
-    let mut i: u32 = 0;
-    while i < slots {
-        if offset_fits(yard, wide, i) {
-            i += 1;
-        } else {
+    for i in 0..slots {
+        if !offset_fits(yard, wide, i) {
             return false;
         }
     }
@@ -134,11 +119,8 @@ fn all_carried(yard: &[u8], wide: &[u8], count: u32) -> bool
     requires { (length yard.now < 4294967296) × (slot_count yard.now ≤ 63) × (count ≤ slot_count yard.now) }
     ensures { result ≡ all_below count (carried_fits yard.now wide.now) }
 {
-    let mut i: u32 = 0;
-    while i < count {
-        if carried_fits(yard, wide, i) {
-            i += 1;
-        } else {
+    for i in 0..count {
+        if !carried_fits(yard, wide, i) {
             return false;
         }
     }
@@ -150,11 +132,8 @@ fn zero_from(a: usize, bs: &[u8]) -> bool
     ensures { result ≡ zero_from a bs.now }
 {
     let left = bs.len() - a;
-    let mut i = 0;
-    while i < left {
-        if bs[a + i] == 0 {
-            i += 1;
-        } else {
+    for i in 0..left {
+        if bs[a + i] != 0 {
             return false;
         }
     }
@@ -166,12 +145,10 @@ fn begun_fits(yard: &[u8], count: u32, wide: &[u8]) -> bool
     requires { (length yard.now < 4294967296) × (slot_count yard.now ≤ 63) × (count ≤ slot_count yard.now) × (length wide.now ≡ wide_size yard.now) }
     ensures { result ≡ begun_fits yard.now count wide.now }
 {
-    if header_fits(yard, wide) {
-        if all_carried(yard, wide, count) {
-            return zero_from(wide_end(yard, count), wide);
-        }
+    if !header_fits(yard, wide) {
+        return false;
     }
-    false
+    all_carried(yard, wide, count) && zero_from(wide_end(yard, count), wide)
 }
 
 pub(crate) fn second_fits(yard: &[u8], count: u32, wide: &[u8]) -> bool
@@ -193,42 +170,30 @@ pub(crate) fn second_fits(yard: &[u8], count: u32, wide: &[u8]) -> bool
 
 // ---- all in order
 
-fn lengths_fault(l: usize, m: usize) -> Refusal
-    ensures { result ≡ occupancies_fault l m }
+fn lengths_fault(l: usize, m: usize) -> Result<(), Refusal>
+    ensures { result ≡ raised (occupancies_fault l m) }
 {
-    if l < 2 {
-        return refusal::refused_unless(false, 2);
-    }
-    if 4000 < l {
-        return refusal::refused_unless(false, 2);
-    }
-    refusal::refused_unless(m == l, 2)
+    refuse_unless(2 <= l, 2)?;
+    refuse_unless(l <= 4000, 2)?;
+    refuse_unless(m == l, 2)
 }
 
 // Behind 2 and 14.
-fn slots_fault(yard: &[u8], l: u32, count: u32, wide: &[u8]) -> Refusal
+fn slots_fault(yard: &[u8], l: u32, count: u32, wide: &[u8]) -> Result<(), Refusal>
     requires { (length yard.now < 4294967296) × (slot_count yard.now ≤ 63) }
-    ensures { result ≡ rest_fault yard.now l count wide.now }
+    ensures { result ≡ raised (rest_fault yard.now l count wide.now) }
 {
-    let f = images_fault(yard, l, count);
-    refusal::or_else(
-        f,
-        refusal::refused_unless(second_fits(yard, count, wide), 24),
-    )
+    images_fault(yard, l, count)?;
+    refuse_unless(second_fits(yard, count, wide), 24)
 }
 
 // l and m are the lengths of the two occupancies.
-fn carry_fault(yard: &[u8], l: usize, count: u32, wide: &[u8], m: usize) -> Refusal
-    ensures { result ≡ carry_fault yard.now l count wide.now m }
+fn carry_fault(yard: &[u8], l: usize, count: u32, wide: &[u8], m: usize) -> Result<(), Refusal>
+    ensures { result ≡ raised (carry_fault yard.now l count wide.now m) }
 {
-    let f = lengths_fault(l, m);
-    if f.number != 0 {
-        return f;
-    }
-    if yard::yard_fits(yard) {
-        return slots_fault(yard, l as u32, count, wide);
-    }
-    refusal::refused_unless(false, 14)
+    lengths_fault(l, m)?;
+    refuse_unless(yard::yard_fits(yard), 14)?;
+    slots_fault(yard, l as u32, count, wide)
 }
 
 // ---- a step that is not refused
@@ -246,10 +211,8 @@ fn put_offsets(yard: &[u8], wide: &mut [u8])
     ensures { wide.new ≡ with_offsets yard.now (slot_count yard.now) wide.old }
 {
     let slots = yard::slot_count(yard);
-    let mut i: u32 = 0;
-    while i < slots {
+    for i in 0..slots {
         put_offset(yard, i, wide);
-        i += 1;
     }
 }
 
@@ -272,24 +235,6 @@ fn begin_by(yard: &[u8], count: u32, wide: &mut [u8])
 {
     if count == 0 {
         begin(yard, wide);
-        return;
-    }
-}
-
-fn train_of(entry: u16) -> u32
-    ensures { result ≡ entry }
-{
-    entry as u32
-}
-
-fn copy_trains(occupancy: &[u16], to: &mut [u32])
-    requires { length to.old ≡ length occupancy.now }
-    ensures { to.new ≡ occupancy.now }
-{
-    let mut i = 0;
-    while i < to.len() {
-        to[i] = train_of(occupancy[i]);
-        i += 1;
     }
 }
 
@@ -298,8 +243,7 @@ fn carry_occupancy(occupancy: &[u16], count: u32, to: &mut [u32])
     ensures { to.new ≡ occupancy_by count occupancy.now to.old }
 {
     if count == 0 {
-        copy_trains(occupancy, to);
-        return;
+        columns::widen(occupancy, to);
     }
 }
 
@@ -311,7 +255,8 @@ fn carry_image(yard: &[u8], n: u32, wide: &mut [u8])
 {
     let a = wide_end(yard, n);
     let e = wide_end(yard, n + 1);
-    let f = conversion::widen(yard::part(yard, TrainIdx(n + 1)), &mut wide[a..e]);
+    // It is not refused.
+    let _ = conversion::widen(yard::part(yard, TrainIdx(n + 1)), &mut wide[a..e]);
 }
 
 // Carries slot count + 1; with count 0 all of the second yard and the occupancy are written, else that slot's part alone. Refused by 2, 14, 6 to 9 of an
@@ -322,22 +267,19 @@ pub fn carry(
     count: u32,
     wide_yard: &mut [u8],
     wide_occupancy: &mut [u32],
-) -> Answer
+) -> Result<(), Refusal>
     ensures { carrying result wide_yard.new wide_occupancy.new
         ≡ carried yard.now occupancy.now count wide_yard.old wide_occupancy.old }
 {
-    let f = carry_fault(
+    carry_fault(
         yard,
         occupancy.len(),
         count,
         wide_yard,
         wide_occupancy.len(),
-    );
-    if f.number != 0 {
-        return Answer::Refused(f);
-    }
+    )?;
     begin_by(yard, count, wide_yard);
     carry_occupancy(occupancy, count, wide_occupancy);
     carry_image(yard, count, wide_yard);
-    Answer::Done
+    Ok(())
 }

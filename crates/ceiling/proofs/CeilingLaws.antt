@@ -1,13 +1,14 @@
 -- How large a ceiling is, and the tests before it. Assumes nothing.
-use mathlib.Core.Path.{◌≡◌, refl, sym, ap, ap₂, subst, ◌∙◌}
-use mathlib.Core.Bool.{Bool, true, false, cond}
+use mathlib.Core.Path.{◌≡◌, refl, sym, ap, subst, ◌∙◌}
+use mathlib.Core.Bool.{Bool, true, false, cond, not}
 use mathlib.Core.List.{List}
 use Prim.Native.Nat.{ℕ, zero, suc, ◌+◌, ◌*◌, ◌≤◌, ◌<◌}
 use native.Mathlib.Nat.{mul-le-mul_right}
 use native.Mathlib.Omega.{arith}
 use lib.Dec.{eqb}
-use borrow.Author.Tests.{ne_eqb}
-use Rattle.link_rules.specs.Refusals.{no_refusal, refused, or_else}
+use Rattle.link_rules.specs.Refusals.{no_refusal, refused, refused_unless, Done, Refused, raised, raised_with}
+use Rattle.link_rules.proofs.RefusalLaws.{none_raised, raised_with_first, raised_with_next}
+use Rattle.std.proofs.Common.{Result, Ok, Err}
 use Rattle.link_rules.specs.declared.refusal.Refusal.{Refusal}
 use Rattle.image_fault.specs.ImageFault.{fault_with}
 use Rattle.image_fault.specs.declared.Widths.TheVariants.{Either}
@@ -15,38 +16,24 @@ use Rattle.image_fault.proofs.AcceptLaws as Clean
 use Rattle.yard_check.specs.Yard as Yard
 use Rattle.yard_check.specs.Yard.{yard_fits, slot_count, part_of}
 use Rattle.yard_check.proofs.YardLaws.{fits}
-use Rattle.ceiling.specs.Ceiling.{steps_unless, told_by, round_ceiling, ceiling_of, slots_ceiling, ceiling_fault, yard_ceiling_of}
-use Rattle.ceiling.specs.declared.StepCeiling.{StepCeiling}
+use Rattle.ceiling.specs.Ceiling.{steps_unless, told_by, round_ceiling, ceiling_of, slots_ceiling, ceiling_fault}
 
 -- ---- by the refusal
 
-pub told-refused : (f : Refusal) (n : ℕ) → (f.number ≡ 0 → ⊥) → ◌≡◌ {A = StepCeiling} (record { fault = f; steps = 0 }) (told_by f n)
-told-refused f n q = ap (λ (k : ℕ). record { fault = f; steps = k }) (go f.number q)
+pub told-refused : (f g : Refusal) (n : ℕ) → raised f ≡ Refused g → ◌≡◌ {A = Result ℕ Refusal} (Err g) (raised_with (told_by f n).fault (told_by f n).steps)
+told-refused f g n e = raised_with_first f g (steps_unless f.number n) e
+
+pub told-steps : (f : Refusal) (n : ℕ) → raised f ≡ Done → ◌≡◌ {A = Result ℕ Refusal} (Ok n) (raised_with (told_by f n).fault (told_by f n).steps)
+told-steps f n e = ap (λ (k : ℕ). Ok (steps_unless k n)) (sym (none_raised f e)) ∙ raised_with_next f (steps_unless f.number n) e
+
+-- a refused image adds nothing
+pub none-added : (img : List ℕ) (limit : ℕ) → ((ceiling_of img).fault.number ≡ 0 → ⊥) → 0 ≡ (ceiling_of img).steps * limit
+unfolding ceiling_of
+none-added img limit h = go (fault_with Either no_refusal img 4000).number h
   where
-    go : (k : ℕ) → (k ≡ 0 → ⊥) → 0 ≡ steps_unless k n
+    go : (k : ℕ) → (k ≡ 0 → ⊥) → 0 ≡ steps_unless k (round_ceiling img) * limit
     go zero z = absurd (z refl)
-    go (suc k) z = refl
-
-pub told-steps : (f : Refusal) (n : ℕ) → f.number ≡ 0 → ◌≡◌ {A = StepCeiling} (record { fault = f; steps = n }) (told_by f n)
-told-steps f n q = ap (λ (k : ℕ). record { fault = f; steps = steps_unless k n }) (sym q)
-
-module _ (img : List ℕ) (f : Refusal) (e : f ≡ fault_with Either no_refusal img 4000) where
-  pub image-refused : (f.number ≡ 0 → ⊥) → ◌≡◌ {A = StepCeiling} (record { fault = f; steps = 0 }) (ceiling_of img)
-  unfolding ceiling_of
-  image-refused z = told-refused f (round_ceiling img) z ∙ ap (λ (r : Refusal). told_by r (round_ceiling img)) e
-
-  pub image-told : (n : ℕ) → n ≡ round_ceiling img → f.number ≡ 0 → ◌≡◌ {A = StepCeiling} (record { fault = f; steps = n }) (ceiling_of img)
-  unfolding ceiling_of
-  image-told n q z = told-steps f n z ∙ ap₂ (λ (r : Refusal) (k : ℕ). told_by r k) e q
-
-module _ (yard : List ℕ) (limit : ℕ) (f : Refusal) (e : f ≡ ceiling_fault yard limit) where
-  pub yard-refused : (f.number ≡ 0 → ⊥) → ◌≡◌ {A = StepCeiling} (record { fault = f; steps = 0 }) (yard_ceiling_of yard limit)
-  unfolding yard_ceiling_of
-  yard-refused z = told-refused f (slots_ceiling yard limit (slot_count yard)) z ∙ ap (λ (r : Refusal). told_by r (slots_ceiling yard limit (slot_count yard))) e
-
-  pub yard-told : (n : ℕ) → n ≡ slots_ceiling yard limit (slot_count yard) → f.number ≡ 0 → ◌≡◌ {A = StepCeiling} (record { fault = f; steps = n }) (yard_ceiling_of yard limit)
-  unfolding yard_ceiling_of
-  yard-told n q z = told-steps f n z ∙ ap₂ (λ (r : Refusal) (k : ℕ). told_by r k) e q
+    go (suc k) z = omega arith
 
 -- ---- how large
 
@@ -72,20 +59,13 @@ slots-turn yard limit t =
 
 -- ---- 5, then 14
 
-pub limit-none : (yard : List ℕ) (limit : ℕ) → limit ≡ 0 → refused 5 0 ≡ ceiling_fault yard limit
-limit-none yard limit e = ap (λ (n : ℕ). ceiling_fault yard n) (sym e)
-
-abbrev fault_by : Bool → Bool → Refusal
-fault_by none fine = or_else (cond none (refused 5 0) no_refusal) (cond fine no_refusal (refused 14 0))
-
-fault-is : (yard : List ℕ) (limit : ℕ) (a b : Bool) → eqb limit 0 ≡ a → yard_fits yard ≡ b → fault_by a b ≡ ceiling_fault yard limit
-fault-is yard limit a b p q = sym (ap₂ fault_by p q)
-
-pub fault-none : (yard : List ℕ) (limit : ℕ) → (limit ≡ 0 → ⊥) → yard_fits yard ≡ true → no_refusal ≡ ceiling_fault yard limit
-fault-none yard limit z q = fault-is yard limit false true (ne_eqb limit 0 z) q
-
-pub fault_unfit : (yard : List ℕ) (limit : ℕ) → (limit ≡ 0 → ⊥) → yard_fits yard ≡ false → refused 14 0 ≡ ceiling_fault yard limit
-fault_unfit yard limit z q = fault-is yard limit false false (ne_eqb limit 0 z) q
+-- 5 as a test of the limit
+pub limit_fault : (limit : ℕ) → refused_unless (not (eqb limit 0)) 5 ≡ cond (eqb limit 0) (refused 5 0) no_refusal
+limit_fault limit = go (eqb limit 0)
+  where
+    go : (t : Bool) → refused_unless (not t) 5 ≡ cond t (refused 5 0) no_refusal
+    go true = refl
+    go false = refl
 
 -- a yard that is not refused has at most 63 slots
 pub slots_63 : (yard : List ℕ) (limit : ℕ) → (ceiling_fault yard limit).number ≡ 0 → slot_count yard ≤ 63

@@ -9,7 +9,11 @@ use Rattle.update_definition.specs.UpdateImage.{updated_image_in}
 use Rattle.yard_check.specs.Yard as Yard
 use Rattle.yard_check.specs.Yard.{slot_count, part_of}
 use Rattle.yard_check.specs.Check.{CheckArgs, is_finished}
-use Rattle.ceiling.specs.declared.StepCeiling.{StepCeiling}
+
+-- refused, or a refusal 0 and so many steps
+pub record StepCeiling : Type 0 where
+  pub fault : Refusal
+  pub steps : ℕ
 
 -- so many steps, 0 where the call is refused by this number
 abbrev pub steps_unless : ℕ → ℕ → ℕ

@@ -19,6 +19,12 @@ equal (inf false) h = refl
 equal (fin true m e) h = rw (is_true (eqb (m * up e * down e) (m * up e * down e)) (eqb_refl (m * up e * down e)))
 equal (fin false m e) h = rw (is_true (eqb (m * up e * down e) (m * up e * down e)) (eqb_refl (m * up e * down e)))
 
+pub differs : (x : Float) → ne x x ≡ is_nan x
+unfolding ne eq is_nan
+differs nan = refl
+differs (inf s) = equal (inf s) tt
+differs (fin s m e) = equal (fin s m e) tt
+
 -- a pattern that is no NaN's comes back from its float
 pub bits_real : (b : ℕ) → b < 2 ^ 64 → b % 0x8000_0000_0000_0000 ≤ 0x7ff0_0000_0000_0000 → bits_of (real_of b) ≡ b
 unfolding bits_of real_of

@@ -17,21 +17,14 @@ pub fn real_of(b: u64) -> f64
 pub fn bits_of(x: f64) -> u64
     ensures { result ≡ bits_of x }
 {
-    if x != x {
-        return 0;
-    }
-    f64::to_bits(x)
+    if x.is_nan() { 0 } else { x.to_bits() }
 }
 
 // At most 1e12 in magnitude.
 pub fn in_reach(x: f64) -> bool
     ensures { result ≡ in_reach x }
 {
-    if x <= 1000000000000.0 {
-        -1000000000000.0 <= x
-    } else {
-        false
-    }
+    x <= 1000000000000.0 && -1000000000000.0 <= x
 }
 
 // utils::almost_eq_uom, as document 01 defines it.
@@ -40,15 +33,10 @@ pub fn near(a: f64, b: f64) -> bool
 {
     let d = b - a;
     let s = a + b;
-    if magnitude(d) < 0.00000001 {
-        return true;
-    }
-    if s == 0.0 {
-        return false;
-    }
-    magnitude(d / s) < 0.00000001
+    magnitude(d) < 0.00000001 || (s != 0.0 && magnitude(d / s) < 0.00000001)
 }
 
+// Not f64::abs, which gives 0 for -0: the definition of near keeps -0.
 fn magnitude(x: f64) -> f64
     ensures { result ≡ Rattle.disp_structs.specs.Floats.magnitude x }
 {

@@ -14,17 +14,17 @@ pub struct Metres(pub f64);
 #[derive(Clone, Copy)]
 pub struct Seconds(pub f64);
 
-#[derive(Clone, Copy)]
+#[derive(Clone, Copy, PartialEq, Eq)]
 pub struct EstIdx(pub u32);
 
-#[derive(Clone, Copy)]
+#[derive(Clone, Copy, PartialEq, Eq)]
 pub enum EstType {
     Arrive,
     Clear,
     Fake,
 }
 
-#[derive(Clone, Copy)]
+#[derive(Clone, Copy, PartialEq, Eq)]
 pub struct LinkEvent {
     pub link_idx: LinkIdx,
     pub est_type: EstType,

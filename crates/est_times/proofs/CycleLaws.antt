@@ -1,11 +1,10 @@
 -- The laws of refusal 8: what its place tells, and what an image has that passes it. Assumes nothing.
 -- They hold of any two lists and any e. Crates above cite them.
-use Rattle.std.proofs.Common.{◌≡◌, ℕ, zero, suc, ◌+◌, ◌-◌, ◌<◌, ◌≤◌, min, Bool, true, false, ◌||◌, ◌↔◌, List, length, get_or, take, set, refl, ap, ap₂, ⊎_elim, add-one, arith, get_or-set_other, get_or-take, get_or-set_same}
+use Rattle.std.proofs.Common.{◌≡◌, ℕ, zero, suc, ◌+◌, ◌-◌, ◌<◌, ◌≤◌, min, Bool, true, false, ◌||◌, ◌↔◌, List, length, get_or, take, set, refl, ap, ap₂, ⊎_elim, add-one, arith, get_or-set_other, get_or-take, get_or-set_same, Some, None}
 use native.Mathlib.Nat.{min-eq_left}
 use Rattle.est_times.specs.Cycles.{follow, via, reach, on_cycle, first_on_cycle}
 use Rattle.est_times.specs.Walks.{Step, Walk, Steps}
 use Rattle.est_times.specs.Walks.Walk.{last}
-use Rattle.est_times.specs.declared.Cycle.TheVariants.{None, At}
 use Rattle.est_times.specs.Counts.{count_below}
 use Rattle.est_times.proofs.Counting.{two, clash, same_or_not, count_lt, count_bound}
 use Rattle.est_times.proofs.FirstAt.{first-none, none_first, first-at, first-same}
@@ -17,7 +16,7 @@ module _ (next alt : List ℕ) (e : ℕ) where
   on-cycle a l = (reach_walk next alt e e a a l, walk_reach next alt e)
 
   -- the place is a record on a cycle, and no lower one is
-  pub place_sound : (i : ℕ) → first_on_cycle next alt e ≡ At i → (i < e) × Walk next alt e i i × ((j : ℕ) → j < i → Walk next alt e j j → ⊥)
+  pub place_sound : (i : ℕ) → first_on_cycle next alt e ≡ Some i → (i < e) × Walk next alt e i i × ((j : ℕ) → j < i → Walk next alt e j j → ⊥)
   place_sound i h =
       let w = first-at (on_cycle next alt e) e 0 i h in
       (omega (arith, w.0), reach_walk next alt e e i i (omega (arith, w.0)) w.1, λ j l k. clash (on_cycle next alt e j) (walk_reach next alt e k) (w.2 j (omega arith) l))

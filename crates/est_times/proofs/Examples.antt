@@ -1,7 +1,6 @@
 -- Refusal 8 on small lists, computed. Assumes nothing.
-use Rattle.std.proofs.Common.{◌≡◌, [], ◌∷◌, refl}
+use Rattle.std.proofs.Common.{◌≡◌, [], ◌∷◌, refl, Some, None}
 use Rattle.est_times.specs.Cycles.{follow, via, reach, first_at, first_on_cycle}
-use Rattle.est_times.specs.declared.Cycle.TheVariants.{None, At}
 
 -- 0 to 1 to 2 and 3, which both end
 pub fork : first_on_cycle (1 ∷ 2 ∷ 0 ∷ 0 ∷ []) (0 ∷ 3 ∷ 0 ∷ 0 ∷ []) 4 ≡ None
@@ -9,12 +8,12 @@ unfolding follow via reach first_at
 fork = refl
 
 -- 0 leads into the cycle of 2 and 3 and is not on it
-pub into_ring : first_on_cycle (3 ∷ 0 ∷ 3 ∷ 2 ∷ []) (0 ∷ 0 ∷ 0 ∷ 0 ∷ []) 4 ≡ At 2
+pub into_ring : first_on_cycle (3 ∷ 0 ∷ 3 ∷ 2 ∷ []) (0 ∷ 0 ∷ 0 ∷ 0 ∷ []) 4 ≡ Some 2
 unfolding follow via reach first_at
 into_ring = refl
 
 -- by alt alone, and to itself
-pub itself : first_on_cycle (0 ∷ 0 ∷ []) (0 ∷ 1 ∷ []) 2 ≡ At 1
+pub itself : first_on_cycle (0 ∷ 0 ∷ []) (0 ∷ 1 ∷ []) 2 ≡ Some 1
 unfolding follow via reach first_at
 itself = refl
 

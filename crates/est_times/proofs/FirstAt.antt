@@ -1,12 +1,10 @@
 -- The first number that passes a test. Assumes nothing.
-use Rattle.std.proofs.Common.{◌≡◌, ℕ, zero, suc, ◌+◌, ◌-◌, ◌<◌, ◌≤◌, Bool, true, false, ◌⊎◌, sym, refl, ◌∙◌, inl, inr, ⊎_elim, eq-or-lt_of_le, arith}
+use Rattle.std.proofs.Common.{◌≡◌, ℕ, zero, suc, ◌+◌, ◌-◌, ◌<◌, ◌≤◌, Bool, true, false, ◌⊎◌, sym, refl, ◌∙◌, inl, inr, ⊎_elim, eq-or-lt_of_le, arith, Option, Some, None}
 use Rattle.est_times.specs.Cycles.{first_at}
-use Rattle.est_times.specs.declared.Cycle.{Cycle}
-use Rattle.est_times.specs.declared.Cycle.TheVariants.{None, At}
 use Rattle.est_times.proofs.Counting.{two}
 
 module _ (f : ℕ → Bool) where
-  pub first_hit : (k i : ℕ) → f i ≡ true → first_at f (suc k) i ≡ At i
+  pub first_hit : (k i : ℕ) → f i ≡ true → first_at f (suc k) i ≡ Some i
   unfolding first_at
   first_hit k i h = rw (first_at, h)
 
@@ -31,12 +29,12 @@ module _ (f : ℕ → Bool) where
   none_first (suc k) i h = first_miss k i (h i (omega arith) (omega arith)) ∙ none_first k (i + 1) (λ j l m. h j (omega arith) (omega arith))
 
   -- x is found: it passes, and none before it does
-  pub first-at : (k i x : ℕ) → first_at f k i ≡ At x → (x < i + k) × (f x ≡ true) × ((j : ℕ) → i ≤ j → j < x → f j ≡ false)
+  pub first-at : (k i x : ℕ) → first_at f k i ≡ Some x → (x < i + k) × (f x ≡ true) × ((j : ℕ) → i ≤ j → j < x → f j ≡ false)
   unfolding first_at
   first-at zero i x h = let z : ◌≡◌ {A = ℕ} 0 1 = cc in absurd (omega arith)
   first-at (suc k) i x h = go (two (f i)) (λ g. first-at k (i + 1) x g)
     where
-      go : (f i ≡ true) ⊎ (f i ≡ false) → (first_at f k (i + 1) ≡ At x → (x < i + 1 + k) × (f x ≡ true) × ((j : ℕ) → i + 1 ≤ j → j < x → f j ≡ false))
+      go : (f i ≡ true) ⊎ (f i ≡ false) → (first_at f k (i + 1) ≡ Some x → (x < i + 1 + k) × (f x ≡ true) × ((j : ℕ) → i + 1 ≤ j → j < x → f j ≡ false))
           → (x < i + suc k) × (f x ≡ true) × ((j : ℕ) → i ≤ j → j < x → f j ≡ false)
       go (inl t) r = let q : i ≡ x = cc (first_hit k i t) in (omega arith, rw q at t, λ j l m. absurd (omega arith))
       go (inr t) r =
@@ -53,8 +51,8 @@ first-same f g (suc k) i h = ⊎_elim
     (two (f i))
 
 -- one turn of a scan of n numbers that has come to i, where the test of i gives t: what is still to come gives the whole answer r
-module _ (f : ℕ → Bool) (n i : ℕ) {r : Cycle} (rest : first_at f (n - i) i ≡ r) where
-  pub scan_hit : {t : Bool} → i < n → t ≡ f i → t ≡ true → At i ≡ r
+module _ (f : ℕ → Bool) (n i : ℕ) {r : Option ℕ} (rest : first_at f (n - i) i ≡ r) where
+  pub scan_hit : {t : Bool} → i < n → t ≡ f i → t ≡ true → Some i ≡ r
   scan_hit l q h = let e : n - i ≡ suc (n - (i + 1)) = omega arith in sym (first_hit f (n - (i + 1)) i (sym q ∙ h)) ∙ (rw e at rest)
 
   pub scan_miss : {t : Bool} → i < n → t ≡ f i → t ≡ false → first_at f (n - (i + 1)) (i + 1) ≡ r

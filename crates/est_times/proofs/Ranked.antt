@@ -1,8 +1,6 @@
 -- A rank that rises along next and alt. Assumes nothing.
-use Rattle.std.proofs.Common.{◌≡◌, ℕ, ◌<◌, Bool, true, false, not, ◌||◌, eqb, ltb, List, ap, ⊎_elim, arith, ltb-true, eqb-true}
-use borrow.Author.Tests.{not-false}
+use Rattle.std.proofs.Common.{◌≡◌, ℕ, ◌<◌, Bool, true, ◌||◌, eqb, ltb, List, ap, ⊎_elim, arith, ltb-true, eqb-true, None}
 use Rattle.est_times.specs.Cycles.{follow, first_on_cycle}
-use Rattle.est_times.specs.declared.Cycle.TheVariants.{None}
 use Rattle.est_times.proofs.WalkLaws.{or_cases, step_out}
 use Rattle.est_times.proofs.CycleLaws.{rank_none}
 
@@ -27,5 +25,5 @@ rises_none next alt e rank f = rank_none next alt e rank λ a b g. ⊎_elim
     (step_out g)
 
 -- what the code's test of one step tells
-pub rose : (rank : ℕ → ℕ) (a t s : ℕ) (r : Bool) → r ≡ rises_at rank a t → t ≡ s → not r ≡ false → rises_at rank a s ≡ true
-rose rank a t s r q p h = let k = not-false r h in cc (ap (rises_at rank a) p)
+pub rose : (rank : ℕ → ℕ) (a t s : ℕ) {r : Bool} → r ≡ rises_at rank a t → t ≡ s → r ≡ true → rises_at rank a s ≡ true
+rose rank a t s q p h = cc (ap (rises_at rank a) p)

@@ -1,9 +1,7 @@
 -- Refusal 8 of document 01: next and alt form a cycle; its place is the lowest est record on one. Assumes nothing.
 -- The est records are the numbers below e. `next` and `alt` list their idx_next and idx_next_alt (est_times/mod.rs 29, 32),
 -- where 0 is none; so is an index of e or more, which refusal 7 rules out before.
-use Rattle.std.specs.Prelude.{ℕ, zero, suc, ◌+◌, Bool, true, false, cond, not, ◌&&◌, ◌||◌, List, ◌==◌, nat_lt, slice_index}
-use Rattle.est_times.specs.declared.Cycle.{Cycle}
-use Rattle.est_times.specs.declared.Cycle.TheVariants.{None, At}
+use Rattle.std.specs.Prelude.{ℕ, zero, suc, ◌+◌, Bool, true, false, cond, not, ◌&&◌, ◌||◌, List, ◌==◌, nat_lt, slice_index, Option, Some, None}
 
 -- the record to which a leads by idxs, which is next or alt; 0 where there is none
 unfoldable pub follow : (e : ℕ) (idxs : List ℕ) (a : ℕ) → ℕ
@@ -24,10 +22,10 @@ abbrev pub on_cycle : (next alt : List ℕ) (e a : ℕ) → Bool
 on_cycle next alt e a = reach next alt e e a a
 
 -- the first of the k numbers from i on that passes the test
-unfoldable pub first_at : (test : ℕ → Bool) (k i : ℕ) → Cycle
+unfoldable pub first_at : (test : ℕ → Bool) (k i : ℕ) → Option ℕ
 first_at test zero i = None
-first_at test (suc k) i = elim (test i) [ true ↦ At i | false ↦ first_at test k (i + 1) ]
+first_at test (suc k) i = elim (test i) [ true ↦ Some i | false ↦ first_at test k (i + 1) ]
 
 -- refusal 8 and its place
-abbrev pub first_on_cycle : (next alt : List ℕ) (e : ℕ) → Cycle
+abbrev pub first_on_cycle : (next alt : List ℕ) (e : ℕ) → Option ℕ
 first_on_cycle next alt e = first_at (on_cycle next alt e) e 0

@@ -1,13 +1,13 @@
 -- Columns as lists, a turn at a time as a loop has them. Assumes nothing.
-use Rattle.std.proofs.Common.{◌≡◌, ℕ, suc, ◌+◌, ◌-◌, ◌<◌, ◌≤◌, Bool, true, false, cond, ◌&&◌, List, [], ◌∷◌, length, get_or, drop, sym, refl, ap, ◌∙◌, add-one, arith, drop_of_length-le, drop-cons, le-ltb, lt-ltb}
+use Rattle.std.proofs.Common.{◌≡◌, ℕ, suc, ◌+◌, ◌<◌, ◌≤◌, Bool, true, false, cond, ◌&&◌, List, [], ◌∷◌, length, drop, refl, ap, ◌∙◌, add-one, arith, drop_of_length-le, drop-cons}
 use lib.ListN.{length-map, get_or-map}
-use Rattle.free_path.specs.Base.{ok, no, at, last, part, passes, count, walk_from}
+use Rattle.free_path.specs.Base.{ok, no, at, last, count}
 use Rattle.free_path.specs.LinkOptType.{class_more, class_walk}
 use Rattle.free_path.specs.declared.link_opt_type.LinkOptType.{LinkOptType}
-use Rattle.free_path.specs.Columns.{link, links, entries, link_at, flag_link, flag_links, kept, ended}
+use Rattle.free_path.specs.Columns.{link, links, link_at, flag_link, flag_links, kept}
 use Rattle.disp_structs.specs.Listed.{listed}
 use Rattle.disp_structs.proofs.ListedLaws.{listed-length, listed_at}
-use Rattle.free_path.proofs.WalkLaws.{at_in, at_out, walk_stop, walk_on, walk_off}
+use Rattle.free_path.proofs.WalkLaws.{at_in, at_out}
 use Rattle.link_rules.specs.declared.link_idx.LinkIdx.{LinkIdx}
 use Rattle.link_rules.specs.LinkIdx.{no_link}
 
@@ -39,36 +39,6 @@ module _ (col : List ℕ) (n i : ℕ) (flags : List ℕ) where
   pub flags-end : n ≤ i → flag_links (drop i (listed n (link_at col))) flags ≡ flags
   unfolding flag_links
   flags-end h = rw (listed-end n (link_at col) i h)
-
--- ---- a walk over a column
-
-module _ (p : ℕ → Bool) (col : List ℕ) (n i : ℕ) where
-  pub walk_hit : i < n → p (get_or col i 0) ≡ true → ended n i ≡ walk_from p (entries n col) i
-  walk_hit h q = rw (lt-ltb i n h) (sym (walk_stop p (entries n col) i 0 (omega (arith, listed-length n (λ k. get_or col k 0))) (ap p (listed_at n (λ k. get_or col k 0) i 0 h) ∙ q)))
-
-  pub walk_miss : i < n → p (get_or col i 0) ≡ false → walk_from p (entries n col) (i + 1) ≡ walk_from p (entries n col) i
-  walk_miss h q = sym (walk_on p (entries n col) i 0 (omega (arith, listed-length n (λ k. get_or col k 0))) (ap p (listed_at n (λ k. get_or col k 0) i 0 h) ∙ q))
-
-  pub walk_none : n ≤ i → ended n i ≡ walk_from p (entries n col) i
-  walk_none h = rw (le-ltb i n h) (sym (walk_off p (entries n col) i 0 (omega (arith, listed-length n (λ k. get_or col k 0)))))
-
--- ---- entries passed up to a sentinel
-
-module _ {A : Type 0} (p : A → Bool) (n : ℕ) (f : ℕ → A) (i e : ℕ) where
-  first : i < e → e ≤ n → part i e (listed n f) ≡ f i ∷ part (i + 1) e (listed n f)
-  first h m = let k : e - i ≡ suc (e - (i + 1)) = omega arith in rw (k, listed-from n f i (omega arith), add-one)
-
-  pub passes_hit : i < e → e ≤ n → p (f i) ≡ true → i ≡ i + passes p (part i e (listed n f))
-  unfolding passes
-  passes_hit h m q = rw (first h m, q) (omega arith)
-
-  pub passes_miss : i < e → e ≤ n → p (f i) ≡ false → i + 1 + passes p (part (i + 1) e (listed n f)) ≡ i + passes p (part i e (listed n f))
-  unfolding passes
-  passes_miss h m q = rw (first h m, q) (omega arith)
-
-  pub passes-end : e ≤ i → i ≡ i + passes p (part i e (listed n f))
-  unfolding passes
-  passes-end h = let k : e - i ≡ 0 = omega arith in rw k (omega arith)
 
 -- ---- the class, link by link
 

@@ -1,9 +1,8 @@
 -- An array with a count, and the list that it stands for: take n of it. Any element type; nothing here knows of trains. Assumes nothing.
-use Rattle.std.proofs.Common.{◌≡◌, ℕ, zero, suc, ◌+◌, ◌-◌, ◌<◌, ◌≤◌, Bool, false, ◌||◌, List, [], ◌∷◌, ◌++◌, map, length, get_or, take, drop, set, sym, refl, ap, ◌∙◌, append_assoc, add-one, arith, length-drop, length-take-le, get_or-drop, drop-cons, get_or-take, take-suc, take-take, take-suc-set}
+use Rattle.std.proofs.Common.{◌≡◌, ℕ, zero, suc, ◌+◌, ◌-◌, ◌<◌, ◌≤◌, List, [], ◌∷◌, ◌++◌, map, length, get_or, take, drop, set, sym, refl, ap, ◌∙◌, add-one, arith, length-drop, length-take-le, get_or-take, take-take, take-suc-set}
 use native.Mathlib.Nat.{sub-zero}
-use lib.ListN.{get_or-append}
 use lib.Seq.{take-nil, take-set-le}
-use Rattle.free_path.specs.Base.{Res, ok, no, ◌>>=◌, at, last, popped, part, any}
+use Rattle.free_path.specs.Base.{Res, ok, no, ◌>>=◌, at, last, popped, part}
 use Rattle.free_path.specs.Columns.{answer}
 use Rattle.free_path.proofs.WalkLaws.{at_in, at_out}
 
@@ -50,27 +49,6 @@ module _ {A : Type 0} where
 
   pub length_part : (xs : List A) (b e : ℕ) → e ≤ length xs → length (part b e xs) ≡ e - b
   length_part xs b e h = length-take-le (e - b) (drop b xs) (omega (arith, length-drop b xs))
-
-  -- one turn of extend_from_within: j of the part from a on are copied, and one more
-  pub copy_more : (xs l : List A) (n a j : ℕ) (d : A) → length l ≡ n → a + j < n → n + j < length xs
-      → take (n + j) xs ≡ l ++ take j (drop a l) → take (n + j + 1) (set xs (n + j) (get_or xs (a + j) d)) ≡ l ++ take (j + 1) (drop a l)
-  copy_more xs l n a j d e h m q =
-      let same : get_or xs (a + j) d ≡ get_or (drop a l) j d =
-      sym (get_or-take (n + j) xs (a + j) d (omega arith)) ∙ ap (λ r. get_or r (a + j) d) q ∙ get_or-append l (take j (drop a l)) d (a + j) (omega arith) ∙ sym (get_or-drop a l j d) in
-      let more : take j (drop a l) ++ (get_or (drop a l) j d ∷ []) ≡ take (j + 1) (drop a l) = rw add-one (sym (take-suc (drop a l) j d (omega (arith, length-drop a l)))) in
-      push xs (n + j) (get_or xs (a + j) d) m
-      ∙ rw (same, q) (append_assoc l (take j (drop a l)) (get_or (drop a l) j d ∷ []))
-      ∙ ap (λ (r : List A). l ++ r) more
-
-  -- the search of a part, a turn at a time
-  module _ (p : A → Bool) (xs : List A) (b e : ℕ) (d : A) where
-    pub any-turn : b < e → e ≤ length xs → any p (part b e xs) ≡ (p (get_or xs b d) || any p (part (b + 1) e xs))
-    unfolding any
-    any-turn h m = let k : e - b ≡ suc (e - (b + 1)) = omega arith in rw (k, drop-cons xs b d (omega arith), add-one)
-
-    pub any-end : e ≤ b → any p (part b e xs) ≡ false
-    unfolding any
-    any-end h = let k : e - b ≡ 0 = omega arith in rw k
 
 -- an array of numbers that stand for values: the one law more
 pub map-set : {A B : Type 0} (f : A → B) (xs : List A) (i : ℕ) (a : A) → map f (set xs i a) ≡ set (map f xs) i (f a)

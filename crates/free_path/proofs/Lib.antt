@@ -1,11 +1,13 @@
 pub mod WalkLaws
 pub mod ListLaws
 pub mod CountLaws
+pub mod FoundLaws
 pub mod PoolLaws
 pub mod ColumnLaws
 pub mod MapLaws
 pub mod SentinelLaws
 pub mod SearchLimitLaws
+pub mod SignLaws
 pub mod ValidateLaws
 pub mod FlagLaws
 pub mod ExampleLaws

@@ -1,16 +1,20 @@
 -- The pool's definitions over an array with a count, test by test as the code has them. Assumes nothing.
-use Rattle.std.proofs.Common.{◌≡◌, ℕ, suc, ◌+◌, ◌-◌, ◌<◌, ◌≤◌, Bool, true, false, cond, ◌||◌, eqb, List, ◌++◌, length, get_or, take, drop, set, sym, ap, ◌∙◌, arith, length-append, length-set, le-ltb, lt-ltb, eq-eqb, ne_eqb, le-leb}
+use Rattle.std.proofs.Common.{◌≡◌, ℕ, suc, [], ◌∷◌, ap₂, refl, ltb, length-drop, ◌+◌, ◌-◌, ◌<◌, ◌≤◌, Bool, true, false, cond, ◌||◌, eqb, List, ◌++◌, length, get_or, take, drop, set, sym, ap, ◌∙◌, arith, length-append, length-set, le-ltb, lt-ltb, eq-eqb, ne_eqb, le-leb}
 use lib.ListN.{length-map, get_or-map}
-use lib.Seq.{take-set-lt}
-use borrow.Author.Tests.{lt-leb}
+use lib.Seq.{take-set-lt, take-set-le}
+use Rattle.std.specs.List.{list_any, copy_within}
+use Rattle.std.proofs.lemmas.List.{take-map, drop-map}
+use Rattle.std.proofs.lemmas.List.Edits.{take-paste}
+use borrow.Author.Tests.{lt-leb, ltb-true, ltb-false, eqb-true, eqb-false}
 use Rattle.link_rules.specs.LinkIdx.{same_train, no_train}
 use Rattle.link_rules.specs.declared.link_idx.TrainIdx.{TrainIdx}
 use Rattle.disp_structs.specs.Values.{view}
 use Rattle.disp_structs.specs.declared.TrainIdxsView.{TrainIdxsView}
-use Rattle.free_path.specs.Base.{ok, no, ◌>>=◌, part, any, slice}
-use Rattle.free_path.specs.TrainIdxsView.{Pooled, pool_push, add_one, add_from, closed, add_blocking_trains, add_all_blocking_trains, concat_train_idx_views, covers, size}
-use Rattle.free_path.specs.Columns.{answer, tr, trains, pool_of, concat_in}
-use Rattle.free_path.proofs.CountLaws.{counted, push, read, read_out, top, pop, part-take, part-set, map-set, any-turn, copy_more, length_part, bind_stop, bind_go}
+use Rattle.free_path.specs.Base.{Res, ok, no, ◌>>=◌, part, any, slice}
+use Rattle.free_path.specs.TrainIdxsView.{pool_push, add_one, add_from, closed, add_blocking_trains, add_all_blocking_trains, concat_train_idx_views, covers, size}
+use Rattle.free_path.specs.Columns.{tr, trains, pool_of, concat_in}
+use Rattle.free_path.proofs.CountLaws.{counted, push, read, read_out, top, pop, part-take, part-set, map-set, length_part}
+use Rattle.free_path.proofs.MapLaws.{append-map}
 
 pub trains-set : (xs : List ℕ) (i x : ℕ) → trains (set xs i x) ≡ set (trains xs) i (tr x)
 trains-set xs i x = map-set tr xs i x
@@ -22,15 +26,23 @@ pub trains-at : (xs : List ℕ) (i : ℕ) → get_or (trains xs) i no_train ≡ 
 trains-at xs i = get_or-map tr xs i 0
 
 -- ---- the search
-module _ (xs : List ℕ) (b e t : ℕ) (h : b < e) (m : e ≤ length xs) where
-  turn : any (same_train (tr t)) (part b e (trains xs)) ≡ (eqb t (get_or xs b 0) || any (same_train (tr t)) (part (b + 1) e (trains xs)))
-  turn = any-turn (same_train (tr t)) (trains xs) b e no_train h (omega (arith, trains-length xs)) ∙ ap (λ (x : TrainIdx). same_train (tr t) x || any (same_train (tr t)) (part (b + 1) e (trains xs))) (trains-at xs b)
+eqb_other : (a b : ℕ) → eqb a b ≡ eqb b a
+eqb_other a b = go (eqb a b) refl
+  where
+    go : (t : Bool) → eqb a b ≡ t → eqb a b ≡ eqb b a
+    go true q = q ∙ sym (eq-eqb b a (sym (eqb-true a b q)))
+    go false q = q ∙ sym (ne_eqb b a (λ e. eqb-false a b q (sym e)))
 
-  pub has_hit : t ≡ get_or xs b 0 → any (same_train (tr t)) (part b e (trains xs)) ≡ true
-  has_hit q = turn ∙ ap (λ (x : Bool). x || any (same_train (tr t)) (part (b + 1) e (trains xs))) (eq-eqb t (get_or xs b 0) q)
+pub any_trains : (t : ℕ) (xs : List ℕ) → list_any (λ y. eqb y t) xs ≡ any (same_train (tr t)) (trains xs)
+unfolding any
+any_trains t [] = refl
+any_trains t (x ∷ xs) = ap₂ ◌||◌ (eqb_other x t) (any_trains t xs)
 
-  pub has_miss : (t ≡ get_or xs b 0 → ⊥) → any (same_train (tr t)) (part b e (trains xs)) ≡ any (same_train (tr t)) (part (b + 1) e (trains xs))
-  has_miss q = turn ∙ ap (λ (x : Bool). x || any (same_train (tr t)) (part (b + 1) e (trains xs))) (ne_eqb t (get_or xs b 0) q)
+part_trains : (b e : ℕ) (xs : List ℕ) → trains (part b e xs) ≡ part b e (trains xs)
+part_trains b e xs = sym (take-map tr (e - b) (drop b xs)) ∙ ap (take (e - b)) (sym (drop-map tr b xs))
+
+pub has : (xs : List ℕ) (b e t : ℕ) → list_any (λ y. eqb y t) (part b e xs) ≡ any (same_train (tr t)) (part b e (trains xs))
+has xs b e t = any_trains t (part b e xs) ∙ ap (any (same_train (tr t))) (part_trains b e xs)
 
 -- ---- one train
 module _ (xs : List TrainIdx) (n : ℕ) (base : TrainIdxsView) (i : ℕ) (m : n ≤ length xs) where
@@ -92,11 +104,21 @@ module _ (xs : List TrainIdx) (len n : ℕ) (base : TrainIdxsView) (s : len ≡ 
 
 -- the same over the array of numbers
 module _ (arr : List ℕ) (len : ℕ) (base : TrainIdxsView) (l : length arr ≡ 2048) (m : len ≤ 2048) (k : base.idx_end < len) where
-  pub array_real : base.idx_end < len - 1 → ok (record { pool = take (len - 1) (trains (set arr base.idx_end (get_or arr (len - 1) 0))); made = view base.idx_begin (len - 1) }) ≡ closed base (take len (trains arr))
-  array_real h = rw (trains-set arr base.idx_end (get_or arr (len - 1) 0)) (sym (close_real (trains arr) len (len - 1) base (omega arith) (omega (arith, trains-length arr)) (tr (get_or arr (len - 1) 0)) (sym (trains-at arr (len - 1))) (omega arith)))
+  real : base.idx_end < len - 1 → ok (record { pool = take (len - 1) (trains (set arr base.idx_end (get_or arr (len - 1) 0))); made = view base.idx_begin (len - 1) }) ≡ closed base (take len (trains arr))
+  real h = rw (trains-set arr base.idx_end (get_or arr (len - 1) 0)) (sym (close_real (trains arr) len (len - 1) base (omega arith) (omega (arith, trains-length arr)) (tr (get_or arr (len - 1) 0)) (sym (trains-at arr (len - 1))) (omega arith)))
 
-  pub array_none : len - 1 ≤ base.idx_end → ok (record { pool = take (len - 1) (trains arr); made = view base.idx_begin (len - 1) }) ≡ closed base (take len (trains arr))
-  array_none h = sym (close_none (trains arr) len (len - 1) base (omega arith) (omega (arith, trains-length arr)) (tr (get_or arr (len - 1) 0)) (sym (trains-at arr (len - 1))) (omega arith))
+  none : len - 1 ≤ base.idx_end → ok (record { pool = take (len - 1) (trains arr); made = view base.idx_begin (len - 1) }) ≡ closed base (take len (trains arr))
+  none h = sym (close_none (trains arr) len (len - 1) base (omega arith) (omega (arith, trains-length arr)) (tr (get_or arr (len - 1) 0)) (sym (trains-at arr (len - 1))) (omega arith))
+
+  -- where the last one was the sentinel, it goes to its own place, past the count
+  pub array_closed : ok (record { pool = take (len - 1) (trains (set arr base.idx_end (get_or arr (len - 1) 0))); made = view base.idx_begin (len - 1) }) ≡ closed base (take len (trains arr))
+  array_closed = go (ltb base.idx_end (len - 1)) refl
+    where
+      go : (t : Bool) → ltb base.idx_end (len - 1) ≡ t → ok (record { pool = take (len - 1) (trains (set arr base.idx_end (get_or arr (len - 1) 0))); made = view base.idx_begin (len - 1) }) ≡ closed base (take len (trains arr))
+      go true q = real (ltb-true _ _ q)
+      go false q =
+          let h : len - 1 ≤ base.idx_end = ltb-false _ _ q in
+          rw (trains-set arr base.idx_end (get_or arr (len - 1) 0), take-set-le (len - 1) (trains arr) base.idx_end (tr (get_or arr (len - 1) 0)) h) (none h)
 
 -- ---- all trains of a view, a turn at a time
 module _ (base : TrainIdxsView) (end i : ℕ) (p : List TrainIdx) where
@@ -108,19 +130,21 @@ module _ (base : TrainIdxsView) (end i : ℕ) (p : List TrainIdx) where
   unfolding add_from
   step h = let k : end - i ≡ suc (end - (i + 1)) = omega arith in rw k
 
-  module _ (h : i < end) (c : ℕ) (a : List TrainIdx) (q : answer c a ≡ add_one base i p) where
-    pub from_stop : (c ≡ 0 → ⊥) → answer c a ≡ add_from base (end - i) i p
-    from_stop z = bind_stop c a (λ r. add_from base (end - (i + 1)) (i + 1) r) q z a ∙ sym (step h)
+  module _ (h : i < end) where
+    pub from_stop : (m : ℕ) → no m ≡ add_one base i p → no m ≡ add_from base (end - i) i p
+    from_stop m q = ap (λ (x : Res (List TrainIdx)). x >>= λ r. add_from base (end - (i + 1)) (i + 1) r) q ∙ sym (step h)
 
-    pub from-turn : c ≡ 0 → add_from base (end - (i + 1)) (i + 1) a ≡ add_from base (end - i) i p
-    from-turn z = bind_go c a (λ r. add_from base (end - (i + 1)) (i + 1) r) q z ∙ sym (step h)
+    pub from-turn : (a : List TrainIdx) → ok a ≡ add_one base i p → add_from base (end - (i + 1)) (i + 1) a ≡ add_from base (end - i) i p
+    from-turn a q = ap (λ (x : Res (List TrainIdx)). x >>= λ r. add_from base (end - (i + 1)) (i + 1) r) q ∙ sym (step h)
 
 -- ---- the copy
-pub copy_turn : (arr : List ℕ) (l : List TrainIdx) (n a j : ℕ) → length l ≡ n → a + j < n → n + j < length arr
-    → take (n + j) (trains arr) ≡ l ++ take j (drop a l) → take (n + (j + 1)) (trains (set arr (n + j) (get_or arr (a + j) 0))) ≡ l ++ take (j + 1) (drop a l)
-copy_turn arr l n a j e h m q =
-    let k : n + (j + 1) ≡ n + j + 1 = omega arith in
-    rw (k, trains-set arr (n + j) (get_or arr (a + j) 0), ← trains-at arr (a + j)) (copy_more (trains arr) l n a j no_train e h (omega (arith, trains-length arr)) q)
+pub copied : (arr : List ℕ) (len a e : ℕ) → a ≤ e → e ≤ len → len + (e - a) ≤ length arr
+    → take (len + (e - a)) (trains (copy_within arr a e len)) ≡ take len (trains arr) ++ part a e (take len (trains arr))
+copied arr len a e h m r =
+    take-map tr (len + (e - a)) (copy_within arr a e len)
+    ∙ ap trains (take-paste arr len (drop a arr) (e - a) (omega arith) (omega (arith, length-drop a arr)))
+    ∙ sym (append-map tr (take len arr) (part a e arr))
+    ∙ ap₂ ◌++◌ (sym (take-map tr len arr)) (part_trains a e arr ∙ sym (part-take (trains arr) len a e m))
 
 -- ---- add_blocking_trains: its refusals in order, and the way through
 module _ (arr : List ℕ) (len : ℕ) (base add : TrainIdxsView) (l : length arr ≡ 2048) (m : len ≤ 2048) where
@@ -154,12 +178,14 @@ module _ (arr : List ℕ) (len : ℕ) (base add : TrainIdxsView) (l : length arr
           unfolding add_blocking_trains pool_push
           through = rw (le-leb base.idx_begin base.idx_end o, has_len, same, le-leb add.idx_begin add.idx_end o₃, le-leb (len + 1) 2048 (omega arith), trains-set arr len 0, push (trains arr) len no_train (omega (arith, trains-length arr)))
 
-          module _ (c : ℕ) (a : List TrainIdx) (q : answer c a ≡ add_from base (add.idx_end - add.idx_begin) add.idx_begin (take (len + 1) (trains (set arr len 0)))) where
-            pub block_stop : (c ≡ 0 → ⊥) → (b : Pooled) → answer c b ≡ add_blocking_trains (take len (trains arr)) base add
-            block_stop z b = bind_stop c a (closed base) q z b ∙ sym through
+          abbrev added : Res (List TrainIdx)
+          added = add_from base (add.idx_end - add.idx_begin) add.idx_begin (take (len + 1) (trains (set arr len 0)))
 
-            pub block_go : c ≡ 0 → closed base a ≡ add_blocking_trains (take len (trains arr)) base add
-            block_go z = bind_go c a (closed base) q z ∙ sym through
+          pub block_stop : (n : ℕ) → no n ≡ added → no n ≡ add_blocking_trains (take len (trains arr)) base add
+          block_stop n q = ap (λ (x : Res (List TrainIdx)). x >>= closed base) q ∙ sym through
+
+          pub block_go : (a : List TrainIdx) → ok a ≡ added → closed base a ≡ add_blocking_trains (take len (trains arr)) base add
+          block_go a q = ap (λ (x : Res (List TrainIdx)). x >>= closed base) q ∙ sym through
 
 -- ---- add_all_blocking_trains
 module _ (arr : List ℕ) (len : ℕ) (large small : TrainIdxsView) (l : length arr ≡ 2048) (m : len ≤ 2048) where
@@ -188,13 +214,12 @@ module _ (arr : List ℕ) (len : ℕ) (large small : TrainIdxsView) (l : length 
         unfolding add_all_blocking_trains slice
         all_full h = rw (le-leb small.idx_begin small.idx_end o, le-leb large.idx_begin large.idx_end o₂, all_len, le-leb large.idx_end len (omega arith), ts_len, lt-leb (len + (large.idx_end - large.idx_begin)) 2048 h)
 
-        pub all_go : len + (large.idx_end - large.idx_begin) ≤ 2048 → (p : List TrainIdx) → p ≡ take len (trains arr) ++ part large.idx_begin (large.idx_begin + (large.idx_end - large.idx_begin)) (take len (trains arr))
+        pub all_go : len + (large.idx_end - large.idx_begin) ≤ 2048 → (p : List TrainIdx) → p ≡ take len (trains arr) ++ part large.idx_begin large.idx_end (take len (trains arr))
             → add_blocking_trains p (view len (len + (large.idx_end - large.idx_begin))) small ≡ add_all_blocking_trains (take len (trains arr)) large small
         unfolding add_all_blocking_trains slice
         all_go h p q =
-            let k : large.idx_begin + (large.idx_end - large.idx_begin) ≡ large.idx_end = omega arith in
             let z : len + (large.idx_end - large.idx_begin) - (large.idx_end - large.idx_begin) ≡ len = omega arith in
-            rw (q, k, le-leb small.idx_begin small.idx_end o, le-leb large.idx_begin large.idx_end o₂, all_len, le-leb large.idx_end len (omega arith), length-append, all_len, ts_len, le-leb (len + (large.idx_end - large.idx_begin)) 2048 h, z)
+            rw (q, le-leb small.idx_begin small.idx_end o, le-leb large.idx_begin large.idx_end o₂, all_len, le-leb large.idx_end len (omega arith), length-append, all_len, ts_len, le-leb (len + (large.idx_end - large.idx_begin)) 2048 h, z)
 
 -- ---- concat_train_idx_views
 module _ (arr : List ℕ) (len : ℕ) (v w : TrainIdxsView) (l : length arr ≡ 2048) (m : len ≤ 2048) where

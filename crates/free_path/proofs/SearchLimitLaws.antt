@@ -1,13 +1,10 @@
 -- Whichever maximum is meant, a comparison by `<` reads it the same. Assumes nothing.
-use Rattle.std.proofs.Common.{◌≡◌, ℕ, zero, suc, ◌+◌, ◌*◌, ◌/◌, ◌%◌, ◌<◌, ◌≤◌, Bool, true, false, cond, T, eqb, ltb, leb, ◌⊎◌, sym, refl, ap, ◌∙◌, inl, inr, true≢false, mul-pos, zero-mul, arith, ltb-false, ltb-true, le-ltb, lt-ltb, le-leb}
+use Rattle.std.proofs.Common.{◌≡◌, ℕ, zero, suc, ◌+◌, ◌*◌, ◌<◌, ◌≤◌, Bool, true, false, cond, ltb, ◌⊎◌, sym, refl, inl, inr, true≢false, mul-pos, zero-mul, arith, ltb-false, ltb-true, le-ltb, lt-ltb}
 use mathlib.Core.Bool.{false≢true}
-use lib.Ieee.{Float, nan, inf, fin, up, down, below, lt, ne, is_nan, binary64, prec, low, ones, hid, top, odd, of_fields, of_bits, to_bits, fits}
-use lib.Ieee.Bits.{of_bits-to_bits}
+use lib.Ieee.{Float, nan, inf, fin, up, down, below, lt, is_nan}
+use Rattle.std.specs.Float.{is_sign_negative}
 use lib.Ieee.Fits.{down_pos}
 use lib.Ieee.Order.{transfer}
-use lib.Ieee.Compare.{differs_from_itself}
-use borrow.Author.Tests.{lt-leb}
-use Rattle.disp_structs.specs.Floats.{bits_of}
 use Rattle.free_path.specs.SearchLimit.{is_minus, larger, maximum, maximum_number, MaxOf}
 
 -- ---- products
@@ -153,72 +150,10 @@ module _ (a b : Float) (p : is_nan a ≡ false) (q : is_nan b ≡ false) where
       go false h true k = rw (f.first k, g.first k)
       go false h false k = pick h k f.either g.either
 
--- ---- as the code tests
+-- ---- std's word for the sign
 
-pub nan_is : (a : Float) → ne a a ≡ true → is_nan a ≡ true
-unfolding ne is_nan
-nan_is nan h = refl
-nan_is (inf s) h = ap is_nan (differs_from_itself (inf s) (rw h tt))
-nan_is (fin s m e) h = ap is_nan (differs_from_itself (fin s m e) (rw h tt))
-
-pub number_is : (a : Float) → ne a a ≡ false → is_nan a ≡ false
-unfolding ne is_nan
-number_is nan h = absurd (true≢false h)
-number_is (inf s) h = refl
-number_is (fin s m e) h = refl
-
-minus_odd : (d : ℕ) (s : Bool) (q k l : ℕ) → is_minus (odd d s q k l) ≡ s
-unfolding odd
-minus_odd d s zero k l = refl
-minus_odd d s (suc q) k l = refl
-
-minus_fields : (s : Bool) (x t : ℕ) → is_nan (of_fields binary64 s x t) ≡ false → is_minus (of_fields binary64 s x t) ≡ s
-unfolding of_fields is_nan
-minus_fields s zero t n = minus_odd (prec binary64) s t 0 (low binary64)
-minus_fields s (suc x) t n = go (eqb (suc x) (ones binary64)) (eqb t 0) n
-  where
-    go : (u v : Bool) → is_nan (cond u (cond v (inf s) nan) (odd (prec binary64) s (hid binary64 + t) x (low binary64))) ≡ false
-        → is_minus (cond u (cond v (inf s) nan) (odd (prec binary64) s (hid binary64 + t) x (low binary64))) ≡ s
-    go true true n = refl
-    go true false n = absurd (true≢false n)
-    go false v n = minus_odd (prec binary64) s (hid binary64 + t) x (low binary64)
-
--- the sign of a number is the highest bit of its pattern
-pub minus-high : (x : Float) → T (fits binary64 x) → ne x x ≡ false → is_minus x ≡ leb 0x8000_0000_0000_0000 (bits_of x)
-unfolding bits_of of_bits
-minus-high x f h =
-    let b = to_bits binary64 x in
-    let back = of_bits-to_bits binary64 x f in
-    let n : is_nan (of_bits binary64 b) ≡ false = ap is_nan back ∙ number_is x h in
-    rw h (ap is_minus (sym back) ∙ minus_fields (leb (top binary64) b) (b % top binary64 / hid binary64) (b % hid binary64) n)
-
-module _ (a b : Float) where
-  pub first_nan : ne a a ≡ true → b ≡ maximum_number a b
-  unfolding maximum_number
-  first_nan h = rw (nan_is a h)
-
-  module _ (h : ne a a ≡ false) where
-    pub second_nan : ne b b ≡ true → a ≡ maximum_number a b
-    unfolding maximum_number
-    second_nan k = rw (number_is a h, nan_is b k)
-
-    module _ (k : ne b b ≡ false) where
-      pub second-larger : lt a b ≡ true → b ≡ maximum_number a b
-      unfolding maximum_number
-      second-larger l = rw (number_is a h, number_is b k, l)
-
-      pub first-larger : lt a b ≡ false → lt b a ≡ true → a ≡ maximum_number a b
-      unfolding maximum_number
-      first-larger l m = rw (number_is a h, number_is b k, l, m)
-
-      -- of two that are equal
-      module _ (f : T (fits binary64 a)) (l : lt a b ≡ false) (m : lt b a ≡ false) where
-        by_sign : cond (leb 0x8000_0000_0000_0000 (bits_of a)) b a ≡ maximum_number a b
-        unfolding maximum_number
-        by_sign = rw (number_is a h, number_is b k, l, m, minus-high a f h)
-
-        pub plus-first : bits_of a < 0x8000_0000_0000_0000 → a ≡ maximum_number a b
-        plus-first s = rw (lt-leb 0x8000_0000_0000_0000 (bits_of a) s) at by_sign
-
-        pub minus-second : 0x8000_0000_0000_0000 ≤ bits_of a → b ≡ maximum_number a b
-        minus-second s = rw (le-leb 0x8000_0000_0000_0000 (bits_of a) s) at by_sign
+pub minus-is : (x : Float) → is_minus x ≡ is_sign_negative x
+unfolding is_sign_negative
+minus-is nan = refl
+minus-is (inf s) = refl
+minus-is (fin s m e) = refl

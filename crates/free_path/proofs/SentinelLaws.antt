@@ -1,18 +1,18 @@
 -- calc_idx_sentinels and find_train_intersect over columns, test by test as the code has them. Assumes nothing.
-use Rattle.std.proofs.Common.{◌≡◌, ℕ, zero, suc, ◌+◌, ◌-◌, ◌<◌, ◌≤◌, Bool, true, false, not, eqb, List, length, get_or, sym, refl, ap, ◌∙◌, arith, le-ltb, lt-ltb, eq-eqb, ne_eqb, le-leb}
+use Rattle.std.proofs.Common.{◌≡◌, ℕ, zero, suc, ◌+◌, ◌-◌, ◌<◌, ◌≤◌, true, false, not, eqb, List, length, get_or, sym, refl, ap, ◌∙◌, arith, le-ltb, lt-ltb, eq-eqb, ne_eqb, le-leb}
 use borrow.Author.Tests.{lt-leb}
-use Rattle.link_rules.specs.LinkIdx.{no_link, no_train, entry_at}
+use Rattle.link_rules.specs.LinkIdx.{same_train, no_link, no_train, entry_at}
 use Rattle.link_rules.specs.declared.link_idx.LinkIdx.{LinkIdx}
 use Rattle.link_rules.specs.declared.link_idx.TrainIdx.{TrainIdx}
 use Rattle.disp_structs.specs.declared.DivergeNode.{DivergeNode}
-use Rattle.free_path.specs.Base.{ok, no, ◌>>=◌, at, last, walk_from}
+use Rattle.free_path.specs.Base.{Res, ok, no, ◌>>=◌, at, last, walk_from}
 use Rattle.free_path.specs.LinkOptType.{after_sentinel, calc_idx_sentinels, is_none, intersect, find_train_intersect, train_met}
 use Rattle.free_path.specs.declared.link_opt_type.LinkOptType.{LinkOptType}
-use Rattle.free_path.specs.Columns.{entries, link_at, div_at, ended}
+use Rattle.free_path.specs.declared.link_opt_type.LinkOptType.TheVariants.{None, Single, Range, Check}
+use Rattle.free_path.specs.Columns.{link_at, div_at}
 use Rattle.disp_structs.specs.Listed.{listed}
-use Rattle.free_path.proofs.MapLaws.{walk_from-map}
 use Rattle.free_path.proofs.ColumnLaws.{listed_read, listed-last}
-use Rattle.disp_structs.proofs.ListedLaws.{listed-length, listed_at, listed-map}
+use Rattle.disp_structs.proofs.ListedLaws.{listed-length, listed_at}
 
 module _ (i n : ℕ) (moved : TrainIdx) (ts ns : List ℕ) where
   abbrev divs : List DivergeNode
@@ -20,12 +20,6 @@ module _ (i n : ℕ) (moved : TrainIdx) (ts ns : List ℕ) where
 
   long : length divs ≡ n
   long = listed-length n (div_at ts ns)
-
-  by_train : (p : ℕ → Bool) (j : ℕ) → walk_from (λ (d : DivergeNode). p d.train_idx.0) divs j ≡ walk_from p (entries n ts) j
-  by_train p j = sym (walk_from-map (λ (d : DivergeNode). d.train_idx.0) (λ d. p d.train_idx.0) p (λ d. refl) divs j) ∙ ap (λ l. walk_from p l j) (listed-map (λ (d : DivergeNode). d.train_idx.0) n (div_at ts ns))
-
-  by_node : (p : ℕ → Bool) (j : ℕ) → walk_from (λ (d : DivergeNode). p d.disp_node_idx) divs j ≡ walk_from p (entries n ns) j
-  by_node p j = sym (walk_from-map (λ (d : DivergeNode). d.disp_node_idx) (λ d. p d.disp_node_idx) p (λ d. refl) divs j) ∙ ap (λ l. walk_from p l j) (listed-map (λ (d : DivergeNode). d.disp_node_idx) n (div_at ts ns))
 
   pub sentinel_past : n ≤ i → no 13 ≡ calc_idx_sentinels i moved divs
   unfolding calc_idx_sentinels
@@ -44,30 +38,42 @@ module _ (i n : ℕ) (moved : TrainIdx) (ts ns : List ℕ) where
       unfolding calc_idx_sentinels
       sentinel-other d = rw (last-is, lt-ltb i (length divs) (omega (arith, long)), ← qt, ne_eqb t moved.0 d)
 
-      module _ (e : t ≡ moved.0) (j : ℕ) (w : ended n j ≡ walk_from (λ y. eqb y moved.0) (entries n ts) i) where
-        through : calc_idx_sentinels i moved divs ≡ (ended n j >>= λ k. at divs k >>= λ d. after_sentinel divs (k + 1) d.disp_node_idx)
+      module _ (e : t ≡ moved.0) where
+        abbrev first : Res ℕ
+        first = walk_from (λ (d : DivergeNode). same_train d.train_idx moved) divs i
+
+        through : calc_idx_sentinels i moved divs ≡ (first >>= λ k. at divs k >>= λ d. after_sentinel divs (k + 1) d.disp_node_idx)
         unfolding calc_idx_sentinels
-        through = rw (last-is, lt-ltb i (length divs) (omega (arith, long)), ← qt, eq-eqb t moved.0 e) (ap (λ m. m >>= λ k. at divs k >>= λ d. after_sentinel divs (k + 1) d.disp_node_idx) (by_train (λ y. eqb y moved.0) i ∙ sym w))
+        through = rw (last-is, lt-ltb i (length divs) (omega (arith, long)), ← qt, eq-eqb t moved.0 e)
 
-        pub sentinel-none : n ≤ j → no 13 ≡ calc_idx_sentinels i moved divs
-        sentinel-none m = rw (through, le-ltb j n m)
+        pub sentinel-none : (m : ℕ) → no m ≡ first → no m ≡ calc_idx_sentinels i moved divs
+        sentinel-none m q = ap (λ (r : Res ℕ). r >>= λ k. at divs k >>= λ d. after_sentinel divs (k + 1) d.disp_node_idx) q ∙ sym through
 
-        module _ (m : j < n) (x : ℕ) (qx : x ≡ get_or ns j 0) where
+        module _ (j : ℕ) (w : ok j ≡ first) (m : j < n) (x : ℕ) (qx : x ≡ get_or ns j 0) where
           found : calc_idx_sentinels i moved divs ≡ after_sentinel divs (j + 1) x
-          found = rw (through, lt-ltb j n m, listed_read n (div_at ts ns) j m, qx)
+          found = rw (through, ← w, listed_read n (div_at ts ns) j m, qx)
 
           pub sentinel-last : n ≤ j + 1 → ok (record { node = x; divs = j + 1 }) ≡ calc_idx_sentinels i moved divs
           sentinel-last o = rw (found, long, le-ltb (j + 1) n o)
 
-          module _ (o : j + 1 < n) (k : ℕ) (v : ended n k ≡ walk_from (λ y. not (eqb y x)) (entries n ns) (j + 1)) where
-            after : calc_idx_sentinels i moved divs ≡ (ended n k >>= λ z. ok (record { node = x; divs = z }))
-            after = rw (found, long, lt-ltb (j + 1) n o) (ap (λ r. r >>= λ z. ok (record { node = x; divs = z })) (by_node (λ y. not (eqb y x)) (j + 1) ∙ sym v))
+          module _ (o : j + 1 < n) where
+            abbrev next : Res ℕ
+            next = walk_from (λ (d : DivergeNode). not (eqb d.disp_node_idx x)) divs (j + 1)
 
-            pub sentinel-off : n ≤ k → no 13 ≡ calc_idx_sentinels i moved divs
-            sentinel-off u = rw (after, le-ltb k n u)
+            after : calc_idx_sentinels i moved divs ≡ (next >>= λ z. ok (record { node = x; divs = z }))
+            after = rw (found, long, lt-ltb (j + 1) n o)
 
-            pub sentinel_on : k < n → ok (record { node = x; divs = k }) ≡ calc_idx_sentinels i moved divs
-            sentinel_on u = rw (after, lt-ltb k n u)
+            pub sentinel-off : (k : ℕ) → no k ≡ next → no k ≡ calc_idx_sentinels i moved divs
+            sentinel-off k v = ap (λ (r : Res ℕ). r >>= λ z. ok (record { node = x; divs = z })) v ∙ sym after
+
+            pub sentinel_on : (k : ℕ) → ok k ≡ next → ok (record { node = x; divs = k }) ≡ calc_idx_sentinels i moved divs
+            sentinel_on k v = ap (λ (r : Res ℕ). r >>= λ z. ok (record { node = x; divs = z })) v ∙ sym after
+
+pub not_none : (class : LinkOptType) → (class ≡ None → ⊥) → is_none class ≡ false
+not_none None h = absurd (h refl)
+not_none (Single l) h = refl
+not_none (Range a b) h = refl
+not_none Check h = refl
 
 -- the train met at an index
 module _ (i sentinel : ℕ) (col : List ℕ) (n : ℕ) (occ : List ℕ) where

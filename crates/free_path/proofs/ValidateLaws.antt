@@ -1,5 +1,6 @@
 -- Strays and the errors of a path. Assumes nothing.
-use Rattle.std.proofs.Common.{◌≡◌, ℕ, zero, suc, ◌+◌, ◌-◌, ◌<◌, ◌≤◌, Bool, true, false, cond, not, ◌&&◌, ◌||◌, eqb, List, [], ◌∷◌, length, get_or, drop, refl, ap, ◌∙◌, arith, length-drop, drop-cons, eq-eqb, ne_eqb}
+use mir.Val.{bool_byte}
+use Rattle.std.proofs.Common.{◌≡◌, ℕ, zero, suc, ◌+◌, ◌-◌, ◌<◌, ◌≤◌, Bool, true, false, cond, not, ◌&&◌, ◌||◌, List, [], ◌∷◌, length, get_or, drop, refl, ap, ◌∙◌, arith, length-drop, drop-cons, eq-eqb}
 use Rattle.link_rules.specs.LinkIdx.{same_link, no_link, occupied}
 use Rattle.link_rules.specs.declared.link_idx.LinkIdx.{LinkIdx}
 use Rattle.disp_structs.specs.Values.{same_est, is_arrive, arriving}
@@ -9,7 +10,7 @@ use Rattle.free_path.specs.Base.{ok, no, ◌>>=◌, at, count, any}
 use Rattle.free_path.specs.LinkOptType.{link_idx_path}
 use Rattle.free_path.proofs.ListLaws.{All, all_drop}
 use Rattle.free_path.proofs.MapLaws.{drop-map}
-use Rattle.free_path.specs.Validate.{is_stray, stray_link, in_conflict, steps_next, on_path, strays, bad_step, bad_steps, bad_path}
+use Rattle.free_path.specs.Validate.{is_stray, stray_link, in_conflict, on_path, strays, bad_step, bad_steps, bad_path}
 
 ok-is : {A : Type 0} (a b : A) → ok a ≡ ok b → a ≡ b
 ok-is a b h = cc
@@ -17,13 +18,17 @@ ok-is a b h = cc
 no≢ok : {A : Type 0} (k : ℕ) (a : A) → no k ≡ ok a → ⊥
 no≢ok k a h = let z : ◌≡◌ {A = ℕ} 0 1 = cc in omega arith
 
+pub byte_is : (t : Bool) → bool_byte t ≡ cond t 1 0
+byte_is true = refl
+byte_is false = refl
+
 pub one_more : (t : Bool) → cond t 1 0 ≤ 1
 one_more true = omega arith
 one_more false = omega arith
 
-pub next_by_alt : (a b : DispNode) (x y : EstTime) → x.idx_next.0 ≡ b.est_idx.0 → (y.idx_prev.0 ≡ a.est_idx.0 → ⊥) → eqb y.idx_prev_alt.0 a.est_idx.0 ≡ steps_next a b x y
-unfolding steps_next
-next_by_alt a b x y h k = rw (eq-eqb x.idx_next.0 b.est_idx.0 h, ne_eqb y.idx_prev.0 a.est_idx.0 k)
+-- one more by a test's answer as a number
+pub more_by : {A : Type 0} (p : A → Bool) {k : ℕ} (t : Bool) (l m : A) → k ≡ bool_byte t → t ≡ p l → l ≡ m → k ≡ cond (p m) 1 0
+more_by p t l m e q h = e ∙ byte_is t ∙ ap (λ (v : Bool). cond v 1 0) (q ∙ ap p h)
 
 -- ---- an entry of link_idx_path shows a stray, and a conflict: an Arrive node has a link (refusal 7)
 

@@ -1,14 +1,16 @@
 -- Arrays of numbers that a function is lent, as the lists of values that they hold. Assumes nothing.
-use Rattle.std.specs.Prelude.{◌≡◌, ℕ, zero, suc, ◌≤◌, Bool, cond, not, ◌&&◌, List, [], ◌∷◌, map, length, take, ◌==◌, nat_le, nat_lt, slice_index, slice_set}
+use Rattle.std.specs.Prelude.{◌≡◌, ℕ, zero, suc, ◌≤◌, Bool, cond, not, ◌&&◌, List, [], ◌∷◌, map, length, take, ◌==◌, nat_le, slice_index, slice_set, Result, IfOk}
 use Rattle.link_rules.specs.LinkIdx.{same_link, no_link}
 use Rattle.link_rules.specs.declared.link_idx.LinkIdx.{LinkIdx}
 use Rattle.link_rules.specs.declared.link_idx.TrainIdx.{TrainIdx}
-use Rattle.disp_structs.specs.Listed.{listed}
 use Rattle.disp_structs.specs.declared.DivergeNode.{DivergeNode}
 use Rattle.disp_structs.specs.declared.TrainIdxsView.{TrainIdxsView}
 use Rattle.free_path.specs.Base.{Res, ok, no, ◌>>=◌, ◌>>◌, need}
 use Rattle.free_path.specs.TrainIdxsView.{pool_room, Pooled, concat_train_idx_views}
-use Rattle.free_path.specs.declared.train_idxs_view.Grown.{Grown}
+use Rattle.free_path.specs.Halts.{answered_by}
+use Rattle.free_path.specs.LinkOptType.{Sentinels}
+use Rattle.free_path.specs.declared.halt.Halt.{Halt}
+use Rattle.free_path.specs.declared.link_opt_type.IdxSentinels.{IdxSentinels}
 use Rattle.free_path.specs.declared.train_idxs_view.Union.{Union}
 
 -- a refusal's number, or 0 and the answer
@@ -37,17 +39,21 @@ pool_of arr len = need (length arr == pool_room && nat_le len pool_room) >> ok (
 unfoldable pub concat_in : List ℕ → ℕ → TrainIdxsView → TrainIdxsView → Res Pooled
 concat_in arr len v w = pool_of arr len >>= λ pool. concat_train_idx_views pool v w
 
+-- the pool and the view of a union, the pool being in an array
+abbrev pub pooled : List ℕ → Union → Pooled
+pooled arr u = record { pool = take u.len (trains arr); made = u.view }
+
 -- a pool of count len in an array grew as r says, to d
-abbrev pub Grows : Grown → ℕ → List ℕ → Res (List TrainIdx) → Type 0
-Grows r len arr d = (answer r.code (take r.len (trains arr)) ≡ d) × (len ≤ r.len) × (r.len ≤ 2048) × (length arr ≡ 2048)
+abbrev pub Grows : Result ℕ Halt → ℕ → List ℕ → Res (List TrainIdx) → Type 0
+Grows r len arr d = (answered_by (λ n. take n (trains arr)) r ≡ d) × IfOk r (λ n. (len ≤ n) × (n ≤ 2048)) × (length arr ≡ 2048)
 
 -- a pool in an array and the view of a union, as r says, are d
-abbrev pub Makes : Union → List ℕ → Res Pooled → Type 0
-Makes r arr d = (answer r.code (record { pool = take r.len (trains arr); made = r.view }) ≡ d) × (r.len ≤ 2048) × (length arr ≡ 2048)
+abbrev pub Makes : Result Union Halt → List ℕ → Res Pooled → Type 0
+Makes r arr d = (answered_by (pooled arr) r ≡ d) × IfOk r (λ u. u.len ≤ 2048) × (length arr ≡ 2048)
 
--- a column of numbers, read past its end as 0
-abbrev pub entries : ℕ → List ℕ → List ℕ
-entries n col = listed n (λ i. slice_index col i)
+-- the sentinels, as the code has them
+abbrev pub sentinels : IdxSentinels → Sentinels
+sentinels z = record { node = z.node; divs = z.divs }
 
 -- a column of links, read past its end as 0
 abbrev pub link_at : List ℕ → ℕ → LinkIdx
@@ -73,7 +79,3 @@ flag_links (l ∷ ls) flags = flag_links ls (flag_link l flags)
 unfoldable pub kept : (LinkIdx → Bool) → List LinkIdx → List LinkIdx
 kept p [] = []
 kept p (l ∷ ls) = cond (p l) (l ∷ kept p ls) (kept p ls)
-
--- where a walk over n entries ended: past them it found none
-abbrev pub ended : ℕ → ℕ → Res ℕ
-ended n i = cond (nat_lt i n) (ok i) (no 13)

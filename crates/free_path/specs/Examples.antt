@@ -3,7 +3,7 @@ use Rattle.std.specs.Prelude.{◌≡◌, ℕ, ◌+◌, ◌*◌, ◌/◌, ◌%◌
 use Rattle.std.specs.Float.{binary64}
 use Rattle.link_rules.specs.LinkIdx.{no_train}
 use Rattle.link_rules.specs.AdvanceRewind.{marked, mark_of}
-use Rattle.link_rules.specs.declared.refusal.Answer.TheVariants.{Done}
+use Rattle.link_rules.specs.Refusals.{Done}
 use Rattle.disp_structs.specs.Floats.{near_float}
 use Rattle.disp_structs.specs.Values.{view}
 use Rattle.disp_structs.specs.declared.TrainIdxsView.{TrainIdxsView}

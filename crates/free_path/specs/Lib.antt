@@ -1,4 +1,5 @@
 pub mod Base
+pub mod Halts
 pub mod LinkOptType
 pub mod TrainIdxsView
 pub mod Validate

@@ -28,6 +28,6 @@ pub record MaxOf (a b m : Float) : Type 0 where
   pub first : lt b a ≡ true → m ≡ a
   pub either : (m ≡ a) ⊎ (m ≡ b)
 
--- offset_cancel (316-320): the definition takes maximum_number; SearchLimitLaws.limit-read: any of them reads the same
+-- offset_cancel (316-320): the definition takes maximum_number; SearchLimitLaws.limit_read: any of them reads the same
 abbrev pub offset_cancel_of : Bool → Metres → Metres → Metres → Metres
 offset_cancel_of local lowest offset search = cond local (record { 0 = maximum_number lowest.0 (minus offset search).0 }) lowest

@@ -1,5 +1,5 @@
 // Readers over arrays of numbers that a caller lends. What stands past an array's end reads as 0.
-ghost use Rattle.std.specs.Prelude.{◌≡◌, length, if◌then◌else◌, slice_index};
+ghost use Rattle.std.specs.Prelude.{◌≡◌, length, slice_index};
 ghost use Rattle.link_rules.specs.LinkIdx.{occupied};
 ghost use Rattle.free_path.specs.Columns.{links, link_at, flagged, flag_link, flag_links, kept};
 ghost use Rattle.disp_structs.specs.Listed.{listed};
@@ -9,33 +9,24 @@ use link_rules::link_idx::LinkIdx;
 pub fn u32_of(col: &[u32], i: usize) -> u32
     ensures { result ≡ slice_index col.now i }
 {
-    if col.len() <= i {
-        return 0;
-    }
-    col[i]
+    if i < col.len() { col[i] } else { 0 }
 }
 
 pub(crate) fn link_of(col: &[u32], i: usize) -> LinkIdx
     ensures { result ≡ link_at col.now i }
 {
-    if col.len() <= i {
-        return LinkIdx(0);
-    }
-    LinkIdx(col[i])
+    LinkIdx(u32_of(col, i))
 }
 
 // The entries of a column of u16 go into one of u32 that has as many.
 pub fn widen(from: &[u16], to: &mut [u32])
     ensures { length to.old ≡ length from.now → to.new ≡ from.now }
 {
-    let n = from.len();
-    if to.len() != n {
+    if to.len() != from.len() {
         return;
     }
-    let mut i = 0;
-    while i < n {
-        to[i] = from[i] as u32;
-        i += 1;
+    for (i, x) in from.iter().enumerate() {
+        to[i] = u32::from(*x);
     }
 }
 
@@ -51,10 +42,7 @@ pub(crate) fn is_flagged(flags: &[u8], l: LinkIdx) -> bool
     ensures { result ≡ flagged flags.now l }
 {
     let i = l.0 as usize;
-    if flags.len() <= i {
-        return false;
-    }
-    flags[i] != 0
+    i < flags.len() && flags[i] != 0
 }
 
 // The link goes into the set.
@@ -62,34 +50,17 @@ fn flag_link(flags: &mut [u8], l: LinkIdx)
     ensures { flags.new ≡ flag_link l flags.old }
 {
     let i = l.0 as usize;
-    if i == 0 {
-        return;
+    if i != 0 && i < flags.len() {
+        flags[i] = 1;
     }
-    if flags.len() <= i {
-        return;
-    }
-    flags[i] = 1;
 }
 
 // The n links of a column go into the set: links_on_path from link_idx_path.
 pub fn flag_links(flags: &mut [u8], col: &[u32], n: usize)
     ensures { flags.new ≡ flag_links (listed n (link_at col.now)) flags.old }
 {
-    let mut i = 0;
-    while i < n {
-        let l = link_of(col, i);
-        flag_link(flags, l);
-        i += 1;
-    }
-}
-
-// The link goes into the set, if it is in the other one.
-fn flag_if(flags: &mut [u8], on: &[u8], l: LinkIdx)
-    ensures { flags.new ≡ (if flagged on.now l then flag_link l flags.old else flags.old) }
-{
-    if is_flagged(on, l) {
-        flag_link(flags, l);
-        return;
+    for i in 0..n {
+        flag_link(flags, link_of(col, i));
     }
 }
 
@@ -97,10 +68,10 @@ fn flag_if(flags: &mut [u8], on: &[u8], l: LinkIdx)
 pub fn flag_known(flags: &mut [u8], blocking: &[u32], on: &[u8])
     ensures { flags.new ≡ flag_links (kept (flagged on.now) (links blocking.now)) flags.old }
 {
-    let mut i = 0;
-    while i < blocking.len() {
-        let l = link_of(blocking, i);
-        flag_if(flags, on, l);
-        i += 1;
+    for x in blocking {
+        let l = LinkIdx(*x);
+        if is_flagged(on, l) {
+            flag_link(flags, l);
+        }
     }
 }

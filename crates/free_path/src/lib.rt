@@ -4,6 +4,7 @@
 #![tactic(auto)]
 
 pub mod columns;
+pub mod halt;
 pub mod link_opt_type;
 pub mod search_limit;
 pub mod strays;

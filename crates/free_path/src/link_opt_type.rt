@@ -1,13 +1,13 @@
 // The class of the blocking list (LinkOptType), the sentinels, and the search for the first intersection.
-ghost use Rattle.std.specs.Prelude.{◌≡◌, ◌-◌, ◌≤◌, not, if◌then◌else◌, ◌==◌, nat_eq, nat_le};
-ghost use Rattle.free_path.specs.Base.{walk_from, ok};
-ghost use Rattle.free_path.specs.LinkOptType.{least, most, class_more, class_end, link_opt_type_of, calc_idx_sentinels, wrapping, in_range, stops, is_none, intersect, find_train_intersect, train_met};
-ghost use Rattle.free_path.specs.declared.link_opt_type.LinkOptType.TheVariants.{Range, Check};
-ghost use Rattle.free_path.specs.Columns.{answer, links, entries, link_at, div_at, flagged, ended};
+ghost use Rattle.std.specs.Prelude.{◌≡◌, ◌≤◌, IfOk};
+ghost use Rattle.free_path.specs.Base.{ok};
+ghost use Rattle.free_path.specs.LinkOptType.{class_more, class_end, link_opt_type_of, calc_idx_sentinels, in_range, stops, intersect, find_train_intersect, train_met};
+ghost use Rattle.free_path.specs.Halts.{answered_by};
+ghost use Rattle.free_path.specs.Columns.{sentinels, links, link_at, div_at, flagged};
 ghost use Rattle.disp_structs.specs.Listed.{listed};
-ghost use Rattle.link_rules.specs.LinkIdx.{no_train};
 
 use crate::columns;
+use crate::halt::Halt;
 use link_rules::link_idx::{LinkIdx, TrainIdx};
 
 // Range holds the smallest link number and the span.
@@ -19,35 +19,14 @@ pub enum LinkOptType {
     Check,
 }
 
-fn least_of(a: u32, b: u32) -> u32
-    ensures { result ≡ least a b }
-{
-    if a <= b { a } else { b }
-}
-
-fn most_of(a: u32, b: u32) -> u32
-    ensures { result ≡ most a b }
-{
-    if a <= b { b } else { a }
-}
-
-fn span_of(a: u32, b: u32) -> u32
-    ensures { result ≡ b - a }
-{
-    if b < a {
-        return 0;
-    }
-    b - a
-}
-
 // One blocking link that is on the path.
 fn class_more(class: LinkOptType, l: LinkIdx) -> LinkOptType
     ensures { result ≡ class_more class l }
 {
     match class {
         LinkOptType::None => LinkOptType::Single(l),
-        LinkOptType::Single(p) => LinkOptType::Range(least_of(l.0, p.0), most_of(l.0, p.0)),
-        LinkOptType::Range(a, b) => LinkOptType::Range(least_of(l.0, a), most_of(l.0, b)),
+        LinkOptType::Single(p) => LinkOptType::Range(l.0.min(p.0), l.0.max(p.0)),
+        LinkOptType::Range(a, b) => LinkOptType::Range(l.0.min(a), l.0.max(b)),
         LinkOptType::Check => LinkOptType::Check,
     }
 }
@@ -57,31 +36,12 @@ fn class_end(class: LinkOptType) -> LinkOptType
     ensures { result ≡ class_end class }
 {
     match class {
-        LinkOptType::None => LinkOptType::None,
-        LinkOptType::Single(l) => LinkOptType::Single(l),
-        LinkOptType::Range(a, b) => range_or_check(a, b),
-        LinkOptType::Check => LinkOptType::Check,
+        LinkOptType::Range(a, b) if b.saturating_sub(a) <= 16 => {
+            LinkOptType::Range(a, b.saturating_sub(a))
+        }
+        LinkOptType::Range(a, b) => LinkOptType::Check,
+        _ => class,
     }
-}
-
-fn range_or_check(a: u32, b: u32) -> LinkOptType
-    ensures { result ≡ (if nat_le (b - a) 16 then Range a (b - a) else Check) }
-{
-    let span = span_of(a, b);
-    if span <= 16 {
-        return LinkOptType::Range(a, span);
-    }
-    LinkOptType::Check
-}
-
-// A blocking link, which counts where it is on the path.
-fn class_with(class: LinkOptType, on: &[u8], l: LinkIdx) -> LinkOptType
-    ensures { result ≡ (if flagged on.now l then class_more class l else class) }
-{
-    if columns::is_flagged(on, l) {
-        return class_more(class, l);
-    }
-    class
 }
 
 impl LinkOptType {
@@ -90,60 +50,21 @@ impl LinkOptType {
         ensures { result ≡ link_opt_type_of (links blocking.now) (flagged on.now) }
     {
         let mut class = LinkOptType::None;
-        let mut i = 0;
-        while i < blocking.len() {
-            let l = LinkIdx(blocking[i]);
-            class = class_with(class, on, l);
-            i += 1;
+        for x in blocking {
+            let l = LinkIdx(*x);
+            if columns::is_flagged(on, l) {
+                class = class_more(class, l);
+            }
         }
         class_end(class)
     }
 }
 
-// A refusal's number, or 0; idx_sentinel, and div_idx_sentinel.
+// idx_sentinel and div_idx_sentinel.
 #[derive(Clone, Copy)]
 pub struct IdxSentinels {
-    pub code: u32,
     pub node: usize,
     pub divs: usize,
-}
-
-// From i on the first of n entries that is x, else n or i.
-fn walk_to(col: &[u32], n: usize, i: usize, x: u32) -> usize
-    ensures { ended n result ≡ walk_from (λ y. nat_eq y x) (entries n col.now) i }
-{
-    let mut j = i;
-    while j < n {
-        if columns::u32_of(col, j) == x {
-            return j;
-        }
-        j += 1;
-    }
-    j
-}
-
-// From i on the first of n entries that is not x, else n or i.
-fn walk_past(col: &[u32], n: usize, i: usize, x: u32) -> usize
-    ensures { ended n result ≡ walk_from (λ y. not (y == x)) (entries n col.now) i }
-{
-    let mut j = i;
-    while j < n {
-        if columns::u32_of(col, j) != x {
-            return j;
-        }
-        j += 1;
-    }
-    j
-}
-
-fn no_sentinels() -> IdxSentinels
-    ensures { result ≡ record { code = 13; node = 0; divs = 0 } }
-{
-    IdxSentinels {
-        code: 13,
-        node: 0,
-        divs: 0,
-    }
 }
 
 // Over n diverge nodes in two columns.
@@ -153,50 +74,32 @@ pub fn calc_idx_sentinels(
     trains: &[u32],
     nodes: &[u32],
     n: usize,
-) -> IdxSentinels
-    ensures { answer result.code (record { node = result.node; divs = result.divs }) ≡ calc_idx_sentinels i moved (listed n (div_at trains.now nodes.now)) }
+) -> Result<IdxSentinels, Halt>
+    ensures { answered_by sentinels result ≡ calc_idx_sentinels i moved (listed n (div_at trains.now nodes.now)) }
 {
-    if n <= i {
-        return no_sentinels();
+    if n <= i || columns::u32_of(trains, n - 1) != moved.0 {
+        return Err(Halt::Panic);
     }
-    if columns::u32_of(trains, n - 1) != moved.0 {
-        return no_sentinels();
+    let j = (i..n)
+        .find(|j| columns::u32_of(trains, *j) == moved.0)
+        .ok_or(Halt::Panic)?;
+    let x = columns::u32_of(nodes, j);
+    let node = x as usize;
+    let next = j + 1;
+    if n <= next {
+        return Ok(IdxSentinels { node, divs: next });
     }
-    let j = walk_to(trains, n, i, moved.0);
-    if n <= j {
-        return no_sentinels();
-    }
-    let node = columns::u32_of(nodes, j);
-    if n <= j + 1 {
-        return IdxSentinels {
-            code: 0,
-            node: node as usize,
-            divs: j + 1,
-        };
-    }
-    let k = walk_past(nodes, n, j + 1, node);
-    if n <= k {
-        return no_sentinels();
-    }
-    IdxSentinels {
-        code: 0,
-        node: node as usize,
-        divs: k,
-    }
-}
-
-fn wrapping_sub(a: u32, b: u32) -> u32
-    ensures { result ≡ wrapping a b }
-{
-    std::num::wrapping_sub_u32(a, b)
+    let divs = (next..n)
+        .find(|k| columns::u32_of(nodes, *k) != x)
+        .ok_or(Halt::Panic)?;
+    Ok(IdxSentinels { node, divs })
 }
 
 // The difference from the smallest link, taken wrapping, is within the span: 0 falls outside every span above it.
 fn in_range(low: u32, span: u32, l: LinkIdx) -> bool
     ensures { result ≡ in_range low span l }
 {
-    let x = l.0;
-    wrapping_sub(x, low) <= span
+    l.0.wrapping_sub(low) <= span
 }
 
 // Does the walk stop at this link? At a Single it stops whether the link is taken or not.
@@ -206,20 +109,9 @@ fn stops_at(class: LinkOptType, occ: &[u32], l: LinkIdx) -> bool
     let taken = columns::is_occupied(occ, l);
     match class {
         LinkOptType::None => false,
-        LinkOptType::Single(c) => l.0 == c.0,
-        LinkOptType::Range(low, span) => in_range(low, span, l) & taken,
+        LinkOptType::Single(c) => l == c,
+        LinkOptType::Range(low, span) => in_range(low, span, l) && taken,
         LinkOptType::Check => taken,
-    }
-}
-
-fn is_none(class: LinkOptType) -> bool
-    ensures { result ≡ is_none class }
-{
-    match class {
-        LinkOptType::None => true,
-        LinkOptType::Single(l) => false,
-        LinkOptType::Range(a, b) => false,
-        LinkOptType::Check => false,
     }
 }
 
@@ -235,21 +127,14 @@ fn intersect_from(
     requires { (split ≤ sentinel) × (sentinel ≤ n) }
     ensures { result ≡ intersect split sentinel class (listed n (link_at col.now)) occ.now }
 {
-    let mut i = split;
-    while i < sentinel {
-        let l = columns::link_of(col, i);
-        if stops_at(class, occ, l) {
-            return i;
-        }
-        i += 1;
-    }
-    i
+    (split..sentinel)
+        .find(|i| stops_at(class, occ, columns::link_of(col, *i)))
+        .unwrap_or(sentinel)
 }
 
-// A refusal's number, or 0; the index, and the train met there.
+// The index, and the train met there.
 #[derive(Clone, Copy)]
 pub struct Intersection {
-    pub code: u32,
     pub idx: usize,
     pub met: TrainIdx,
 }
@@ -266,16 +151,6 @@ fn train_met(idx: usize, sentinel: usize, col: &[u32], n: usize, occ: &[u32]) ->
     TrainIdx(columns::u32_of(occ, l.0 as usize))
 }
 
-fn none_found() -> Intersection
-    ensures { result ≡ record { code = 13; idx = 0; met = no_train } }
-{
-    Intersection {
-        code: 13,
-        idx: 0,
-        met: TrainIdx(0),
-    }
-}
-
 // link_idx_path, without its ending sentinel, as n links of a column.
 pub fn find_train_intersect(
     split: usize,
@@ -284,27 +159,22 @@ pub fn find_train_intersect(
     col: &[u32],
     n: usize,
     occ: &[u32],
-) -> Intersection
-    ensures { (answer result.code result.idx ≡ find_train_intersect split sentinel class (listed n (link_at col.now)) occ.now)
-        × (result.met ≡ train_met sentinel (listed n (link_at col.now)) occ.now (find_train_intersect split sentinel class (listed n (link_at col.now)) occ.now)) }
+) -> Result<Intersection, Halt>
+    ensures { (answered_by (λ r. r.idx) result ≡ find_train_intersect split sentinel class (listed n (link_at col.now)) occ.now)
+        × IfOk result (λ r. r.met ≡ train_met sentinel (listed n (link_at col.now)) occ.now (find_train_intersect split sentinel class (listed n (link_at col.now)) occ.now)) }
 {
     if sentinel <= split {
-        return Intersection {
-            code: 0,
+        return Ok(Intersection {
             idx: split,
             met: TrainIdx(0),
-        };
+        });
     }
-    if n < sentinel {
-        return none_found();
+    if n < sentinel || matches!(class, LinkOptType::None) {
+        return Err(Halt::Panic);
     }
-    if is_none(class) {
-        return none_found();
-    }
-    let i = intersect_from(split, sentinel, class, col, n, occ);
-    Intersection {
-        code: 0,
-        idx: i,
-        met: train_met(i, sentinel, col, n, occ),
-    }
+    let idx = intersect_from(split, sentinel, class, col, n, occ);
+    Ok(Intersection {
+        idx,
+        met: train_met(idx, sentinel, col, n, occ),
+    })
 }

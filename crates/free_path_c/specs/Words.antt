@@ -1,7 +1,6 @@
 -- Answers as numbers, for C. Assumes nothing.
 use Rattle.std.specs.Prelude.{ℕ, zero, suc, ◌+◌, ◌*◌, ◌≡◌, Bool, cond, List, ltb, set, Float}
-use Rattle.link_rules.specs.declared.refusal.Answer.{Answer}
-use Rattle.link_rules.specs.declared.refusal.Answer.TheVariants.{Done, Refused}
+use Rattle.link_rules.specs.Refusals.{Answer, Done, Refused}
 use Rattle.link_rules.specs.declared.refusal.Refusal.{Refusal}
 use Rattle.train_disp.specs.declared.Settings.{Settings}
 use Rattle.update_definition.specs.Update.{Status, Success, Blocked, Faulty, Refused as RefusedBy, holder_in}
@@ -10,15 +9,18 @@ use Rattle.yard_check.specs.Check as Check
 use Rattle.yard_check.specs.Pair as Pair
 use Rattle.undo.specs.Undo as Undo
 use Rattle.link_index.specs.Indexed as Indexed
-use Rattle.ceiling.specs.declared.StepCeiling.{StepCeiling}
+use Rattle.ceiling.specs.Ceiling.{StepCeiling}
 use Rattle.sitting.specs.Replay.{Replayed}
-use Rattle.game.specs.Game.{Game}
-use Rattle.game.specs.declared.Verdict.{Verdict}
+use Rattle.game.specs.Game.{Verdict, Game}
 use Rattle.candidate.specs.Candidate.{View}
 
 -- 0 where there is no fault, else document 01's number, with the place in the upper 16 bits
 abbrev pub fault_word : Refusal → ℕ
 fault_word f = f.number + 65536 * f.place
+
+-- where there is no fault, the place is 0
+unfoldable pub Plain : Refusal → Type 0
+Plain f = f.number ≡ 0 → f.place ≡ 0
 
 -- 0 where the call is done
 abbrev pub answer_word : Answer → ℕ

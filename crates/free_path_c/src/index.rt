@@ -18,7 +18,7 @@ use yard_check::check::Args;
 pub extern "C" fn lavtoeu_index(yard: &[u8], index: &mut [u64]) -> u32
     ensures { (result ≡ fault_word (build_of yard.now index.old).fault) × (index.new ≡ (build_of yard.now index.old).index) }
 {
-    crate::fault_word(link_index::build_index(yard, index))
+    crate::answer_word(link_index::build_index(yard, index))
 }
 
 // Checks a yard as lavtoeu_check does, and keeps the index: the bits of slots whose image changed are as lavtoeu_index would set them, and all others stay.

@@ -8,11 +8,12 @@ pub mod recorded;
 pub mod version;
 pub mod wide;
 
-ghost use Rattle.std.specs.Prelude.{◌≡◌, set, []};
+ghost use Rattle.std.specs.Prelude.{◌≡◌, ℕ, Bool, set, []};
 ghost use Rattle.link_rules.specs.AdvanceRewind.{mark_of};
 ghost use Rattle.image_fault.specs.ImageFault.{fault_with};
 ghost use Rattle.image_fault.specs.declared.Widths.TheVariants.{Either};
-ghost use Rattle.link_rules.specs.Refusals.{no_refusal};
+ghost use Rattle.link_rules.specs.Refusals.{no_refusal, raised_with};
+ghost use Rattle.link_rules.specs.declared.refusal.Refusal.{Refusal};
 ghost use Rattle.track_profile.specs.Profile.{profile_fault};
 ghost use Rattle.ceiling.specs.Ceiling.{ceiling_of, yard_ceiling_of};
 ghost use Rattle.game.specs.Game.{verdict_of};
@@ -26,23 +27,20 @@ ghost use Rattle.sheet_text.specs.Sheet.{sheet_text};
 ghost use Rattle.text.specs.Text.{text_of, written};
 ghost use Rattle.path_page.specs.Page.{drawing_rule, page_fault, page_after};
 ghost use Rattle.sitting.specs.Replay.{replay_of};
-ghost use Rattle.free_path_c.specs.Words.{game_with, verdict_words, ToldGame};
+ghost use Rattle.free_path_c.specs.Words.{game_with, ToldGame};
 ghost use Rattle.candidate.specs.Candidate.{view_of, act_of};
-ghost use Rattle.free_path_c.specs.Words.{view_words, ToldView};
+ghost use Rattle.free_path_c.specs.Words.{ToldView, Plain};
 ghost use Rattle.free_path_c.specs.Words.{answer_word, fault_word, settings_of, flag_of, status_word, code_of, errors_of, update_words, Told, ceiling_words, ToldCeiling, check_word, bit_of, three_words, check_words, ToldCheck, ToldReplay};
 
 use candidate;
-use candidate::Viewed;
 use ceiling;
-use ceiling::StepCeiling;
 use disp_structs::Metres;
 use game;
-use game::Verdict;
 use image_fault;
 use image_fault::Widths;
 use link_rules::advance_rewind;
 use link_rules::link_idx::{LinkIdx, NarrowTrainIdx, TrainIdx};
-use link_rules::refusal::{Answer, Refusal};
+use link_rules::refusal::Refusal;
 use path_page;
 use sheet_text::sheet;
 use sitting;
@@ -60,12 +58,12 @@ pub extern "C" fn lavtoeu_mark(table: &[u8], occupancy: &mut [u16], link: u32, t
     answer_word(advance_rewind::mark(table, occupancy, LinkIdx(link), NarrowTrainIdx(train)))
 }
 
-fn answer_word(answer: Answer) -> u32
+fn answer_word(answer: Result<(), Refusal>) -> u32
     ensures { result ≡ answer_word answer }
 {
     match answer {
-        Answer::Done => 0,
-        Answer::Refused(r) => fault_word(r),
+        Ok(()) => 0,
+        Err(r) => fault_word(r),
     }
 }
 
@@ -75,11 +73,7 @@ fn answer_word(answer: Answer) -> u32
 pub extern "C" fn lavtoeu_image_fault(image: &[u8], links: u32) -> u32
     ensures { result ≡ fault_word (fault_with Either no_refusal image.now links) }
 {
-    let none = Refusal {
-        number: 0,
-        place: 0,
-    };
-    fault_word(image_fault::fault_with(image, links, Widths::Either, none))
+    answer_word(image_fault::fault_with(image, links, Widths::Either, Ok(())))
 }
 
 fn fault_word(f: Refusal) -> u32
@@ -93,7 +87,7 @@ fn fault_word(f: Refusal) -> u32
 pub extern "C" fn lavtoeu_profile(image: &[u8]) -> u32
     ensures { result ≡ fault_word (profile_fault image.now) }
 {
-    fault_word(track_profile::profile_fault(image))
+    answer_word(track_profile::profile_fault(image))
 }
 
 // The ceiling of search steps in a round of an update of the image, of either width: refused by 6 to 9 and 22 over 4,000 links, else the first word of
@@ -103,9 +97,7 @@ pub extern "C" fn lavtoeu_profile(image: &[u8]) -> u32
 pub extern "C" fn lavtoeu_ceiling(image: &[u8], answer: &mut [u64]) -> u32
     ensures { ToldCeiling (ceiling_of image.now) result answer.old answer.new }
 {
-    let c = ceiling::ceiling(image);
-    put_ceiling(answer, c);
-    fault_word(c.fault)
+    put_value(answer, ceiling::ceiling(image))
 }
 
 // The ceiling of search steps in a check of the yard with this round limit: refused by 5 (limit 0), then 14, else the first word of `answer` gets it.
@@ -114,18 +106,29 @@ pub extern "C" fn lavtoeu_ceiling(image: &[u8], answer: &mut [u64]) -> u32
 pub extern "C" fn lavtoeu_yard_ceiling(yard: &[u8], limit: u16, answer: &mut [u64]) -> u32
     ensures { ToldCeiling (yard_ceiling_of yard.now limit) result answer.old answer.new }
 {
-    let c = ceiling::yard_ceiling(yard, limit);
-    put_ceiling(answer, c);
-    fault_word(c.fault)
+    put_value(answer, ceiling::yard_ceiling(yard, limit))
 }
 
-// A refused call leaves the words as they were.
-fn put_ceiling(answer: &mut [u64], c: StepCeiling)
-    ensures { answer.new ≡ ceiling_words c.fault.number c.steps answer.old }
+// The first word, and the word that is returned; a refused call leaves the words as they were.
+fn put_value(answer: &mut [u64], value: Result<u64, Refusal>) -> u32
+    ensures { (f : Refusal) (n : ℕ) → value ≡ raised_with f n → Plain f → (result ≡ fault_word f) × (answer.new ≡ ceiling_words f.number n answer.old) }
 {
-    if c.fault.number == 0 {
-        put_word(answer, 0, c.steps);
-        return;
+    match value {
+        Ok(n) => {
+            put_word(answer, 0, n);
+            0
+        }
+        Err(f) => fault_word(f),
+    }
+}
+
+// The same of a flag, told by 1 or 0.
+fn put_flag(answer: &mut [u64], flag: Result<bool, Refusal>) -> u32
+    ensures { (f : Refusal) (b : Bool) → flag ≡ raised_with f b → Plain f → (result ≡ fault_word f) × (answer.new ≡ ceiling_words f.number (bit_of b) answer.old) }
+{
+    match flag {
+        Ok(b) => put_value(answer, Ok(bit_of(b))),
+        Err(f) => put_value(answer, Err(f)),
     }
 }
 
@@ -297,10 +300,7 @@ fn check_word(x: check::Answer) -> u32
 fn bit_of(b: bool) -> u64
     ensures { result ≡ bit_of b }
 {
-    if b {
-        return 1;
-    }
-    0
+    if b { 1 } else { 0 }
 }
 
 fn put_words(answer: &mut [u64], a: u64, b: u64, c: u64)
@@ -351,18 +351,7 @@ pub extern "C" fn lavtoeu_closer_can_force(
         links,
         turns,
     );
-    put_verdict(answer, v);
-    fault_word(v.fault)
-}
-
-// A refused call leaves the words as they were.
-fn put_verdict(answer: &mut [u64], v: Verdict)
-    ensures { answer.new ≡ verdict_words v answer.old }
-{
-    if v.fault.number == 0 {
-        put_word(answer, 0, bit_of(v.can_force));
-        return;
-    }
+    put_flag(answer, v)
 }
 
 // Plays a recording over a yard and an occupancy: entry i of the list gets the refusal of step i, 0 if there is none, and the replay goes on. Answers 0, or 19 for a
@@ -394,7 +383,7 @@ pub extern "C" fn lavtoeu_sheet(bundle: &[u8], text: &mut [u8]) -> usize
 pub extern "C" fn lavtoeu_page(image: &[u8], page: &mut [u8]) -> u32
     ensures { (result ≡ fault_word (page_fault image.now page.old)) × (page.new ≡ page_after drawing_rule image.now page.old) }
 {
-    fault_word(path_page::page(image, page))
+    answer_word(path_page::page(image, page))
 }
 
 // ---- a candidate's calls
@@ -414,19 +403,8 @@ pub extern "C" fn lavtoeu_view(
     ensures { ToldView (view_of table.now occupancy.now yard.now slot node bytes.old)
         result bytes.new answer.old answer.new }
 {
-    let v = candidate::view(table, occupancy, yard, slot, node, bytes);
-    put_view(answer, v);
-    fault_word(v.fault)
-}
-
-// A refused call leaves the words as they were.
-fn put_view(answer: &mut [u64], v: Viewed)
-    ensures { answer.new ≡ view_words v.fault.number v.taken answer.old }
-{
-    if v.fault.number == 0 {
-        put_word(answer, 0, bit_of(v.taken));
-        return;
-    }
+    let seen = candidate::view(table, occupancy, yard, slot, node, bytes);
+    put_flag(answer, seen)
 }
 
 // Marks a link of the path for the train in the candidate's slot, or releases it where marks is 0, whoever holds it. Answers as lavtoeu_mark does.

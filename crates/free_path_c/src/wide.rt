@@ -88,7 +88,7 @@ pub extern "C" fn lavtoeu_widen(image: &[u8], out: &mut [u8]) -> u32
     ensures { (result ≡ fault_word (widen_fault image.now (length out.old)))
         × (out.new ≡ after_widen image.now out.old) }
 {
-    crate::fault_word(conversion::widen(image, out))
+    crate::answer_word(conversion::widen(image, out))
 }
 
 // Writes a wide image narrow into `out`. Answers as lavtoeu_widen does, 6 where the image is narrow, and 23 where a train of it is above 65,535.
@@ -97,5 +97,5 @@ pub extern "C" fn lavtoeu_narrow(image: &[u8], out: &mut [u8]) -> u32
     ensures { (result ≡ fault_word (narrow_fault image.now (length out.old)))
         × (out.new ≡ after_narrow image.now out.old) }
 {
-    crate::fault_word(conversion::narrow(image, out))
+    crate::answer_word(conversion::narrow(image, out))
 }

@@ -8,9 +8,8 @@ use Rattle.link_rules.specs.Network.{all_below}
 use Rattle.link_rules.specs.Refusals.{no_refusal}
 use Rattle.update_definition.specs.UpdateImage.{entries_up_to}
 use Rattle.yard_check.proofs.Siding.{words, everything}
-use Rattle.game.specs.Game.{Game, closed_links, held_by, closer_wins, links_fit, start_fault, list_fault, game_fault, verdict_of, CanForce}
+use Rattle.game.specs.Game.{Verdict, Game, closed_links, held_by, closer_wins, links_fit, start_fault, list_fault, game_fault, verdict_of, CanForce}
 use Rattle.game.specs.Sets.{shut_in, opened_in, position_of, some_below, won, judged_in, wins_with}
-use Rattle.game.specs.declared.Verdict.{Verdict}
 use Rattle.game.proofs.VerdictLaws.{from_last, told-judged, verdict_is_right}
 
 -- the train goes over link 1, or by the siding over link 2, to link 3

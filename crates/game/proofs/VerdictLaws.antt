@@ -6,8 +6,7 @@ use mathlib.Core.List.{List}
 use Prim.Native.Nat.{ℕ, zero, suc, ◌^◌}
 use lib.ListN.{length}
 use Rattle.link_rules.specs.declared.refusal.Refusal.{Refusal}
-use Rattle.game.specs.declared.Verdict.{Verdict}
-use Rattle.game.specs.Game.{Game, all_open, links_fit, closer_wins, judged, game_fault, unless_refused, told_by, verdict_of, VerdictIsRight, CanForce}
+use Rattle.game.specs.Game.{Verdict, Game, all_open, links_fit, closer_wins, judged, game_fault, unless_refused, told_by, verdict_of, VerdictIsRight, CanForce}
 use Rattle.game.specs.Sets.{won, Verdicts, judged_in, wins_with}
 use Rattle.game.proofs.FaultLaws.{list-fits}
 use Rattle.game.proofs.Forcing.{can-force}

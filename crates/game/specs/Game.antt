@@ -1,14 +1,13 @@
 -- The lesson game of closer and dispatcher over one train (change request Q-12): its rules, its refusals, the judgement of a position from the positions one turn later, and what the
 -- verdict says. Assumes nothing.
-use Rattle.std.specs.Prelude.{ℕ, zero, suc, ◌≡◌, ◌↔◌, Bool, true, false, cond, not, ◌&&◌, ◌||◌, List, [], ◌∷◌, ◌++◌, ltb, leb, eqb, length, set}
-use Rattle.link_rules.specs.Refusals.{refused_unless, or_else}
+use Rattle.std.specs.Prelude.{ℕ, zero, suc, ◌≡◌, ◌↔◌, Bool, true, false, cond, not, ◌&&◌, ◌||◌, List, [], ◌∷◌, ◌++◌, Result, ltb, leb, eqb, length, set}
+use Rattle.link_rules.specs.Refusals.{refused_unless, or_else, raised_with}
 use Rattle.link_rules.specs.declared.refusal.Refusal.{Refusal}
 use Rattle.image.specs.Image.{path_header}
 use Rattle.image_fault.specs.declared.Widths.TheVariants.{Either}
 use Rattle.free_path.specs.Base.{any}
 use Rattle.update_definition.specs.Update.{Status, Success, Blocked, Faulty, Refused}
 use Rattle.update_definition.specs.UpdateImage.{update_fault_in, updated_image_wide}
-use Rattle.game.specs.declared.Verdict.{Verdict}
 
 -- what a game is played over: the train's starting image, of either width, the occupancy, the arguments of the final update, the closer's links
 pub record Game : Type 0 where
@@ -137,11 +136,20 @@ abbrev pub unless_refused : ℕ → Bool → Bool
 unless_refused zero b = b
 unless_refused (suc n) b = false
 
+-- refused, or a refusal 0 and whether the closer can force it
+pub record Verdict : Type 0 where
+  pub fault : Refusal
+  pub can_force : Bool
+
 abbrev pub told_by : Refusal → Bool → Verdict
 told_by f b = record { fault = f; can_force = unless_refused f.number b }
 
 unfoldable pub verdict_of : Game → ℕ → Verdict
 verdict_of g turns = told_by (game_fault g turns) (judged g.links (closer_wins g) turns all_open)
+
+-- what the code's answer is
+abbrev pub TellsGame : Verdict → Result Bool Refusal → Type 0
+TellsGame v r = r ≡ raised_with v.fault v.can_force
 
 -- the verdict 'closer can force it' appears exactly where the call is not refused and the closer, foreseeing no answer, can beat every line of answers
 abbrev pub VerdictIsRight : Type 0

@@ -1,12 +1,12 @@
 // The refusals of a game before it is judged: the update's own up to 10, with no blocking list, then 28.
 ghost use Rattle.std.specs.Prelude.{◌≡◌, ◌&&◌, leb, length, drop};
+ghost use Rattle.link_rules.specs.Refusals.{raised};
 ghost use Rattle.game.specs.Game.{is_listed, links_fit, start_fault, game_fault};
 ghost use Rattle.game.specs.Sets.{game_of};
 
 use image::codec;
 use image_fault::Widths;
-use link_rules::refusal;
-use link_rules::refusal::Refusal;
+use link_rules::refusal::{Refusal, refuse_unless};
 use update_free_path::call;
 use update_free_path::start::Args;
 
@@ -20,12 +20,10 @@ pub(crate) fn index_of(link: u32) -> usize
 fn is_listed(links: &[u32], from: usize, x: u32) -> bool
     ensures { result ≡ is_listed (drop from links.now) x }
 {
-    let mut i = from;
-    while i < links.len() {
+    for i in from..links.len() {
         if links[i] == x {
             return true;
         }
-        i += 1;
     }
     false
 }
@@ -34,8 +32,7 @@ fn is_listed(links: &[u32], from: usize, x: u32) -> bool
 fn links_fit(links: &[u32], l: usize) -> bool
     ensures { result ≡ links_fit l links.now }
 {
-    let mut i = 0;
-    while i < links.len() {
+    for i in 0..links.len() {
         let x = links[i];
         if x == 0 {
             return false;
@@ -46,7 +43,6 @@ fn links_fit(links: &[u32], l: usize) -> bool
         if is_listed(links, i + 1, x) {
             return false;
         }
-        i += 1;
     }
     true
 }
@@ -65,25 +61,26 @@ fn list_fits(l: usize, links: &[u32], turns: u32) -> bool
 }
 
 // 2, 5 to 10 and 22.
-fn start_fault(image: &[u8], occ: &[u32], o: Args) -> Refusal
-    ensures { result ≡ start_fault image.now occ.now o.moved.0 o.limit }
+fn start_fault(image: &[u8], occ: &[u32], o: Args) -> Result<(), Refusal>
+    ensures { result ≡ raised (start_fault image.now occ.now o.moved.0 o.limit) }
 {
     let none = [0u32; 1];
-    let moved = o.moved;
-    let own = call::given_fault(image, occ, moved);
-    let f = call::update_fault(image, occ.len(), &none[..0], o, Widths::Either, own);
-    if f.number != 0 {
-        return f;
-    }
+    let own = call::given_fault(image, occ, o.moved);
+    call::update_fault(image, occ.len(), &none[..0], o, Widths::Either, own)?;
     let h = codec::path_header(image);
-    refusal::refused_unless((h.free as u32) < h.path_count, 10)
+    refuse_unless((h.free as u32) < h.path_count, 10)
 }
 
 // The update's own, then 28.
-pub(crate) fn game_fault(image: &[u8], occ: &[u32], o: Args, links: &[u32], turns: u32) -> Refusal
-    ensures { result ≡ game_fault (game_of image.now occ.now o links.now) turns }
+pub(crate) fn game_fault(
+    image: &[u8],
+    occ: &[u32],
+    o: Args,
+    links: &[u32],
+    turns: u32,
+) -> Result<(), Refusal>
+    ensures { result ≡ raised (game_fault (game_of image.now occ.now o links.now) turns) }
 {
-    let f = start_fault(image, occ, o);
-    let g = refusal::refused_unless(list_fits(occ.len(), links, turns), 28);
-    refusal::or_else(f, g)
+    start_fault(image, occ, o)?;
+    refuse_unless(list_fits(occ.len(), links, turns), 28)
 }

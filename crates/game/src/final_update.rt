@@ -10,17 +10,6 @@ use update_free_path;
 use update_free_path::answer::Status;
 use update_free_path::start::Args;
 
-fn copy_entries(from: &[u32], to: &mut [u32])
-    requires { length to.old ≡ length from.now }
-    ensures { to.new ≡ from.now }
-{
-    let mut i = 0;
-    while i < from.len() {
-        to[i] = from[i];
-        i += 1;
-    }
-}
-
 // The closed links of the set c go to `blocking`, and the moved train to their entries: how many links they are.
 fn place(links: &[u32], c: usize, moved: u32, occ: &mut [u32], blocking: &mut [u32; 8]) -> usize
     requires { (length links.now ≤ 8) × (length blocking.old ≡ 8) × Entries links.now occ.old }
@@ -28,12 +17,10 @@ fn place(links: &[u32], c: usize, moved: u32, occ: &mut [u32], blocking: &mut [u
 {
     let mut rest = c;
     let mut n = 0;
-    let mut i = 0;
-    while i < links.len() {
+    for i in 0..links.len() {
         let closed = rest % 2;
         rest = rest / 2;
         if closed == 0 {
-            i += 1;
             continue;
         }
         let link = links[i];
@@ -41,7 +28,6 @@ fn place(links: &[u32], c: usize, moved: u32, occ: &mut [u32], blocking: &mut [u
         occ[l] = moved;
         blocking[n] = link;
         n += 1;
-        i += 1;
     }
     n
 }
@@ -49,12 +35,7 @@ fn place(links: &[u32], c: usize, moved: u32, occ: &mut [u32], blocking: &mut [u
 fn is_blocked(s: Status) -> bool
     ensures { result ≡ is_blocked (status_of s) }
 {
-    match s {
-        Status::Success => false,
-        Status::Blocked(holder) => true,
-        Status::Faulty(n) => false,
-        Status::Refused(r) => false,
-    }
+    matches!(s, Status::Blocked(_))
 }
 
 // Does the closer win with the set c? The update runs in the lent copies.
@@ -73,7 +54,7 @@ pub(crate) fn wins_with(
 {
     let mut blocking = [0u32; 8];
     octets::put_bytes(img, 0, image);
-    copy_entries(occ, held);
+    held.copy_from_slice(occ);
     let moved = o.moved;
     let count = place(links, c, moved.0, held, &mut blocking);
     let x = update_free_path::update_wide(img, held, &blocking[..count], moved, o.local, o.limit);

@@ -8,7 +8,7 @@ mod sets;
 mod tables;
 
 ghost use Rattle.std.specs.Prelude.{◌≡◌, ◌^◌, length};
-ghost use Rattle.game.specs.Game.{all_open, closer_wins, judged, verdict_of};
+ghost use Rattle.game.specs.Game.{all_open, closer_wins, judged, verdict_of, TellsGame};
 ghost use Rattle.game.specs.Sets.{Verdicts, Accepted, game_of, wins_with};
 
 use link_rules::link_idx::TrainIdx;
@@ -16,23 +16,7 @@ use link_rules::refusal::Refusal;
 use update_free_path::start::Args;
 use yard_check::bytes;
 
-// Refused, or number 0 and whether the closer can force it; no where the call is refused.
-#[derive(Clone, Copy)]
-pub struct Verdict {
-    pub fault: Refusal,
-    pub can_force: bool,
-}
-
-fn told(f: Refusal, can_force: bool) -> Verdict
-    ensures { result ≡ record { fault = f; can_force = can_force } }
-{
-    Verdict {
-        fault: f,
-        can_force: can_force,
-    }
-}
-
-// A function makes it, so that no proof holds its entries.
+// A function makes it, so that no proof holds its entries; rooms differ in type and length.
 fn occupancy_room() -> [u32; 4000]
     ensures { 4000 ≡ length result }
 {
@@ -54,11 +38,9 @@ fn last_verdicts(
 {
     let mut out = [0u8; 256];
     let n = sets::power(links.len());
-    let mut c = 0;
-    while c < n {
+    for c in 0..n {
         let win = final_update::wins_with(image, occ, o, links, c, img, held);
         out[c] = tables::mark(win);
-        c += 1;
     }
     out
 }
@@ -87,17 +69,14 @@ pub fn closer_can_force(
     limit: u16,
     links: &[u32],
     turns: u32,
-) -> Verdict
-    ensures { result ≡ verdict_of (game_of image.now occ.now (record { moved = moved; local = local; limit = limit }) links.now) turns }
+) -> Result<bool, Refusal>
+    ensures { TellsGame (verdict_of (game_of image.now occ.now (record { moved = moved; local = local; limit = limit }) links.now) turns) result }
 {
     let o = Args {
-        moved: moved,
-        local: local,
-        limit: limit,
+        moved,
+        local,
+        limit,
     };
-    let f = faults::game_fault(image, occ, o, links, turns);
-    if f.number != 0 {
-        return told(f, false);
-    }
-    told(f, can_force(image, occ, o, links, turns))
+    faults::game_fault(image, occ, o, links, turns)?;
+    Ok(can_force(image, occ, o, links, turns))
 }

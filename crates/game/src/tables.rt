@@ -15,13 +15,11 @@ fn all_openings(k: usize, t: &[u8; 256], c: usize) -> bool
     requires { (k ≤ 8) × (c < 2 ^ k) }
     ensures { result ≡ all_openings k (won t.now) c }
 {
-    let mut a = 0;
-    while a <= k {
+    for a in 0..k + 1 {
         let d = sets::opened(k, c, a);
         if t[d] == 0 {
             return false;
         }
-        a += 1;
     }
     true
 }
@@ -31,13 +29,11 @@ fn some_closing(k: usize, t: &[u8; 256], c: usize) -> bool
     requires { (k ≤ 8) × (c < 2 ^ k) }
     ensures { result ≡ some_closing k (won t.now) c }
 {
-    let mut i = 0;
-    while i <= k {
+    for i in 0..k + 1 {
         let d = sets::shut(k, c, i);
         if t[d] != 0 {
             return true;
         }
-        i += 1;
     }
     false
 }
@@ -49,11 +45,9 @@ fn before_answer(k: usize, t: [u8; 256]) -> [u8; 256]
 {
     let mut out = [0u8; 256];
     let n = sets::power(k);
-    let mut c = 0;
-    while c < n {
+    for c in 0..n {
         let win = all_openings(k, &t, c);
         out[c] = mark(win);
-        c += 1;
     }
     out
 }
@@ -65,11 +59,9 @@ fn before_closing(k: usize, t: [u8; 256]) -> [u8; 256]
 {
     let mut out = [0u8; 256];
     let n = sets::power(k);
-    let mut c = 0;
-    while c < n {
+    for c in 0..n {
         let win = some_closing(k, &t, c);
         out[c] = mark(win);
-        c += 1;
     }
     out
 }

@@ -2,6 +2,7 @@
 // What lies past the end reads as 0 and is not written, so that each function is total.
 ghost use Rattle.std.specs.Prelude.{◌≡◌, ◌+◌, ◌*◌, ◌-◌, ◌^◌, ◌<◌, length, replicate};
 ghost use Rattle.link_rules.specs.Octets.{le_at};
+ghost use Rattle.image.specs.Fields.{diverge_words};
 ghost use Rattle.image.specs.Image.{size_of, est_count, path_count_of, diverge_count_of, diverge_room, train_idx_of, is_wide, path_header, dist_disp_path_search_of, dist_fixed_max_of, est_place, node_place, diverge_place, type_of, type_number, est_from, est_at, node_from, node_at, zero_est, zero_node, whole_est, whole_node, diverge_from, diverge_at, put_node, put_diverge, zero_words, clear_nodes, clear_diverges, put_path_header};
 
 use disp_structs::{
@@ -119,10 +120,15 @@ pub fn node_place(e: u32, i: u32) -> usize
 pub fn diverge_place(wide: bool, e: u32, i: u32) -> usize
     ensures { result ≡ diverge_place wide e i }
 {
-    if wide {
-        return 64 + 64 * (e as usize) + 8 * (i as usize);
-    }
-    64 + 64 * (e as usize) + 4 * (i as usize)
+    64 + 64 * (e as usize) + 4 * diverge_words(wide, i as usize)
+}
+
+// How many numbers of 4 bytes n diverge records are.
+fn diverge_words(wide: bool, n: usize) -> usize
+    requires { n < 2 ^ 32 }
+    ensures { (result ≡ diverge_words wide * n) × (result < 2 ^ 33) }
+{
+    if wide { 2 * n } else { n }
 }
 
 // ---- records
@@ -130,10 +136,7 @@ pub fn diverge_place(wide: bool, e: u32, i: u32) -> usize
 fn octet_at(s: &[u8], at: usize) -> u8
     ensures { result ≡ le_at 1 s.now at }
 {
-    if s.len() <= at {
-        return 0;
-    }
-    s[at]
+    if at < s.len() { s[at] } else { 0 }
 }
 
 fn type_of(n: u8) -> EstType
@@ -146,14 +149,11 @@ fn type_of(n: u8) -> EstType
     }
 }
 
+// Its place in EstType.
 fn type_number(t: EstType) -> u16
     ensures { result ≡ type_number t }
 {
-    match t {
-        EstType::Arrive => 0,
-        EstType::Clear => 1,
-        EstType::Fake => 2,
-    }
+    t as u16
 }
 
 pub fn est_at(img: &[u8], i: u32) -> EstTime
@@ -161,9 +161,10 @@ pub fn est_at(img: &[u8], i: u32) -> EstTime
 {
     let at = est_place(i);
     if img.len() < at + 32 {
-        return est_from(img, at);
+        est_past(img, at)
+    } else {
+        est_from(img, at)
     }
-    whole_est(img, i)
 }
 
 // The est record of index i, or one of zeros where it does not lie within the image. No call is made for that, so that the fields of the record stay
@@ -173,18 +174,9 @@ pub fn whole_est(img: &[u8], i: u32) -> EstTime
 {
     let at = est_place(i);
     if img.len() < at + 32 {
-        return zero_est();
-    }
-    EstTime {
-        dist_to_next: Metres(floats::real_of(octets::u64_at(img, at))),
-        idx_next: EstIdx(octets::u32_at(img, at + 8)),
-        idx_next_alt: EstIdx(octets::u32_at(img, at + 12)),
-        idx_prev: EstIdx(octets::u32_at(img, at + 16)),
-        idx_prev_alt: EstIdx(octets::u32_at(img, at + 20)),
-        link_event: LinkEvent {
-            link_idx: LinkIdx(octets::u32_at(img, at + 24)),
-            est_type: type_of(octet_at(img, at + 28)),
-        },
+        zero_est()
+    } else {
+        est_from(img, at)
     }
 }
 
@@ -213,6 +205,18 @@ pub fn est_in(est: &[u8], i: u32) -> EstTime
     est_from(est, 32 * (i as usize))
 }
 
+// An est record that ends past the image: a call, so that est_at is small.
+#[inline(never)]
+fn est_past(s: &[u8], at: usize) -> EstTime
+    requires { at < 2 ^ 48 }
+    ensures { result ≡ est_from s.now at }
+{
+    est_from(s, at)
+}
+
+// Inlined, so that behind a test of the length no field asks again.
+// That at fits is asked of the places here and below one by one: a type of places would be no plainer.
+#[inline(always)]
 fn est_from(s: &[u8], at: usize) -> EstTime
     requires { at < 2 ^ 48 }
     ensures { result ≡ est_from s.now at }
@@ -235,9 +239,10 @@ pub fn node_at(img: &[u8], i: u32) -> DispNode
 {
     let at = node_place(est_count(img), i);
     if img.len() < at + 32 {
-        return node_past(img, at);
+        node_past(img, at)
+    } else {
+        node_from(img, at)
     }
-    whole_node(img, i)
 }
 
 // The path record of index i, or one of zeros where it does not lie within the image, as whole_est.
@@ -246,17 +251,9 @@ pub fn whole_node(img: &[u8], i: u32) -> DispNode
 {
     let at = node_place(est_count(img), i);
     if img.len() < at + 32 {
-        return zero_node();
-    }
-    DispNode {
-        offset: Metres(floats::real_of(octets::u64_at(img, at))),
-        time_pass: Seconds(floats::real_of(octets::u64_at(img, at + 8))),
-        link_event: LinkEvent {
-            link_idx: LinkIdx(octets::u32_at(img, at + 16)),
-            est_type: type_of(octet_at(img, at + 26)),
-        },
-        est_idx: EstIdx(octets::u32_at(img, at + 20)),
-        disp_auth_idx_entry: octets::u16_at(img, at + 24),
+        zero_node()
+    } else {
+        node_from(img, at)
     }
 }
 
@@ -277,8 +274,17 @@ pub fn zero_node() -> DispNode
     }
 }
 
-// A node record that ends past the image. Apart from whole_node, so that there one test of the length serves every field.
+// As est_past.
+#[inline(never)]
 fn node_past(s: &[u8], at: usize) -> DispNode
+    requires { at < 2 ^ 48 }
+    ensures { result ≡ node_from s.now at }
+{
+    node_from(s, at)
+}
+
+#[inline(always)]
+fn node_from(s: &[u8], at: usize) -> DispNode
     requires { at < 2 ^ 48 }
     ensures { result ≡ node_from s.now at }
 {
@@ -306,14 +312,15 @@ pub fn diverge_with(img: &[u8], wide: bool, e: u32, i: u32) -> DivergeNode
 {
     let at = diverge_place(wide, e, i);
     if wide {
-        return DivergeNode {
+        DivergeNode {
             train_idx: TrainIdx(octets::u32_at(img, at)),
             disp_node_idx: octets::u16_at(img, at + 4) as u32,
-        };
-    }
-    DivergeNode {
-        train_idx: TrainIdx(octets::u16_at(img, at) as u32),
-        disp_node_idx: octets::u16_at(img, at + 2) as u32,
+        }
+    } else {
+        DivergeNode {
+            train_idx: TrainIdx(octets::u16_at(img, at) as u32),
+            disp_node_idx: octets::u16_at(img, at + 2) as u32,
+        }
     }
 }
 
@@ -354,30 +361,23 @@ pub fn put_node(img: &mut [u8], i: u32, x: DispNode)
 {
     let at = node_place(est_count(img), i);
     if img.len() < at + 32 {
-        put_node_past(img, at, x);
-        return;
+        put_node_past(img, at, x)
+    } else {
+        put_node_from(img, at, x)
     }
-    put_node_in(img, at, x)
 }
 
-// A node record that lies within the image.
-fn put_node_in(img: &mut [u8], at: usize, x: DispNode)
-    requires { at < 2 ^ 48 }
-    ensures { img.new ≡ put_node x at img.old }
-{
-    octets::put_u64(img, at, floats::bits_of(x.offset.0));
-    octets::put_u64(img, at + 8, floats::bits_of(x.time_pass.0));
-    octets::put_u32(img, at + 16, x.link_event.link_idx.0);
-    octets::put_u32(img, at + 20, x.est_idx.0);
-    octets::put_u16(img, at + 24, x.disp_auth_idx_entry);
-    let e = x.link_event;
-    let t = e.est_type;
-    octets::put_u16(img, at + 26, type_number(t));
-    octets::put_u32(img, at + 28, 0);
-}
-
-// A node record that ends past the image.
+// As est_past.
+#[inline(never)]
 fn put_node_past(s: &mut [u8], at: usize, x: DispNode)
+    requires { at < 2 ^ 48 }
+    ensures { s.new ≡ put_node x at s.old }
+{
+    put_node_from(s, at, x)
+}
+
+#[inline(always)]
+fn put_node_from(s: &mut [u8], at: usize, x: DispNode)
     requires { at < 2 ^ 48 }
     ensures { s.new ≡ put_node x at s.old }
 {
@@ -386,9 +386,7 @@ fn put_node_past(s: &mut [u8], at: usize, x: DispNode)
     octets::put_u32(s, at + 16, x.link_event.link_idx.0);
     octets::put_u32(s, at + 20, x.est_idx.0);
     octets::put_u16(s, at + 24, x.disp_auth_idx_entry);
-    let e = x.link_event;
-    let t = e.est_type;
-    octets::put_u16(s, at + 26, type_number(t));
+    octets::put_u16(s, at + 26, type_number(x.link_event.est_type));
     octets::put_u32(s, at + 28, 0);
 }
 
@@ -409,10 +407,10 @@ pub fn put_diverge_with(img: &mut [u8], wide: bool, e: u32, i: u32, x: DivergeNo
         octets::put_u32(img, at, x.train_idx.0);
         octets::put_u16(img, at + 4, (x.disp_node_idx % 65536) as u16);
         octets::put_u16(img, at + 6, 0);
-        return;
+    } else {
+        octets::put_u16(img, at, (x.train_idx.0 % 65536) as u16);
+        octets::put_u16(img, at + 2, (x.disp_node_idx % 65536) as u16);
     }
-    octets::put_u16(img, at, (x.train_idx.0 % 65536) as u16);
-    octets::put_u16(img, at + 2, (x.disp_node_idx % 65536) as u16);
 }
 
 // The path records from n on become zero.
@@ -431,21 +429,14 @@ pub fn clear_diverges(img: &mut [u8], m: u32)
     let wide = is_wide(img);
     let at = diverge_place(wide, est_count(img), m);
     let q = diverge_room(img);
-    if wide {
-        clear_words(img, at, 2 * count_from(m, q));
-        return;
-    }
-    clear_words(img, at, count_from(m, q));
+    clear_words(img, at, diverge_words(wide, count_from(m, q)));
 }
 
 // How many numbers there are from a up to b.
 pub fn count_from(a: u32, b: u32) -> usize
     ensures { result ≡ b - a }
 {
-    if b <= a {
-        return 0;
-    }
-    (b - a) as usize
+    b.saturating_sub(a) as usize
 }
 
 // k numbers of 4 bytes from at become zero: as one run of bytes where they lie within the image.
@@ -455,21 +446,17 @@ fn clear_words(img: &mut [u8], at: usize, k: usize)
 {
     let end = at + 4 * k;
     if img.len() < end {
-        clear_words_past(img, at, k);
-        return;
+        clear_words_past(img, at, k)
+    } else {
+        zero_all(&mut img[at..end])
     }
-    zero_all(&mut img[at..end])
 }
 
 // Every byte becomes zero.
 pub fn zero_all(s: &mut [u8])
     ensures { s.new ≡ replicate (length s.old) 0 }
 {
-    let mut i = 0;
-    while i < s.len() {
-        s[i] = 0;
-        i += 1;
-    }
+    s.fill(0)
 }
 
 // Numbers that end past the image.
@@ -477,9 +464,7 @@ fn clear_words_past(img: &mut [u8], at: usize, k: usize)
     requires { at + 4 * k < 2 ^ 48 }
     ensures { img.new ≡ zero_words k at img.old }
 {
-    let mut i = 0;
-    while i < k {
+    for i in 0..k {
         octets::put_u32(img, at + 4 * i, 0);
-        i += 1;
     }
 }

@@ -10,7 +10,7 @@ use Rattle.disp_structs.specs.Train.{Train}
 use Prim.Native.Nat.{ℕ, zero, suc, ◌+◌, ◌*◌, ◌-◌, ◌%◌, ◌≤◌, ◌<◌}
 use native.Mathlib.Omega.{arith}
 use lib.Dec.{ltb, leb, eqb, lit<}
-use borrow.Author.Tests.{not-true, leb-true, le-leb, ltb-true, eqb-true, eqb-false, eq-eqb, ne_eqb}
+use borrow.Author.Tests.{not-true, leb-true, le-leb, ltb-true, eqb-true, eqb-false, ne_eqb}
 use Rattle.link_rules.specs.Octets.{le_at}
 use Rattle.disp_structs.specs.declared.LinkEvent.{LinkEvent}
 use Rattle.image.specs.Fields.{diverge_words, diverge_spare_field, read_in}
@@ -25,6 +25,7 @@ use Rattle.image_fault.specs.declared.Widths.TheVariants.{Narrow, Either}
 use Rattle.image_fault.specs.CodeFacts.{CountsFit}
 use Rattle.link_rules.specs.Refusals.{no_refusal, refused_unless, or_else}
 use Rattle.link_rules.specs.declared.refusal.Refusal.{Refusal}
+pub use Rattle.link_rules.proofs.RefusalLaws.{or_else_none}
 use Rattle.image_fault.proofs.ScanLaws.{first_clean}
 
 -- where neither is a fault
@@ -34,10 +35,6 @@ or_else_clean a b h = go (eqb a.number 0) refl h
     go : (t : Bool) → eqb a.number 0 ≡ t → (cond t b a).number ≡ 0 → (a.number ≡ 0) × (b.number ≡ 0)
     go true e k = (eqb-true a.number 0 e, k)
     go false e k = absurd (eqb-false a.number 0 e k)
-
--- a fault that is none is passed over
-pub or_else_none : (a b : Refusal) → a.number ≡ 0 → or_else a b ≡ b
-or_else_none a b h = rw (eq-eqb a.number 0 h)
 
 -- where a test refuses nothing
 pub refused_clean : (t : Bool) (n : ℕ) → 0 < n → (refused_unless t n).number ≡ 0 → t ≡ true

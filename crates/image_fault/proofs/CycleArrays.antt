@@ -1,15 +1,12 @@
 -- The links of the est records in two arrays, as refusal 8 asks for them. Assumes nothing.
 use mathlib.Core.Path.{◌≡◌, sym, ap, ◌∙◌}
-use mathlib.Core.Logic.{⊎_elim}
 use mathlib.Core.List.{List}
-use Prim.Native.Nat.{ℕ, suc, min, ◌+◌, ◌≤◌, ◌<◌}
-use native.Mathlib.Nat.{eq-or-lt_of_le}
+use Prim.Native.Nat.{ℕ, min, ◌≤◌, ◌<◌}
 use native.Mathlib.Omega.{arith}
-use lib.ListN.{length, get_or, set}
-use lib.Seq.{get_or-set_same, get_or-set_other}
+use lib.ListN.{get_or}
 use Rattle.disp_structs.proofs.ListedLaws.{listed_at}
 use Rattle.est_times.specs.Cycles.{first_on_cycle}
-use Rattle.est_times.specs.declared.Cycle.TheVariants.{At}
+use Rattle.std.proofs.Common.{Some}
 use Rattle.est_times.proofs.CycleLaws.{cycle_same, cycle_room, place_sound}
 use Rattle.image.specs.Image.{est_count, est_at}
 use Rattle.image_fault.specs.ImageFault.{nexts, alts, cycle_refused, cycle_fault}
@@ -17,16 +14,6 @@ use Rattle.image_fault.specs.ImageFault.{nexts, alts, cycle_refused, cycle_fault
 -- the first n entries are those of f
 abbrev pub Holds : (ℕ → ℕ) → ℕ → List ℕ → Type 0
 Holds f n xs = (j : ℕ) → j < n → get_or xs j 0 ≡ f j
-
-pub holds_more : (f : ℕ → ℕ) (n : ℕ) (xs : List ℕ) (x : ℕ) → n < length xs → x ≡ f n → Holds f n xs → Holds f (n + 1) (set xs n x)
-holds_more f n xs x l q h j k =
-    ⊎_elim
-    (λ (e : suc j ≡ suc n). let i : j ≡ n = omega arith in rw (i, q) (get_or-set_same xs n (f n) 0 l))
-    (λ (m : suc j < suc n). get_or-set_other xs n j x 0 (λ e. omega arith) ∙ h j (omega arith))
-    (eq-or-lt_of_le (le-suc j k))
-  where
-    le-suc : (i : ℕ) → i < n + 1 → suc i ≤ suc n
-    le-suc i r = omega arith
 
 -- the links of bs, and arrays that hold them
 module _ (bs next alt : List ℕ) (e : ℕ) (q : e ≡ est_count bs) (l : e ≤ 512)
@@ -44,5 +31,5 @@ module _ (bs next alt : List ℕ) (e : ℕ) (q : e ≡ est_count bs) (l : e ≤ 
   cycle_is = ap cycle_refused same
 
 -- the place is that of a record
-pub cycle_below : (next alt : List ℕ) (e i : ℕ) → e ≤ 512 → first_on_cycle next alt (min e 512) ≡ At i → i < e
+pub cycle_below : (next alt : List ℕ) (e i : ℕ) → e ≤ 512 → first_on_cycle next alt (min e 512) ≡ Some i → i < e
 cycle_below next alt e i l h = (place_sound next alt e i (sym (cycle_room next alt e l) ∙ h)).0

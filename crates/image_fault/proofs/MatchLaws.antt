@@ -1,5 +1,5 @@
 -- Images that match are refused alike, with the same place. Assumes nothing.
-use mathlib.Core.Path.{◌≡◌, refl, sym, ap, ap₂, ◌∙◌}
+use mathlib.Core.Path.{◌≡◌, refl, sym, ap, ◌∙◌}
 use mathlib.Core.Logic.{◌⊎◌, inl, inr, ⊎_elim}
 use mathlib.Core.Bool.{Bool, true, false, cond, ◌&&◌}
 use mathlib.Core.List.{List, map}
@@ -8,10 +8,10 @@ use native.Mathlib.Omega.{arith}
 use lib.Dec.{eqb, leb}
 use borrow.Author.Tests.{eqb-true, eqb-false, eq-eqb, ne_eqb, le-leb}
 use Rattle.link_rules.specs.Octets.{le_at}
-use Rattle.link_rules.specs.Network.{all_below}
 use Rattle.link_rules.specs.Renumbering.{Renumbering, r_link, r_train}
 use Rattle.link_rules.specs.declared.link_idx.LinkIdx.{LinkIdx}
 use Rattle.link_rules.specs.declared.link_idx.TrainIdx.{TrainIdx}
+pub use Rattle.link_rules.proofs.RangeLaws.{all_same}
 use Rattle.link_rules.proofs.OctetLaws.{Bytes, le_add, le_lt}
 use Rattle.link_rules.proofs.RenumberingLaws.{within, eqb_renumbered_0, ltb_renumbered, same_link_r}
 use Rattle.disp_structs.specs.Train.{Train}
@@ -40,11 +40,6 @@ use Rattle.image_fault.proofs.ScanLaws.{step_fit, step_unfit}
 use Rattle.image_fault.proofs.AcceptLaws.{counts-fit, fits-counts, fits-either, fits-narrow, clean_node, node-fits, accepted_in, stored-accepted}
 
 -- ---- scans over tests that agree
-
-pub all_same : (n : ℕ) (f g : ℕ → Bool) → ((i : ℕ) → i < n → f i ≡ g i) → all_below n f ≡ all_below n g
-unfolding all_below
-all_same zero f g h = refl
-all_same (suc n) f g h = ap₂ (λ (a b : Bool). a && b) (all_same n f g (λ i l. h i (omega arith))) (h n (omega arith))
 
 pub first-same : (m : ℕ) (f g : ℕ → Bool) (k i : ℕ) → ((j : ℕ) → i ≤ j → j < i + k → f j ≡ g j) → first_unfit m f k i ≡ first_unfit m g k i
 unfolding first_unfit

@@ -7,8 +7,7 @@ use native.Mathlib.Omega.{arith}
 use lib.Dec.{leb, eqb}
 use Rattle.link_rules.specs.Refusals.{no_refusal, refused, refused_unless, or_else}
 use Rattle.link_rules.specs.declared.refusal.Refusal.{Refusal}
-use Rattle.est_times.specs.declared.Cycle.{Cycle}
-use Rattle.est_times.specs.declared.Cycle.TheVariants.{None, At}
+use Rattle.std.proofs.Common.{Option, Some, None}
 use Rattle.est_times.specs.Cycles.{first_on_cycle}
 use Rattle.image.specs.Image.{est_count, path_count_of, diverge_count_of, is_wide}
 use Rattle.image_fault.specs.ImageFault.{length_fault, first_unfit, image_fits, est_fits, node_fits, header_fits, diverge_train_fits, trains_fault, value_fault, cycle_refused, cycle_fault, nexts, alts, on_route, diverge_fits, route_fault, fault_with, image_fault}
@@ -33,9 +32,9 @@ cond-low n false a b x y = y
 or_low : (n : ℕ) (a b : Refusal) → a.number ≤ n → b.number ≤ n → (or_else a b).number ≤ n
 or_low n a b x y = cond-low n (eqb a.number 0) b a y x
 
-cycle_low : (x : Cycle) → (cycle_refused x).number ≤ 9
+cycle_low : (x : Option ℕ) → (cycle_refused x).number ≤ 9
 cycle_low None = omega arith
-cycle_low (At i) = omega arith
+cycle_low (Some i) = omega arith
 
 trains-low : (bs : List ℕ) → (trains_fault bs).number ≤ 22
 unfolding trains_fault

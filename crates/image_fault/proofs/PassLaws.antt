@@ -13,13 +13,12 @@ use Rattle.link_rules.proofs.TableLaws.{all-at, both}
 use Rattle.disp_structs.specs.Values.{is_arrive}
 use Rattle.disp_structs.specs.declared.EstType.TheVariants.{Arrive, Clear, Fake}
 use Rattle.est_times.specs.Cycles.{first_on_cycle}
-use Rattle.est_times.specs.declared.Cycle.{Cycle}
-use Rattle.est_times.specs.declared.Cycle.TheVariants.{None, At}
+use Rattle.std.proofs.Common.{Option, Some, None}
 use Rattle.image.specs.Fields.{diverge_words}
 use Rattle.image.specs.Image.{est_count, path_count_of, diverge_count_of, is_wide, est_place, node_place, type_of, est_from, node_from, node_at}
 use Rattle.image_fault.specs.ImageFault.{first_unfit, counts_fit, parts_fit, train_fits, est_type_fits, node_type_fits, diverge_spare_fits, unused_zero, records_fit, image_fits, float_fits, time_fits, event_fits, est_links_fit, est_fits, node_fits, header_fits, diverge_train_fits, trains_fault, value_fault, nexts, alts, cycle_refused, cycle_fault, on_route, diverge_fits, route_fault, fault_with}
 use Rattle.image_fault.specs.declared.Widths.{Widths}
-use Rattle.link_rules.specs.Refusals.{no_refusal, or_else}
+use Rattle.link_rules.specs.Refusals.{no_refusal, or_else, raised}
 use Rattle.link_rules.specs.declared.refusal.Refusal.{Refusal}
 use Rattle.image_fault.specs.AllFit.{event_passes, acyclic, est_passes, node_passes, path_passes, head_passes, wide_passes, diverges_pass, records_pass, all_fit}
 use Rattle.image_fault.proofs.ScanLaws.{step_fit}
@@ -133,9 +132,20 @@ first-none m fits (suc k) i h = rw (step_fit m fits k i (h i (omega arith))) (fi
 
 -- ---- 8
 
-cycle_none : (c : Cycle) → eqb (cycle_refused c).number 0 ≡ true → cycle_refused c ≡ no_refusal
+cycle_none : (c : Option ℕ) → eqb (cycle_refused c).number 0 ≡ true → cycle_refused c ≡ no_refusal
 cycle_none None h = refl
-cycle_none (At i) h = absurd (omega (arith, eqb-true 8 0 h))
+cycle_none (Some i) h = absurd (omega (arith, eqb-true 8 0 h))
+
+-- ---- answers
+
+-- a refusal, or else none
+pub raised_last : (f : Refusal) → raised (or_else f no_refusal) ≡ raised f
+unfolding raised
+raised_last f = go (eqb f.number 0) refl
+  where
+    go : (t : Bool) → eqb f.number 0 ≡ t → raised (cond t no_refusal f) ≡ raised f
+    go true e = rw e
+    go false e = refl
 
 -- ---- all of them
 

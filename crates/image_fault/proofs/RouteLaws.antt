@@ -14,8 +14,7 @@ use Rattle.disp_structs.specs.Listed.{listed}
 use Rattle.disp_structs.proofs.ListedLaws.{listed_at}
 use Rattle.est_times.specs.Cycles.{first_on_cycle}
 use Rattle.est_times.specs.Walks.{Step, Steps}
-use Rattle.est_times.specs.declared.Cycle.{Cycle}
-use Rattle.est_times.specs.declared.Cycle.TheVariants.{None, At}
+use Rattle.std.proofs.Common.{Option, Some, None}
 use Rattle.est_times.proofs.WalkLaws.{or_right, or_cases}
 use Rattle.image.specs.Image.{est_count, path_count_of, diverge_count_of, est_at, node_at, diverge_at}
 use Rattle.image_fault.specs.ImageFault.{first_unfit, nexts, alts, cycle_refused, cycle_fault, steps_to, comes_from, ends_at, arrives_on, arrived, first_arrival, on_route, inner_fits, diverge_fits, route_fault}
@@ -43,9 +42,9 @@ module _ {w : Widths} (bs : List ℕ) (l : ℕ) (a : Accepted w bs l) where
   unfolding cycle_fault
   no_cycle = go (first_on_cycle (nexts bs) (alts bs) (est_count bs)) a.cycle
     where
-      go : (c : Cycle) → (cycle_refused c).number ≡ 0 → c ≡ None
+      go : (c : Option ℕ) → (cycle_refused c).number ≡ 0 → c ≡ None
       go None h = refl
-      go (At i) h = absurd (omega arith)
+      go (Some i) h = absurd (omega arith)
 
   -- 9: each node of the path passes, and each diverge node
   pub on-route : (i : ℕ) → i < path_count_of bs → on_route bs i ≡ true

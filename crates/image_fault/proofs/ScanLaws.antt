@@ -1,12 +1,13 @@
 -- One turn of each scan, as a loop has it, and what a scan that finds nothing says of each index. Assumes nothing.
-use mathlib.Core.Path.{◌≡◌, refl}
+use mathlib.Core.Path.{◌≡◌, refl, sym, ap, ◌∙◌}
 use mathlib.Core.Logic.{◌⊎◌, inl, inr}
 use mathlib.Core.Bool.{Bool, true, false}
 use Prim.Native.Nat.{ℕ, zero, suc, ◌+◌, ◌-◌, ◌≤◌, ◌<◌}
 use native.Mathlib.Nat.{eq-or-lt_of_le}
 use native.Mathlib.Omega.{arith}
 use Rattle.image_fault.specs.ImageFault.{first_unfit}
-use Rattle.link_rules.specs.Refusals.{no_refusal, refused}
+use Rattle.link_rules.specs.Refusals.{no_refusal, refused, Done, Refused, raised}
+use Rattle.link_rules.proofs.RefusalLaws.{raised_none, raised_some}
 
 -- ---- the first index that does not fit
 
@@ -28,6 +29,14 @@ module _ (m : ℕ) (fits : ℕ → Bool) (n i : ℕ) where
   pub first-end : n ≤ i → first_unfit m fits (n - i) i ≡ no_refusal
   unfolding first_unfit
   first-end l = let e : n - i ≡ 0 = omega arith in rw e
+
+  -- and so as an answer, where all before i fit
+  module _ (before : first_unfit m fits (n - i) i ≡ first_unfit m fits n 0) where
+    pub raised_unfit : (m ≡ 0 → ⊥) → i < n → fits i ≡ false → Refused (refused m i) ≡ raised (first_unfit m fits n 0)
+    raised_unfit z l h = sym (raised_some (refused m i) z) ∙ ap raised (sym (first-unfit l h) ∙ before)
+
+    pub raised_end : n ≤ i → Done ≡ raised (first_unfit m fits n 0)
+    raised_end l = sym (raised_none no_refusal refl) ∙ ap raised (sym (first-end l) ∙ before)
 
 -- where none is refused, each fits
 pub first_clean : (m : ℕ) → 0 < m → (fits : ℕ → Bool) (k i : ℕ) → (first_unfit m fits k i).number ≡ 0 → (j : ℕ) → i ≤ j → j < i + k → fits j ≡ true

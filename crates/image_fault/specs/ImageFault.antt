@@ -1,6 +1,6 @@
 -- Refusals 6 to 9 of an image with their places (document 01, Update), and 22 of its diverge records (document 02, Q-6). L is the number of links.
 -- Assumes nothing.
-use Rattle.std.specs.Prelude.{ℕ, zero, suc, ◌+◌, ◌*◌, ◌-◌, ◌%◌, Bool, true, false, cond, not, ◌&&◌, ◌||◌, List, ltb, leb, eqb, length}
+use Rattle.std.specs.Prelude.{ℕ, zero, suc, ◌+◌, ◌*◌, ◌-◌, ◌%◌, Bool, true, false, cond, not, ◌&&◌, ◌||◌, List, ltb, leb, eqb, length, Option, Some, None}
 use Rattle.std.specs.Float.Ieee.{lt}
 use Rattle.link_rules.specs.Octets.{le_at}
 use Rattle.link_rules.specs.LinkIdx.{no_link, same_link}
@@ -14,8 +14,6 @@ use Rattle.disp_structs.specs.declared.EstTime.{EstTime}
 use Rattle.disp_structs.specs.declared.DivergeNode.{DivergeNode}
 use Rattle.disp_structs.specs.Listed.{listed}
 use Rattle.est_times.specs.Cycles.{first_on_cycle}
-use Rattle.est_times.specs.declared.Cycle.{Cycle}
-use Rattle.est_times.specs.declared.Cycle.TheVariants.{None, At}
 use Rattle.image.specs.Fields.{est_offset_field, path_offset_field, diverge_offset_field, spare_field, spare_rest_field, search_field, fixed_max_field, est_dist_field, est_kind_field, node_offset_field, node_time_field, node_kind_field, node_spare_field, diverge_words, diverge_spare_field, read_field, read_in, read_first}
 use Rattle.image.specs.Image.{size_of, est_count, path_count_of, diverge_count_of, diverge_room, train_idx_of, is_wide, path_header, est_place, node_place, diverge_offset, diverge_place, image_size, largest_of, est_at, node_at, diverge_at}
 use Rattle.image.specs.declared.codec.PathHeader.{PathHeader}
@@ -150,9 +148,9 @@ nexts bs = listed (est_count bs) (λ i. (est_at bs i).idx_next.0)
 abbrev pub alts : List ℕ → List ℕ
 alts bs = listed (est_count bs) (λ i. (est_at bs i).idx_next_alt.0)
 
-abbrev pub cycle_refused : Cycle → Refusal
+abbrev pub cycle_refused : Option ℕ → Refusal
 cycle_refused None = no_refusal
-cycle_refused (At i) = refused 8 i
+cycle_refused (Some i) = refused 8 i
 
 unfoldable pub cycle_fault : List ℕ → Refusal
 cycle_fault bs = cycle_refused (first_on_cycle (nexts bs) (alts bs) (est_count bs))

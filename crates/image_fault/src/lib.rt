@@ -4,19 +4,18 @@
 
 mod pass;
 
-ghost use Rattle.std.specs.Prelude.{◌≡◌, cond, not, ◌&&◌, eqb, length, replicate, ℕ, ◌+◌, ◌-◌, ◌*◌, ◌^◌, ◌≤◌, ◌<◌};
+ghost use Rattle.std.specs.Prelude.{Bool, false, ◌≡◌, ◌&&◌, leb, length, replicate, ℕ, ◌+◌, ◌-◌, ◌*◌, ◌^◌, ◌≤◌, ◌<◌};
 ghost use Rattle.link_rules.specs.Network.{all_below};
-ghost use Rattle.disp_structs.specs.Values.{is_arrive};
-ghost use Rattle.image.specs.Image.{est_count, path_count_of, is_wide, est_at, node_at, diverge_at};
+ghost use Rattle.link_rules.specs.Refusals.{raised};
+ghost use Rattle.image.specs.Image.{est_count, path_count_of, diverge_count_of, is_wide, est_at, node_at, diverge_at};
 ghost use Rattle.image_fault.specs.ImageFault.{fault_with, image_fault, image_fits, trains_fault, diverge_train_fits, value_fault, cycle_fault, route_fault, first_unfit, counts_fit, parts_fit, width_number, train_fits, est_type_fits, node_type_fits, diverge_spare_fits, zero_word, unused_zero, records_fit, float_fits, time_fits, dist_fits, event_fits, est_links_fit, est_fits, node_fits, indices_fit, header_fits, steps_to, comes_from, ends_at, on_route, inner_fits, diverge_fits, is_accepted};
 ghost use Rattle.image_fault.specs.CodeFacts.{CountsFit, zero_byte, is_later, leads_on};
 
 use disp_structs::{DivergeNode, EstIdx, EstTime, EstType, LinkEvent, floats};
-use est_times::Cycle;
 use image::codec;
 use image::codec::PathHeader;
-use link_rules::refusal::Refusal;
-use link_rules::{octets, refusal};
+use link_rules::octets;
+use link_rules::refusal::{Refusal, refuse_unless};
 
 // The widths of the images that a call takes (document 02, Q-6).
 #[derive(Clone, Copy)]
@@ -25,8 +24,17 @@ pub enum Widths {
     Either,
 }
 
+// ---- 2: the number of links
+
+fn links_fit(links: u32) -> bool
+    ensures { result ≡ (leb 2 links && leb links 4000) }
+{
+    2 <= links && links <= 4000
+}
+
 // ---- 6: header, size, types, spare bytes, unused records
 
+#[tactic(auto, unfolding(crate::specs::ImageFault::counts_fit))]
 fn counts_fit(img: &[u8]) -> bool
     ensures { result ≡ counts_fit img.now }
 {
@@ -34,47 +42,21 @@ fn counts_fit(img: &[u8]) -> bool
     let n = codec::path_count(img);
     let m = codec::diverge_count(img);
     let q = codec::diverge_room(img);
-    if e < 1 {
-        return false;
-    }
-    if 512 < e {
-        return false;
-    }
-    if n < 1 {
-        return false;
-    }
-    if e < n {
-        return false;
-    }
-    if m < 2 {
-        return false;
-    }
-    if q < m {
-        return false;
-    }
-    q <= 1024
+    1 <= e && e <= 512 && 1 <= n && n <= e && 2 <= m && m <= q && q <= 1024
 }
 
+#[tactic(auto, unfolding(crate::specs::ImageFault::parts_fit))]
 fn parts_fit(img: &[u8]) -> bool
     ensures { result ≡ parts_fit img.now }
 {
     let e = codec::est_count(img);
-    let q = codec::diverge_room(img);
     let wide = codec::is_wide(img);
     let size = codec::size(img) as usize;
-    if octets::u32_at(img, 20) as usize != codec::est_place(0) {
-        return false;
-    }
-    if octets::u32_at(img, 24) as usize != codec::node_place(e, 0) {
-        return false;
-    }
-    if octets::u32_at(img, 28) as usize != codec::diverge_place(wide, e, 0) {
-        return false;
-    }
-    if size != codec::diverge_place(wide, e, q) {
-        return false;
-    }
-    size == img.len()
+    octets::u32_at(img, 20) as usize == codec::est_place(0)
+        && octets::u32_at(img, 24) as usize == codec::node_place(e, 0)
+        && octets::u32_at(img, 28) as usize == codec::diverge_place(wide, e, 0)
+        && size == codec::diverge_place(wide, e, codec::diverge_room(img))
+        && size == img.len()
 }
 
 // What the first spare byte and the one behind it may be at most.
@@ -87,85 +69,38 @@ fn width_number(w: Widths) -> u16
     }
 }
 
+#[tactic(auto, unfolding(crate::specs::ImageFault::train_fits))]
 fn train_fits(img: &[u8], w: Widths) -> bool
     ensures { result ≡ train_fits w img.now }
 {
-    let t = codec::train_idx(img);
-    if t.0 == 0 {
-        return false;
-    }
-    if width_number(w) < octets::u16_at(img, 42) {
-        return false;
-    }
-    octets::u32_at(img, 44) == 0
+    codec::train_idx(img).0 != 0
+        && octets::u16_at(img, 42) <= width_number(w)
+        && octets::u32_at(img, 44) == 0
 }
 
+#[tactic(auto, unfolding(crate::specs::ImageFault::est_type_fits))]
 fn est_type_fits(img: &[u8], i: u32) -> bool
     ensures { result ≡ est_type_fits img.now i }
 {
     octets::u32_at(img, codec::est_place(i) + 28) <= 2
 }
 
+#[tactic(auto, unfolding(crate::specs::ImageFault::node_type_fits))]
 fn node_type_fits(img: &[u8], i: u32) -> bool
     ensures { result ≡ node_type_fits img.now i }
 {
     let at = codec::node_place(codec::est_count(img), i);
-    if 2 < octets::u16_at(img, at + 26) {
-        return false;
-    }
-    octets::u32_at(img, at + 28) == 0
-}
-
-fn est_types_fit(img: &[u8], e: u32) -> bool
-    ensures { result ≡ all_below e (est_type_fits img.now) }
-{
-    let mut i: u32 = 0;
-    while i < e {
-        if est_type_fits(img, i) {
-            i += 1;
-        } else {
-            return false;
-        }
-    }
-    true
-}
-
-fn node_types_fit(img: &[u8], n: u32) -> bool
-    ensures { result ≡ all_below n (node_type_fits img.now) }
-{
-    let mut i: u32 = 0;
-    while i < n {
-        if node_type_fits(img, i) {
-            i += 1;
-        } else {
-            return false;
-        }
-    }
-    true
+    octets::u16_at(img, at + 26) <= 2 && octets::u32_at(img, at + 28) == 0
 }
 
 fn diverge_spare_fits(img: &[u8], i: u32) -> bool
     ensures { result ≡ diverge_spare_fits img.now i }
 {
-    if codec::is_wide(img) {
-        let at = codec::diverge_place(true, codec::est_count(img), i);
-        return octets::u16_at(img, at + 6) == 0;
-    }
-    true
-}
-
-fn diverge_spares_fit(img: &[u8], m: u32) -> bool
-    ensures { result ≡ all_below m (diverge_spare_fits img.now) }
-{
-    let mut i: u32 = 0;
-    while i < m {
-        if diverge_spare_fits(img, i) {
-            i += 1;
-        } else {
-            return false;
-        }
-    }
-    true
+    !codec::is_wide(img)
+        || octets::u16_at(
+            img,
+            codec::diverge_place(true, codec::est_count(img), i) + 6,
+        ) == 0
 }
 
 // k numbers of 4 bytes from at are 0: one run of bytes where they lie within the image.
@@ -185,10 +120,8 @@ fn bytes_zero(s: &[u8]) -> bool
     ensures { result ≡ all_below (length s.now) (zero_byte s.now) }
 {
     let mut bits: u8 = 0;
-    let mut i = 0;
-    while i < s.len() {
-        bits |= s[i];
-        i += 1;
+    for b in s {
+        bits |= *b;
     }
     bits == 0
 }
@@ -198,14 +131,7 @@ fn words_zero_past(img: &[u8], at: usize, k: usize) -> bool
     requires { at + 4 * k < 2 ^ 48 }
     ensures { result ≡ all_below k (zero_word img.now at) }
 {
-    let mut j = 0;
-    while j < k {
-        if octets::u32_at(img, at + 4 * j) != 0 {
-            return false;
-        }
-        j += 1;
-    }
-    true
+    (0..k).all(|j| octets::u32_at(img, at + 4 * j) == 0)
 }
 
 fn unused_zero(img: &[u8]) -> bool
@@ -214,52 +140,46 @@ fn unused_zero(img: &[u8]) -> bool
     let e = codec::est_count(img);
     let n = codec::path_count(img);
     let m = codec::diverge_count(img);
-    let q = codec::diverge_room(img);
-    if words_zero(img, codec::node_place(e, n), 8 * codec::count_from(n, e)) {
-        if codec::is_wide(img) {
-            return words_zero(
-                img,
-                codec::diverge_place(true, e, m),
-                2 * codec::count_from(m, q),
-            );
-        }
-        return words_zero(
+    let wide = codec::is_wide(img);
+    let words = if wide { 2 } else { 1 };
+    words_zero(img, codec::node_place(e, n), 8 * codec::count_from(n, e))
+        && words_zero(
             img,
-            codec::diverge_place(false, e, m),
-            codec::count_from(m, q),
-        );
-    }
-    false
+            codec::diverge_place(wide, e, m),
+            words * codec::count_from(m, codec::diverge_room(img)),
+        )
 }
 
+fn est_types_fit(img: &[u8]) -> bool
+    ensures { result ≡ all_below (est_count img.now) (est_type_fits img.now) }
+{
+    (0..codec::est_count(img)).all(|i| est_type_fits(img, i))
+}
+
+fn node_types_fit(img: &[u8]) -> bool
+    ensures { result ≡ all_below (path_count_of img.now) (node_type_fits img.now) }
+{
+    (0..codec::path_count(img)).all(|i| node_type_fits(img, i))
+}
+
+fn diverge_spares_fit(img: &[u8]) -> bool
+    ensures { result ≡ all_below (diverge_count_of img.now) (diverge_spare_fits img.now) }
+{
+    (0..codec::diverge_count(img)).all(|i| diverge_spare_fits(img, i))
+}
+
+#[tactic(auto, unfolding(crate::specs::ImageFault::records_fit))]
 fn records_fit(img: &[u8]) -> bool
     ensures { result ≡ records_fit img.now }
 {
-    if est_types_fit(img, codec::est_count(img)) {
-        if node_types_fit(img, codec::path_count(img)) {
-            if diverge_spares_fit(img, codec::diverge_count(img)) {
-                return unused_zero(img);
-            }
-            return false;
-        }
-        return false;
-    }
-    false
+    est_types_fit(img) && node_types_fit(img) && diverge_spares_fit(img) && unused_zero(img)
 }
 
+#[tactic(auto, unfolding(crate::specs::ImageFault::image_fits))]
 fn image_fits(img: &[u8], w: Widths) -> bool
     ensures { result ≡ image_fits w img.now }
 {
-    if counts_fit(img) {
-        if parts_fit(img) {
-            if train_fits(img, w) {
-                return records_fit(img);
-            }
-            return false;
-        }
-        return false;
-    }
-    false
+    counts_fit(img) && parts_fit(img) && train_fits(img, w) && records_fit(img)
 }
 
 // ---- 7: floats, links, est indices, and the header's indices
@@ -271,214 +191,120 @@ fn float_fits(b: u64) -> bool
     b % 0x8000_0000_0000_0000 <= 0x426d_1a94_a200_0000
 }
 
+#[tactic(auto, unfolding(crate::specs::ImageFault::time_fits))]
 fn time_fits(b: u64) -> bool
     ensures { result ≡ time_fits b }
 {
-    if b == 0x7ff0_0000_0000_0000 {
-        return true;
-    }
-    float_fits(b)
+    b == 0x7ff0_0000_0000_0000 || float_fits(b)
 }
 
+#[tactic(auto, unfolding(crate::specs::ImageFault::dist_fits))]
 fn dist_fits(b: u64) -> bool
     ensures { result ≡ dist_fits b }
 {
-    if float_fits(b) {
-        if floats::real_of(b) < 0.0 {
-            return false;
-        }
-        return true;
-    }
-    false
+    float_fits(b) && !(floats::real_of(b) < 0.0)
 }
 
+#[tactic(auto, unfolding(crate::specs::ImageFault::event_fits))]
 fn event_fits(l: u32, e: LinkEvent) -> bool
     ensures { result ≡ event_fits l e }
 {
-    if l <= e.link_idx.0 {
-        return false;
-    }
-    let t = e.est_type;
-    match t {
-        EstType::Arrive => e.link_idx.0 != 0,
-        EstType::Clear => true,
-        EstType::Fake => true,
-    }
+    e.link_idx.0 < l && !(e.est_type == EstType::Arrive && e.link_idx.0 == 0)
 }
 
+#[tactic(auto, unfolding(crate::specs::ImageFault::est_links_fit))]
 fn est_links_fit(e: u32, x: EstTime) -> bool
     ensures { result ≡ est_links_fit e x }
 {
-    if e <= x.idx_next.0 {
-        return false;
-    }
-    if e <= x.idx_next_alt.0 {
-        return false;
-    }
-    if e <= x.idx_prev.0 {
-        return false;
-    }
-    x.idx_prev_alt.0 < e
+    x.idx_next.0 < e && x.idx_next_alt.0 < e && x.idx_prev.0 < e && x.idx_prev_alt.0 < e
 }
 
+#[tactic(auto, unfolding(crate::specs::ImageFault::est_fits))]
 fn est_fits(img: &[u8], l: u32, i: u32) -> bool
     ensures { result ≡ est_fits img.now l i }
 {
-    if float_fits(octets::u64_at(img, codec::est_place(i))) {
-        let x = codec::est_at(img, i);
-        if est_links_fit(codec::est_count(img), x) {
-            return event_fits(l, x.link_event);
-        }
-        return false;
-    }
-    false
+    let x = codec::est_at(img, i);
+    float_fits(octets::u64_at(img, codec::est_place(i)))
+        && est_links_fit(codec::est_count(img), x)
+        && event_fits(l, x.link_event)
 }
 
+#[tactic(auto, unfolding(crate::specs::ImageFault::node_fits))]
 fn node_fits(img: &[u8], l: u32, i: u32) -> bool
     ensures { result ≡ node_fits img.now l i }
 {
     let e = codec::est_count(img);
     let at = codec::node_place(e, i);
-    if float_fits(octets::u64_at(img, at)) {
-        if time_fits(octets::u64_at(img, at + 8)) {
-            let x = codec::node_est_idx(img, i);
-            if e <= x.0 {
-                return false;
-            }
-            return event_fits(l, codec::node_link_event(img, i));
-        }
-        return false;
-    }
-    false
+    float_fits(octets::u64_at(img, at))
+        && time_fits(octets::u64_at(img, at + 8))
+        && codec::node_est_idx(img, i).0 < e
+        && event_fits(l, codec::node_link_event(img, i))
 }
 
+#[tactic(auto, unfolding(crate::specs::ImageFault::indices_fit))]
 fn indices_fit(h: PathHeader) -> bool
     ensures { result ≡ indices_fit h }
 {
-    if h.path_count < h.fixed as u32 {
-        return false;
-    }
-    if h.path_count < h.free as u32 {
-        return false;
-    }
-    if h.path_count <= h.front as u32 {
-        return false;
-    }
-    (h.back as u32) < h.path_count
+    let n = h.path_count;
+    h.fixed as u32 <= n && h.free as u32 <= n && (h.front as u32) < n && (h.back as u32) < n
 }
 
+#[tactic(auto, unfolding(crate::specs::ImageFault::header_fits))]
 fn header_fits(img: &[u8]) -> bool
     ensures { result ≡ header_fits img.now }
 {
-    if dist_fits(octets::u64_at(img, 48)) {
-        if dist_fits(octets::u64_at(img, 56)) {
-            return indices_fit(codec::path_header(img));
-        }
-        return false;
-    }
-    false
+    dist_fits(octets::u64_at(img, 48))
+        && dist_fits(octets::u64_at(img, 56))
+        && indices_fit(codec::path_header(img))
 }
 
-fn est_fault(img: &[u8], l: u32, e: u32) -> Refusal
-    requires { e ≤ 512 }
-    ensures { result ≡ first_unfit 7 (est_fits img.now l) e 0 }
+// Refusal `number` at the first of the n indices that does not fit.
+fn first_unfit<F: Fn(u32) -> bool>(number: u16, n: u32, fits: F) -> Result<(), Refusal>
+    requires callable { F.IsAlwaysCallable fits }
+    requires number { 0 < number }
+    requires few { n ≤ 1024 }
+    ensures { (test : ℕ → Bool) → ((i : ℕ) → i < n → (b : Bool) → F.post fits i b → b ≡ test i) → result ≡ raised (first_unfit number test n 0) }
 {
-    let mut i: u32 = 0;
-    while i < e {
-        if est_fits(img, l, i) {
-            i += 1;
-        } else {
-            return Refusal {
-                number: 7,
+    for i in 0..n {
+        if !fits(i) {
+            return Err(Refusal {
+                number,
                 place: i as u16,
-            };
+            });
         }
     }
-    Refusal {
-        number: 0,
-        place: 0,
-    }
-}
-
-fn node_fault(img: &[u8], l: u32, n: u32) -> Refusal
-    requires { n ≤ 512 }
-    ensures { result ≡ first_unfit 7 (node_fits img.now l) n 0 }
-{
-    let mut i: u32 = 0;
-    while i < n {
-        if node_fits(img, l, i) {
-            i += 1;
-        } else {
-            return Refusal {
-                number: 7,
-                place: i as u16,
-            };
-        }
-    }
-    Refusal {
-        number: 0,
-        place: 0,
-    }
+    Ok(())
 }
 
 fn diverge_train_fits(img: &[u8], i: u32) -> bool
     ensures { result ≡ diverge_train_fits img.now i }
 {
-    let d = codec::diverge_at(img, i);
-    d.train_idx.0 <= 999999
+    codec::diverge_at(img, i).train_idx.0 <= 999999
 }
 
-fn first_large_train(img: &[u8], m: u32) -> Refusal
-    requires { m ≤ 1024 }
-    ensures { result ≡ first_unfit 22 (diverge_train_fits img.now) m 0 }
-{
-    let mut i: u32 = 0;
-    while i < m {
-        if diverge_train_fits(img, i) {
-            i += 1;
-        } else {
-            return Refusal {
-                number: 22,
-                place: i as u16,
-            };
-        }
-    }
-    Refusal {
-        number: 0,
-        place: 0,
-    }
-}
-
-fn trains_fault(img: &[u8]) -> Refusal
+fn trains_fault(img: &[u8]) -> Result<(), Refusal>
     requires { CountsFit img.now }
-    ensures { result ≡ trains_fault img.now }
+    ensures { result ≡ raised (trains_fault img.now) }
 {
     if codec::is_wide(img) {
-        return first_large_train(img, codec::diverge_count(img));
+        return first_unfit(
+            22,
+            codec::diverge_count(img),
+            |i| diverge_train_fits(img, i),
+        );
     }
-    Refusal {
-        number: 0,
-        place: 0,
-    }
+    Ok(())
 }
 
 // Est records come first, then path records, then the header, then trains by 22.
-fn value_fault(img: &[u8], l: u32) -> Refusal
+fn value_fault(img: &[u8], l: u32) -> Result<(), Refusal>
     requires { CountsFit img.now }
-    ensures { result ≡ value_fault img.now l }
+    ensures { result ≡ raised (value_fault img.now l) }
 {
-    let in_ests = est_fault(img, l, codec::est_count(img));
-    if in_ests.number != 0 {
-        return in_ests;
-    }
-    let in_path = node_fault(img, l, codec::path_count(img));
-    if in_path.number != 0 {
-        return in_path;
-    }
-    refusal::or_else(
-        refusal::refused_unless(header_fits(img), 7),
-        trains_fault(img),
-    )
+    first_unfit(7, codec::est_count(img), |i| est_fits(img, l, i))?;
+    first_unfit(7, codec::path_count(img), |i| node_fits(img, l, i))?;
+    refuse_unless(header_fits(img), 7)?;
+    trains_fault(img)
 }
 
 // ---- 8: next and alt form a cycle
@@ -487,72 +313,50 @@ fn value_fault(img: &[u8], l: u32) -> Refusal
 fn is_later(i: u32, t: EstIdx) -> bool
     ensures { result ≡ is_later i t }
 {
-    if t.0 == 0 {
-        return true;
-    }
-    i < t.0
+    t.0 == 0 || i < t.0
 }
 
+#[tactic(auto, unfolding(crate::specs::CodeFacts::leads_on))]
 fn leads_on(img: &[u8], i: u32) -> bool
     ensures { result ≡ leads_on img.now i }
 {
-    if is_later(i, codec::est_next(img, i)) {
-        return is_later(i, codec::est_next_alt(img, i));
-    }
-    false
+    is_later(i, codec::est_next(img, i)) && is_later(i, codec::est_next_alt(img, i))
 }
 
 fn ascends(img: &[u8], e: u32) -> bool
     ensures { result ≡ all_below e (leads_on img.now) }
 {
-    let mut i: u32 = 0;
-    while i < e {
-        if leads_on(img, i) {
-            i += 1;
-        } else {
-            return false;
-        }
-    }
-    true
+    (0..e).all(|i| leads_on(img, i))
 }
 
-fn lowest_on_cycle(img: &[u8], e: u32) -> Refusal
+fn lowest_on_cycle(img: &[u8], e: u32) -> Result<(), Refusal>
     requires { (e ≡ est_count img.now) × (e ≤ 512) }
-    ensures { result ≡ cycle_fault img.now }
+    ensures { result ≡ raised (cycle_fault img.now) }
 {
     let mut next = [0u32; 512];
     let mut alt = [0u32; 512];
-    let mut i: u32 = 0;
-    while i < e {
+    for i in 0..e {
         let x = codec::est_next(img, i);
         let y = codec::est_next_alt(img, i);
         next[i as usize] = x.0;
         alt[i as usize] = y.0;
-        i += 1;
     }
-    let c = est_times::cycle_at(&next, &alt, e as usize);
-    match c {
-        Cycle::None => Refusal {
-            number: 0,
-            place: 0,
-        },
-        Cycle::At(a) => Refusal {
+    match est_times::cycle_at(&next, &alt, e as usize) {
+        None => Ok(()),
+        Some(a) => Err(Refusal {
             number: 8,
             place: a as u16,
-        },
+        }),
     }
 }
 
 // Where every record leads to later ones alone, as in most images, there is no cycle; only for the others are arrays filled and searched.
-fn cycle_fault(img: &[u8], e: u32) -> Refusal
+fn cycle_fault(img: &[u8], e: u32) -> Result<(), Refusal>
     requires { (e ≡ est_count img.now) × (e ≤ 512) }
-    ensures { result ≡ cycle_fault img.now }
+    ensures { result ≡ raised (cycle_fault img.now) }
 {
     if ascends(img, e) {
-        return Refusal {
-            number: 0,
-            place: 0,
-        };
+        return Ok(());
     }
     lowest_on_cycle(img, e)
 }
@@ -560,21 +364,15 @@ fn cycle_fault(img: &[u8], e: u32) -> Refusal
 // ---- 9: the path, then the diverge nodes
 
 // By next or alt of record b.
+#[tactic(auto, unfolding(crate::specs::ImageFault::steps_to))]
 fn steps_to(img: &[u8], b: EstIdx, x: EstIdx) -> bool
     ensures { result ≡ steps_to (est_at img.now b.0).idx_next (est_at img.now b.0).idx_next_alt x }
 {
-    if x.0 == 0 {
-        return false;
-    }
-    let next = codec::est_next(img, b.0);
-    if x.0 == next.0 {
-        return true;
-    }
-    let alt = codec::est_next_alt(img, b.0);
-    x.0 == alt.0
+    x.0 != 0 && (x == codec::est_next(img, b.0) || x == codec::est_next_alt(img, b.0))
 }
 
 // In the next three, x is the est index of node i, and b that of the node before it.
+#[tactic(auto, unfolding(crate::specs::ImageFault::comes_from))]
 fn comes_from(img: &[u8], i: u32, b: EstIdx, x: EstIdx) -> bool
     requires { (x ≡ (node_at img.now i).est_idx) × (0 < i → b ≡ (node_at img.now (i - 1)).est_idx) }
     ensures { result ≡ comes_from img.now i }
@@ -585,110 +383,68 @@ fn comes_from(img: &[u8], i: u32, b: EstIdx, x: EstIdx) -> bool
     steps_to(img, b, x)
 }
 
+#[tactic(auto, unfolding(crate::specs::ImageFault::ends_at))]
 fn ends_at(img: &[u8], n: u32, i: u32, x: EstIdx) -> bool
     requires { (n ≡ path_count_of img.now) × (x ≡ (node_at img.now i).est_idx) }
     ensures { result ≡ ends_at img.now i }
 {
-    if (i as usize) + 1 != n as usize {
-        return true;
-    }
-    let next = codec::est_next(img, x.0);
-    next.0 == 0
+    (i as usize) + 1 != n as usize || codec::est_next(img, x.0).0 == 0
 }
 
 fn on_route(img: &[u8], n: u32, i: u32, b: EstIdx, x: EstIdx, first: bool) -> bool
     requires { (n ≡ path_count_of img.now) × (x ≡ (node_at img.now i).est_idx) × (0 < i → b ≡ (node_at img.now (i - 1)).est_idx) }
     ensures { result ≡ (comes_from img.now i && (ends_at img.now i && first)) }
 {
-    if comes_from(img, i, b, x) {
-        if ends_at(img, n, i, x) {
-            return first;
-        }
-        return false;
-    }
-    false
+    comes_from(img, i, b, x) && ends_at(img, n, i, x) && first
 }
 
-// t is the type of a node, and seen the flag of its link: not 0 where an Arrive before it has the link.
-fn is_first(t: EstType, seen: u8) -> bool
-    ensures { result ≡ not (is_arrive t && not (eqb seen 0)) }
-{
-    match t {
-        EstType::Arrive => seen == 0,
-        EstType::Clear => true,
-        EstType::Fake => true,
-    }
-}
-
-// The flag of an event's link, after the event.
-fn marked(t: EstType, seen: u8) -> u8
-    ensures { result ≡ cond (is_arrive t) 1 seen }
-{
-    match t {
-        EstType::Arrive => 1,
-        EstType::Clear => seen,
-        EstType::Fake => seen,
-    }
-}
-
-// The links of the Arrive nodes so far are kept as flags, all 0 at first.
-fn path_fault_in(img: &[u8], n: u32, seen: &mut [u8]) -> Refusal
-    requires { (n ≡ path_count_of img.now) × (n ≤ 512) × (seen.old ≡ replicate (length seen.old) 0) × ((i : ℕ) → i < n → (node_at img.now i).link_event.link_idx.0 < length seen.old) }
-    ensures { result ≡ first_unfit 9 (on_route img.now) n 0 }
+// The links of the Arrive nodes so far are kept as flags, none at first.
+fn path_fault_in(img: &[u8], n: u32, seen: &mut [bool]) -> Result<(), Refusal>
+    requires { (n ≡ path_count_of img.now) × (n ≤ 512) × (seen.old ≡ replicate (length seen.old) false) × ((i : ℕ) → i < n → (node_at img.now i).link_event.link_idx.0 < length seen.old) }
+    ensures { result ≡ raised (first_unfit 9 (on_route img.now) n 0) }
 {
     let mut b = EstIdx(0);
-    let mut i: u32 = 0;
-    while i < n {
+    for i in 0..n {
         let x = codec::node_est_idx(img, i);
         let e = codec::node_link_event(img, i);
-        let t = e.est_type;
         let l = e.link_idx.0 as usize;
-        if on_route(img, n, i, b, x, is_first(t, seen[l])) {
-            seen[l] = marked(t, seen[l]);
-            b = x;
-            i += 1;
-        } else {
-            return Refusal {
+        let arrives = e.est_type == EstType::Arrive;
+        if !on_route(img, n, i, b, x, !(arrives & seen[l])) {
+            return Err(Refusal {
                 number: 9,
                 place: i as u16,
-            };
+            });
         }
+        seen[l] |= arrives;
+        b = x;
     }
-    Refusal {
-        number: 0,
-        place: 0,
-    }
+    Ok(())
 }
 
-// Few links have few flags, which take less time to clear.
-fn path_fault(img: &[u8], n: u32, links: u32) -> Refusal
+// Few links have few flags, which take less time to clear. A function with the number as a const parameter would be called from the same two lines.
+fn path_fault(img: &[u8], n: u32, links: u32) -> Result<(), Refusal>
     requires { (n ≡ path_count_of img.now) × (n ≤ 512) × (links ≤ 4000) × ((i : ℕ) → i < n → (node_at img.now i).link_event.link_idx.0 < links) }
-    ensures { result ≡ first_unfit 9 (on_route img.now) n 0 }
+    ensures { result ≡ raised (first_unfit 9 (on_route img.now) n 0) }
 {
     if links <= 512 {
-        let mut few = [0u8; 512];
+        let mut few = [false; 512];
         return path_fault_in(img, n, &mut few);
     }
-    let mut seen = [0u8; 4000];
+    let mut seen = [false; 4000];
     path_fault_in(img, n, &mut seen)
 }
 
+#[tactic(auto, unfolding(crate::specs::ImageFault::inner_fits))]
 fn inner_fits(n: u32, d: DivergeNode, b: DivergeNode) -> bool
     ensures { result ≡ inner_fits n d b }
 {
-    if d.train_idx.0 == 0 {
-        return false;
-    }
-    if d.disp_node_idx < 1 {
-        return false;
-    }
-    if n <= d.disp_node_idx {
-        return false;
-    }
-    b.disp_node_idx <= d.disp_node_idx
+    d.train_idx.0 != 0
+        && 1 <= d.disp_node_idx
+        && d.disp_node_idx < n
+        && b.disp_node_idx <= d.disp_node_idx
 }
 
-// In the next three, wide is the width of the image, which is asked once for all records.
+// In the next three, wide is the width of the image, which is asked once for all records: a parameter, since an image is lent as its bytes.
 fn diverge_of(img: &[u8], wide: bool, i: u32) -> DivergeNode
     requires { wide ≡ is_wide img.now }
     ensures { result ≡ diverge_at img.now i }
@@ -696,6 +452,7 @@ fn diverge_of(img: &[u8], wide: bool, i: u32) -> DivergeNode
     codec::diverge_with(img, wide, codec::est_count(img), i)
 }
 
+#[tactic(auto, unfolding(crate::specs::ImageFault::diverge_fits))]
 fn diverge_fits(img: &[u8], wide: bool, i: u32) -> bool
     requires { wide ≡ is_wide img.now }
     ensures { result ≡ diverge_fits img.now i }
@@ -703,10 +460,7 @@ fn diverge_fits(img: &[u8], wide: bool, i: u32) -> bool
     let d = diverge_of(img, wide, i);
     let n = codec::path_count(img);
     if i == 0 {
-        if d.train_idx.0 == 0 {
-            return d.disp_node_idx == 0;
-        }
-        return false;
+        return d.train_idx.0 == 0 && d.disp_node_idx == 0;
     }
     if (i as usize) + 1 == codec::diverge_count(img) as usize {
         return d.disp_node_idx == n;
@@ -714,112 +468,57 @@ fn diverge_fits(img: &[u8], wide: bool, i: u32) -> bool
     inner_fits(n, d, diverge_of(img, wide, i - 1))
 }
 
-fn diverge_fault(img: &[u8], wide: bool, m: u32) -> Refusal
-    requires { (wide ≡ is_wide img.now) × (m ≤ 1024) }
-    ensures { result ≡ first_unfit 9 (diverge_fits img.now) m 0 }
-{
-    let mut i: u32 = 0;
-    while i < m {
-        if diverge_fits(img, wide, i) {
-            i += 1;
-        } else {
-            return Refusal {
-                number: 9,
-                place: i as u16,
-            };
-        }
-    }
-    Refusal {
-        number: 0,
-        place: 0,
-    }
-}
-
-fn route_fault(img: &[u8], links: u32) -> Refusal
+fn route_fault(img: &[u8], links: u32) -> Result<(), Refusal>
     requires { (CountsFit img.now) × (links ≤ 4000) × ((i : ℕ) → i < path_count_of img.now → (node_at img.now i).link_event.link_idx.0 < links) }
-    ensures { result ≡ route_fault img.now }
+    ensures { result ≡ raised (route_fault img.now) }
 {
-    let f = path_fault(img, codec::path_count(img), links);
-    if f.number != 0 {
-        return f;
-    }
-    diverge_fault(img, codec::is_wide(img), codec::diverge_count(img))
+    path_fault(img, codec::path_count(img), links)?;
+    let wide = codec::is_wide(img);
+    first_unfit(9, codec::diverge_count(img), |i| diverge_fits(img, wide, i))
 }
 
 // The first refusal, one number after the other; own is the call's between 6 and 7.
-fn first_fault(img: &[u8], links: u32, w: Widths, own: Refusal) -> Refusal
-    ensures { result ≡ fault_with w own img.now links }
+fn first_fault(img: &[u8], links: u32, w: Widths, own: Result<(), Refusal>) -> Result<(), Refusal>
+    ensures { (f : Refusal) → own ≡ raised f → result ≡ raised (fault_with w f img.now links) }
 {
-    if links < 2 {
-        return Refusal {
-            number: 2,
-            place: 0,
-        };
-    }
-    if 4000 < links {
-        return Refusal {
-            number: 2,
-            place: 0,
-        };
-    }
-    if image_fits(img, w) {
-        if own.number != 0 {
-            return own;
-        }
-        let f = value_fault(img, links);
-        if f.number != 0 {
-            return f;
-        }
-        let g = cycle_fault(img, codec::est_count(img));
-        if g.number != 0 {
-            return g;
-        }
-        return route_fault(img, links);
-    }
-    Refusal {
-        number: 6,
-        place: 0,
-    }
+    refuse_unless(links_fit(links), 2)?;
+    refuse_unless(image_fits(img, w), 6)?;
+    own?;
+    value_fault(img, links)?;
+    cycle_fault(img, codec::est_count(img))?;
+    route_fault(img, links)
 }
 
 // The first refusal of an image of the widths w over `links` links, in the order of documents 01 and 02; own is the call's between 6 and 7, or none.
 // Most images have none, and one pass tells.
-pub fn fault_with(img: &[u8], links: u32, w: Widths, own: Refusal) -> Refusal
-    ensures { result ≡ fault_with w own img.now links }
+pub fn fault_with(
+    img: &[u8],
+    links: u32,
+    w: Widths,
+    own: Result<(), Refusal>,
+) -> Result<(), Refusal>
+    ensures { (f : Refusal) → own ≡ raised f → result ≡ raised (fault_with w f img.now links) }
 {
     if pass::all_fit(img, links, w) {
-        let none = Refusal {
-            number: 0,
-            place: 0,
-        };
-        return refusal::or_else(own, none);
+        return own;
     }
     first_fault(img, links, w, own)
 }
 
 // The first refusal of a narrow image over `links` links, in document 01's order; a wide one is refused by 6.
 // It asks for itself what fault_with does, since a pass that is called at two places is compiled apart, and its loops keep their registers.
-pub fn image_fault(img: &[u8], links: u32) -> Refusal
-    ensures { result ≡ image_fault img.now links }
+pub fn image_fault(img: &[u8], links: u32) -> Result<(), Refusal>
+    ensures { result ≡ raised (image_fault img.now links) }
 {
-    let none = Refusal {
-        number: 0,
-        place: 0,
-    };
     if pass::all_fit(img, links, Widths::Narrow) {
-        return none;
+        return Ok(());
     }
-    first_fault(img, links, Widths::Narrow, none)
+    first_fault(img, links, Widths::Narrow, Ok(()))
 }
 
 // Whether an image of either width passes 6 to 9, with 22 of a diverge record at the end of 7.
 pub fn is_accepted(img: &[u8], links: u32) -> bool
     ensures { result ≡ is_accepted img.now links }
 {
-    let none = Refusal {
-        number: 0,
-        place: 0,
-    };
-    let fault = fault_with(img, links, Widths::Either, none);
-    fault.number == 0
+    fault_with(img, links, Widths::Either, Ok(())).is_ok()
 }

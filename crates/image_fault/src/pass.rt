@@ -1,7 +1,7 @@
 // One pass over an image, which says only whether all fits: 6, 7 and 9 are asked of a record together, of a wide diverge record 22 too, and 8 of
 // the est records where they do not all lead to later ones. The functions of a record are small, so that they are inlined and one test of the length
 // serves every field of it.
-ghost use Rattle.std.specs.Prelude.{◌≡◌, cond, true, not, ◌&&◌, eqb, length, replicate, ◌≤◌};
+ghost use Rattle.std.specs.Prelude.{◌≡◌, cond, true, false, Some, None, length, replicate, ◌≤◌};
 ghost use Rattle.link_rules.specs.Network.{all_below};
 ghost use Rattle.disp_structs.specs.Values.{is_arrive};
 ghost use Rattle.image.specs.Image.{est_count, path_count_of, diverge_count_of, is_wide, node_at};
@@ -14,119 +14,69 @@ use disp_structs::EstIdx;
 use image::codec;
 use link_rules::octets;
 
+// e is the number of est records, asked once by records_pass: a struct of the image and e would say no more than the clause does.
+
 // ---- est records
 
+#[tactic(auto, unfolding(crate::specs::AllFit::event_passes))]
 fn event_passes(links: u32, link: u32, kind: u32) -> bool
     ensures { result ≡ event_passes links link kind }
 {
-    if 2 < kind {
-        return false;
-    }
-    if links <= link {
-        return false;
-    }
-    if kind == 0 {
-        return link != 0;
-    }
-    true
+    kind <= 2 && link < links && !(kind == 0 && link == 0)
 }
 
+#[tactic(auto, unfolding(crate::specs::AllFit::est_passes))]
 fn est_passes(img: &[u8], e: u32, links: u32, i: u32) -> bool
     requires { e ≡ est_count img.now }
     ensures { result ≡ est_passes img.now links i }
 {
     let at = codec::est_place(i);
-    if img.len() < at + 32 {
-        return false;
-    }
-    if crate::float_fits(octets::u64_at(img, at)) {
-        if event_passes(
+    at + 32 <= img.len()
+        && crate::float_fits(octets::u64_at(img, at))
+        && event_passes(
             links,
             octets::u32_at(img, at + 24),
             octets::u32_at(img, at + 28),
-        ) {
-            if octets::u32_at(img, at + 8) < e {
-                if octets::u32_at(img, at + 12) < e {
-                    if e <= octets::u32_at(img, at + 16) {
-                        return false;
-                    }
-                    return octets::u32_at(img, at + 20) < e;
-                }
-                return false;
-            }
-            return false;
-        }
-        return false;
-    }
-    false
+        )
+        && octets::u32_at(img, at + 8) < e
+        && octets::u32_at(img, at + 12) < e
+        && octets::u32_at(img, at + 16) < e
+        && octets::u32_at(img, at + 20) < e
 }
 
-// Do all est records pass? Where they do: does each lead to later ones alone?
-#[derive(Clone, Copy)]
-pub struct Ests {
-    pub pass: bool,
-    pub ascend: bool,
-}
-
-fn still_ascends(ascend: bool, img: &[u8], i: u32) -> bool
-    ensures { result ≡ (ascend && leads_on img.now i) }
-{
-    if ascend {
-        return crate::leads_on(img, i);
-    }
-    false
-}
-
-fn ests_pass(img: &[u8], e: u32, links: u32) -> Ests
+// None where an est record does not pass; else, does each lead to later ones alone?
+fn ests_pass(img: &[u8], e: u32, links: u32) -> Option<bool>
     requires { e ≡ est_count img.now }
-    ensures { (result.pass ≡ all_below e (est_passes img.now links)) × (result.pass ≡ true → result.ascend ≡ all_below e (leads_on img.now)) }
+    ensures { result ≡ cond (all_below e (est_passes img.now links)) (Some (all_below e (leads_on img.now))) None }
 {
     let mut ascend = true;
-    let mut i: u32 = 0;
-    while i < e {
-        if est_passes(img, e, links, i) {
-            ascend = still_ascends(ascend, img, i);
-            i += 1;
-        } else {
-            return Ests {
-                pass: false,
-                ascend: false,
-            };
+    for i in 0..e {
+        if !est_passes(img, e, links, i) {
+            return None;
         }
+        ascend = ascend && crate::leads_on(img, i);
     }
-    Ests {
-        pass: true,
-        ascend: ascend,
-    }
+    Some(ascend)
 }
 
 // ---- path records
 
+#[tactic(auto, unfolding(crate::specs::AllFit::node_passes))]
 fn node_passes(img: &[u8], e: u32, links: u32, i: u32) -> bool
     requires { e ≡ est_count img.now }
     ensures { result ≡ node_passes img.now links i }
 {
     let at = codec::node_place(e, i);
-    if img.len() < at + 32 {
-        return false;
-    }
-    if crate::float_fits(octets::u64_at(img, at)) {
-        if crate::time_fits(octets::u64_at(img, at + 8)) {
-            if event_passes(
-                links,
-                octets::u32_at(img, at + 16),
-                octets::u16_at(img, at + 26) as u32,
-            ) {
-                if e <= octets::u32_at(img, at + 20) {
-                    return false;
-                }
-                return octets::u32_at(img, at + 28) == 0;
-            }
-            return false;
-        }
-        return false;
-    }
-    false
+    at + 32 <= img.len()
+        && crate::float_fits(octets::u64_at(img, at))
+        && crate::time_fits(octets::u64_at(img, at + 8))
+        && event_passes(
+            links,
+            octets::u32_at(img, at + 16),
+            octets::u16_at(img, at + 26) as u32,
+        )
+        && octets::u32_at(img, at + 20) < e
+        && octets::u32_at(img, at + 28) == 0
 }
 
 fn est_of(img: &[u8], e: u32, i: u32) -> EstIdx
@@ -150,62 +100,38 @@ fn arrives(img: &[u8], e: u32, links: u32, i: u32) -> bool
     octets::u16_at(img, codec::node_place(e, i) + 26) == 0
 }
 
-// a: the node is an Arrive; seen: the flag of its link, not 0 where an Arrive before it has the link.
-fn comes_first(a: bool, seen: u8) -> bool
-    ensures { result ≡ not (a && not (eqb seen 0)) }
-{
-    if a {
-        return seen == 0;
-    }
-    true
-}
-
-// The flag of the link, after the node.
-fn flag_after(a: bool, seen: u8) -> u8
-    ensures { result ≡ cond a 1 seen }
-{
-    if a {
-        return 1;
-    }
-    seen
-}
-
-// The links of the Arrive nodes so far are kept as flags, all 0 at first.
-fn path_passes_in(img: &[u8], e: u32, n: u32, links: u32, seen: &mut [u8]) -> bool
-    requires { (e ≡ est_count img.now) × (n ≡ path_count_of img.now) × (links ≤ length seen.old) × (seen.old ≡ replicate (length seen.old) 0) }
+// The links of the Arrive nodes so far are kept as flags, none at first.
+fn path_passes_in(img: &[u8], e: u32, n: u32, links: u32, seen: &mut [bool]) -> bool
+    requires { (e ≡ est_count img.now) × (n ≡ path_count_of img.now) × (links ≤ length seen.old) × (seen.old ≡ replicate (length seen.old) false) }
     ensures { result ≡ all_below n (path_passes img.now links) }
 {
     let mut b = EstIdx(0);
-    let mut i: u32 = 0;
-    while i < n {
-        if node_passes(img, e, links, i) {
-            let x = est_of(img, e, i);
-            let l = link_of(img, e, i) as usize;
-            let a = arrives(img, e, links, i);
-            if crate::on_route(img, n, i, b, x, comes_first(a, seen[l])) {
-                seen[l] = flag_after(a, seen[l]);
-                b = x;
-                i += 1;
-            } else {
-                return false;
-            }
-        } else {
+    for i in 0..n {
+        if !node_passes(img, e, links, i) {
             return false;
         }
+        let x = est_of(img, e, i);
+        let l = link_of(img, e, i) as usize;
+        let a = arrives(img, e, links, i);
+        if !crate::on_route(img, n, i, b, x, !(a & seen[l])) {
+            return false;
+        }
+        seen[l] |= a;
+        b = x;
     }
     true
 }
 
-// Few links have few flags, which take less time to clear.
+// Few links have few flags, which take less time to clear: two lines, as path_fault has them.
 fn path_passes(img: &[u8], e: u32, n: u32, links: u32) -> bool
     requires { (e ≡ est_count img.now) × (n ≡ path_count_of img.now) × (links ≤ 4000) }
     ensures { result ≡ all_below n (path_passes img.now links) }
 {
     if links <= 512 {
-        let mut few = [0u8; 512];
+        let mut few = [false; 512];
         return path_passes_in(img, e, n, links, &mut few);
     }
-    let mut seen = [0u8; 4000];
+    let mut seen = [false; 4000];
     path_passes_in(img, e, n, links, &mut seen)
 }
 
@@ -216,70 +142,40 @@ fn diverges_fit(img: &[u8], wide: bool, m: u32) -> bool
     requires { wide ≡ is_wide img.now }
     ensures { result ≡ all_below m (diverge_fits img.now) }
 {
-    let mut i: u32 = 0;
-    while i < m {
-        if crate::diverge_fits(img, wide, i) {
-            i += 1;
-        } else {
-            return false;
-        }
-    }
-    true
+    (0..m).all(|i| crate::diverge_fits(img, wide, i))
 }
 
+#[tactic(auto, unfolding(crate::specs::AllFit::wide_passes))]
 fn wide_passes(img: &[u8], i: u32) -> bool
     ensures { result ≡ wide_passes img.now i }
 {
-    if crate::diverge_spare_fits(img, i) {
-        return crate::diverge_train_fits(img, i);
-    }
-    false
+    crate::diverge_spare_fits(img, i) && crate::diverge_train_fits(img, i)
 }
 
 fn wides_pass(img: &[u8], m: u32) -> bool
     ensures { result ≡ all_below m (wide_passes img.now) }
 {
-    let mut i: u32 = 0;
-    while i < m {
-        if wide_passes(img, i) {
-            i += 1;
-        } else {
-            return false;
-        }
-    }
-    true
+    (0..m).all(|i| wide_passes(img, i))
 }
 
+#[tactic(auto, unfolding(crate::specs::AllFit::diverges_pass))]
 fn diverges_pass(img: &[u8], m: u32) -> bool
     requires { m ≡ diverge_count_of img.now }
     ensures { result ≡ diverges_pass img.now }
 {
     let wide = codec::is_wide(img);
-    if diverges_fit(img, wide, m) {
-        if wide {
-            return wides_pass(img, m);
-        }
-        return true;
-    }
-    false
+    diverges_fit(img, wide, m) && (!wide || wides_pass(img, m))
 }
 
+#[tactic(auto, unfolding(crate::specs::AllFit::head_passes))]
 fn head_passes(img: &[u8], w: Widths) -> bool
     ensures { result ≡ head_passes w img.now }
 {
-    if crate::counts_fit(img) {
-        if crate::parts_fit(img) {
-            if crate::train_fits(img, w) {
-                if crate::header_fits(img) {
-                    return crate::unused_zero(img);
-                }
-                return false;
-            }
-            return false;
-        }
-        return false;
-    }
-    false
+    crate::counts_fit(img)
+        && crate::parts_fit(img)
+        && crate::train_fits(img, w)
+        && crate::header_fits(img)
+        && crate::unused_zero(img)
 }
 
 // ascend: each est record leads to later ones alone, as in most images; only for the others are arrays filled and searched.
@@ -287,42 +183,28 @@ fn is_acyclic(img: &[u8], e: u32, ascend: bool) -> bool
     requires { (e ≡ est_count img.now) × (e ≤ 512) × (ascend ≡ all_below e (leads_on img.now)) }
     ensures { result ≡ acyclic img.now }
 {
-    if ascend {
-        return true;
-    }
-    let f = crate::lowest_on_cycle(img, e);
-    f.number == 0
+    ascend || crate::lowest_on_cycle(img, e).is_ok()
 }
 
+#[tactic(auto, unfolding(crate::specs::AllFit::records_pass))]
 fn records_pass(img: &[u8], links: u32) -> bool
     requires { (links ≤ 4000) × (est_count img.now ≤ 512) }
     ensures { result ≡ records_pass img.now links }
 {
     let e = codec::est_count(img);
-    let ests = ests_pass(img, e, links);
-    if ests.pass {
-        if is_acyclic(img, e, ests.ascend) {
-            if path_passes(img, e, codec::path_count(img), links) {
-                return diverges_pass(img, codec::diverge_count(img));
-            }
-            return false;
+    match ests_pass(img, e, links) {
+        Some(ascend) => {
+            is_acyclic(img, e, ascend)
+                && path_passes(img, e, codec::path_count(img), links)
+                && diverges_pass(img, codec::diverge_count(img))
         }
-        return false;
+        None => false,
     }
-    false
 }
 
+#[tactic(auto, unfolding(crate::specs::AllFit::all_fit))]
 pub(crate) fn all_fit(img: &[u8], links: u32, w: Widths) -> bool
     ensures { result ≡ all_fit w img.now links }
 {
-    if links < 2 {
-        return false;
-    }
-    if 4000 < links {
-        return false;
-    }
-    if head_passes(img, w) {
-        return records_pass(img, links);
-    }
-    false
+    crate::links_fit(links) && head_passes(img, w) && records_pass(img, links)
 }

@@ -1,4 +1,4 @@
-// A reader over one lent image (document 01): the slice and the index of a path node, and thin functions over those of `image`.
+// A reader over one lent image (document 01): the slice and the index of a path node, and thin methods over the functions of `image`.
 // Whoever has a plain slice calls `free_of` or `node_of`.
 // The crate assumes nothing of its own, and no public function has a `requires`.
 #![tactic(auto)]
@@ -17,34 +17,26 @@ pub struct Reader<'a> {
     pub at: u32,
 }
 
-// ---- over a plain slice
+impl<'a> Reader<'a> {
+    pub fn new(image: &'a [u8], at: u32) -> Reader<'a>
+        ensures { (result.image ≡ image.entry) × (result.at ≡ at) }
+    {
+        Reader { image, at }
+    }
 
-fn header_free(image: &[u8]) -> u16
-    ensures { result ≡ free_of image.now }
-{
-    octets::u16_at(image, 36)
-}
+    // The free number of the header.
+    pub fn free(self) -> u16
+        ensures { result ≡ free_of self.entry.image.now }
+    {
+        octets::u16_at(self.image, 36)
+    }
 
-// ---- over a reader
-
-pub fn new<'a>(image: &'a [u8], at: u32) -> Reader<'a>
-    ensures { (result.image ≡ image.entry) × (result.at ≡ at) }
-{
-    Reader { image, at }
-}
-
-// The free number of the header.
-pub fn free<'a>(r: Reader<'a>) -> u16
-    ensures { result ≡ free_of r.entry.image.now }
-{
-    header_free(r.image)
-}
-
-// The path node at the reader's index.
-pub fn node<'a>(r: Reader<'a>) -> DispNode
-    ensures { result ≡ node_at r.entry.image.now r.entry.at }
-{
-    codec::node_at(r.image, r.at)
+    // The path node at the reader's index.
+    pub fn node(self) -> DispNode
+        ensures { result ≡ node_at self.entry.image.now self.entry.at }
+    {
+        codec::node_at(self.image, self.at)
+    }
 }
 
 // ---- for whoever has a plain slice
@@ -53,12 +45,12 @@ pub fn node<'a>(r: Reader<'a>) -> DispNode
 pub fn free_of(image: &[u8]) -> u16
     ensures { result ≡ free_of image.now }
 {
-    free(new(image, 0))
+    Reader::new(image, 0).free()
 }
 
 // Node i of the path, for the page.
 pub fn node_of(image: &[u8], i: u32) -> DispNode
     ensures { result ≡ node_at image.now i }
 {
-    node(new(image, i))
+    Reader::new(image, i).node()
 }

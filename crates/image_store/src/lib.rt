@@ -22,16 +22,10 @@ fn plain_node(img: &[u8], at: usize) -> bool
     requires { at < 2 ^ 48 }
     ensures { result ≡ plain_node img.now at }
 {
-    if img.len() < at + 32 {
-        return false;
-    }
-    if 0x7ff0_0000_0000_0000 < octets::u64_at(img, at) % 0x8000_0000_0000_0000 {
-        return false;
-    }
-    if 0x7ff0_0000_0000_0000 < octets::u64_at(img, at + 8) % 0x8000_0000_0000_0000 {
-        return false;
-    }
-    octets::u64_at(img, at + 24) / 65536 <= 2
+    at + 32 <= img.len()
+        && octets::u64_at(img, at) % 0x8000_0000_0000_0000 <= 0x7ff0_0000_0000_0000
+        && octets::u64_at(img, at + 8) % 0x8000_0000_0000_0000 <= 0x7ff0_0000_0000_0000
+        && octets::u64_at(img, at + 24) / 65536 <= 2
 }
 
 // The 32 bytes from p on go to the image, from q on, in four words.
@@ -74,10 +68,8 @@ fn put_whole(image: &mut [u8], img: &[u8], i: u32)
 fn put_nodes(image: &mut [u8], img: &[u8], n: u32)
     ensures { image.new ≡ put_each put_node 32 (listed n (node_at img.now)) (node_place (est_count image.old) 0) image.old }
 {
-    let mut i: u32 = 0;
-    while i < n {
+    for i in 0..n {
         put_whole(image, img, i);
-        i += 1;
     }
 }
 
@@ -87,14 +79,12 @@ fn put_diverges(image: &mut [u8], dt: &[u32], dn: &[u32], m: u32)
 {
     let wide = codec::is_wide(image);
     let e = codec::est_count(image);
-    let mut i: u32 = 0;
-    while i < m {
+    for i in 0..m {
         let d = DivergeNode {
             train_idx: TrainIdx(columns::u32_of(dt, i as usize)),
             disp_node_idx: columns::u32_of(dn, i as usize),
         };
         codec::put_diverge_with(image, wide, e, i, d);
-        i += 1;
     }
 }
 

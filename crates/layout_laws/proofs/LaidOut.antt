@@ -7,8 +7,7 @@ use native.Mathlib.Omega.{arith}
 use lib.Dec.{eqb}
 use lib.ListN.{length}
 use borrow.Author.Tests.{eqb-true}
-use Rattle.link_rules.specs.declared.refusal.Answer.{Answer}
-use Rattle.link_rules.specs.declared.refusal.Answer.TheVariants.{Done, Refused}
+use Rattle.link_rules.specs.Refusals.{Answer, Done, Refused}
 use Rattle.link_rules.specs.declared.refusal.Refusal.{Refusal}
 use Rattle.image_fault.specs.ImageFault.{image_fault}
 use Rattle.image_fault.proofs.AcceptLaws.{or_else_clean, refused_clean}

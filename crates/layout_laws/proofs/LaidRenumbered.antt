@@ -6,8 +6,7 @@ use Prim.Native.Nat.{ℕ, ◌-◌, ◌^◌, ◌<◌}
 use lib.Dec.{eqb}
 use lib.ListN.{length}
 use Rattle.link_rules.specs.Renumbering.{Renumbering}
-use Rattle.link_rules.specs.declared.refusal.Answer.{Answer}
-use Rattle.link_rules.specs.declared.refusal.Answer.TheVariants.{Done, Refused}
+use Rattle.link_rules.specs.Refusals.{Answer, Done, Refused, or_else, refused_unless}
 use Rattle.link_rules.proofs.OctetLaws.{Bytes}
 use Rattle.link_rules.proofs.RenumberingLaws.{eqb_renumbered_0}
 use Rattle.disp_structs.specs.Values.{within}
@@ -18,7 +17,6 @@ use Rattle.image_fault.specs.ImageFault.{image_fault}
 use Rattle.link_rules.specs.declared.refusal.Refusal.{Refusal}
 use Rattle.image_fault.proofs.MatchLaws.{image-fault_match}
 use Rattle.train_disp.specs.TrainDisp.{new_path, laid_image, train_fault, sizes_fit, records_fault, all_within, reach_fault, lay_out_fault, laid, laid_by, laid_out}
-use Rattle.link_rules.specs.Refusals.{or_else, refused_unless}
 use Rattle.train_disp.specs.declared.Settings.{Settings}
 use Rattle.layout_laws.specs.LayOutMatch.{EstsMatch, r_settings}
 use Rattle.train_disp.proofs.LayOutLaws.{SizesFit, sizes-fit}

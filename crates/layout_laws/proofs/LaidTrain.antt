@@ -11,7 +11,7 @@ use lib.Ieee.{Float}
 use lib.ListN.{length, get_or, replicate, length-replicate}
 use Rattle.link_rules.specs.Octets.{le_at, put_le}
 use Rattle.link_rules.proofs.OctetLaws.{Bytes, length-put, get_d_put, le_put_same, le_put_other, le_cong}
-use Rattle.link_rules.specs.declared.refusal.Answer.TheVariants.{Done}
+use Rattle.link_rules.specs.Refusals.{Done}
 use Rattle.disp_structs.specs.Floats.{real_of}
 use Rattle.disp_structs.specs.Listed.{listed}
 use Rattle.disp_structs.specs.Train.{Train}

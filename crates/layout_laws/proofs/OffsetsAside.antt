@@ -21,7 +21,8 @@ use Rattle.image_fault.specs.ImageFault.{counts_fit, parts_fit, train_fits, est_
 use Rattle.image_fault.specs.declared.Widths.TheVariants.{Narrow}
 use Rattle.image_fault.specs.CodeFacts.{CountsFit}
 use Rattle.image_fault.proofs.AcceptLaws.{Accepted, accepted, fits-counts, clean_node, node-fits}
-use Rattle.image_fault.proofs.MatchLaws.{all_same, first-same}
+use Rattle.link_rules.proofs.RangeLaws.{all_same}
+use Rattle.image_fault.proofs.MatchLaws.{first-same}
 
 -- byte i is in no offset of the n path records from at on
 abbrev pub Aside : ℕ → ℕ → ℕ → Type 0

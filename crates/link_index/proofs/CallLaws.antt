@@ -2,15 +2,15 @@
 use mathlib.Core.Path.{◌≡◌, refl, sym, ap, ap₂, ◌∙◌}
 use mathlib.Core.Bool.{Bool, true, false, cond, not, ◌&&◌}
 use mathlib.Core.List.{List}
-use Prim.Native.Nat.{ℕ, zero, suc, ◌≤◌, ◌<◌}
+use Prim.Native.Nat.{ℕ, zero, suc, ◌≤◌}
 use native.Mathlib.Omega.{arith}
 use lib.Dec.{leb, eqb}
 use lib.ListN.{length, take}
-use borrow.Author.Tests.{eqb-true, leb-true, eq-eqb, ne_eqb, le-leb, lt-leb}
-use Rattle.link_rules.specs.Refusals.{refused, or_else, refused_unless}
+use borrow.Author.Tests.{eqb-true, eqb-false, leb-true, eq-eqb, ne_eqb, le-leb, lt-leb}
+use Rattle.link_rules.proofs.RefusalLaws.{raised_some}
 use Rattle.link_rules.specs.declared.refusal.Refusal.{Refusal}
-use Rattle.link_rules.specs.declared.refusal.Answer as Step
-use Rattle.link_rules.specs.declared.refusal.Answer.TheVariants as Stepped
+use Rattle.link_rules.specs.Refusals as Step
+use Rattle.link_rules.specs.Refusals.{refused, or_else, refused_unless, raised}
 use Rattle.link_rules.proofs.OctetLaws.{Bytes}
 use Rattle.image_fault.specs.ImageFault.{length_fault}
 use Rattle.image_fault.specs.declared.Widths.{Widths}
@@ -39,7 +39,7 @@ use Rattle.yard_check.specs.Yard.{image_in}
 use Rattle.link_index.specs.LinkIndex.{runs_over, has_bit, built, changed, refreshed, length_fits}
 use Rattle.link_index.specs.Slots.{slots_done}
 use Rattle.link_index.specs.Indexed.{lengths_fault, Checked, checking, checked_by, checked_beside, checked_of, recorded_fault, Recorded, recording, recorded_by, recorded_beside, recorded_of, is_refused, undoing, undone_by, undone_beside, own_six, lay_out_fault, Laid, laying, laid_by, laid_beside, slot_kept, LaidAs}
-use Rattle.link_index.specs.IndexCalls.{check, Entries}
+use Rattle.link_index.specs.IndexCalls.{Entries}
 use Rattle.link_index.proofs.BitLaws.{number_bit, all_ones}
 use Rattle.link_index.proofs.SlotLaws.{index_same, index_own, slots_same, slots-built, slots-refreshed}
 use Rattle.link_index.proofs.ChangedLaws.{changed_self, check-bits}
@@ -156,7 +156,7 @@ module _ (yard occ : List ℕ) (a : CheckArgs) (report r index : List ℕ) where
             let long : length yard' ≡ length yard = ap (λ (z : Undo.Recorded). length z.yard) d ∙ yard-length yard occ a report in
             ap₂ (λ (m : ℕ) (z : List ℕ). Undo.old_yard m z) long (ap (λ (z : Undo.Recorded). z.undo_record) d)
             ∙ filled_old yard (checked_with yard occ a report).yard r (yard-length yard occ a report) (UndoLaws.recorded-room yard occ a report r q).0
-        go (suc n) q = absurd (never x k (ap (λ (z : Undo.Recorded). z.answer) (e ∙ sym (UndoLaws.recorded-refused yard occ a report r (Undo.recorded_fault yard occ a (length report) (length r)) refl (λ z. omega (arith, z, q))))))
+        go (suc n) q = absurd (never x k (ap (λ (z : Undo.Recorded). z.answer) (e ∙ sym (UndoLaws.recorded-refused yard occ a report r (Undo.recorded_fault yard occ a (length report) (length r)) (raised_some (Undo.recorded_fault yard occ a (length report) (length r)) (λ z. omega (arith, z, q)))))))
           where
             never : (y : Code.Answer) → is_refused y ≡ false → answered_of y ≡ Refused (Undo.recorded_fault yard occ a (length report) (length r)) → ⊥
             never (Answers.Refused f) u z = let w : ◌≡◌ {A = ℕ} 0 1 = cc in omega arith
@@ -172,11 +172,11 @@ module _ (yard r index : List ℕ) where
   abbrev over : Refusal
   over = refused_unless (length_fits (length index)) 25
 
-  pub undo-long : (f : Refusal) → f ≡ over → (f.number ≡ 0 → ⊥) → undoing (Stepped.Refused f) yard index ≡ undone_beside yard r index
+  pub undo-long : (f : Refusal) → f ≡ over → (f.number ≡ 0 → ⊥) → undoing (Step.Refused f) yard index ≡ undone_beside yard r index
   unfolding undone_beside
   undo-long f e h = go f.number h ∙ ap (λ (g : Refusal). undone_by g.number g (undoing U.answer U.yard (refreshed yard U.yard index)) yard index) e
     where
-      go : (n : ℕ) → (n ≡ 0 → ⊥) → undoing (Stepped.Refused f) yard index ≡ undone_by n f (undoing U.answer U.yard (refreshed yard U.yard index)) yard index
+      go : (n : ℕ) → (n ≡ 0 → ⊥) → undoing (Step.Refused f) yard index ≡ undone_by n f (undoing U.answer U.yard (refreshed yard U.yard index)) yard index
       go zero k = absurd (k refl)
       go (suc n) k = refl
 
@@ -204,11 +204,11 @@ module _ (est : List ℕ) (o : Settings) (img index : List ℕ) where
   abbrev laid_done : Laid
   laid_done = laying L.answer L.image (slot_kept img L.image t index)
 
-  pub lay_refused : (f : Refusal) → f ≡ G → (f.number ≡ 0 → ⊥) → laying (Stepped.Refused f) img index ≡ laid_beside est o img index
+  pub lay_refused : (f : Refusal) → f ≡ G → (f.number ≡ 0 → ⊥) → laying (Step.Refused f) img index ≡ laid_beside est o img index
   unfolding laid_beside
   lay_refused f e h = go f.number h ∙ ap (λ (g : Refusal). laid_by g.number g laid_done img index) e
     where
-      go : (n : ℕ) → (n ≡ 0 → ⊥) → laying (Stepped.Refused f) img index ≡ laid_by n f laid_done img index
+      go : (n : ℕ) → (n ≡ 0 → ⊥) → laying (Step.Refused f) img index ≡ laid_by n f laid_done img index
       go zero k = absurd (k refl)
       go (suc n) k = refl
 
@@ -246,27 +246,27 @@ module _ (est : List ℕ) (o : Settings) (img index : List ℕ) where
 
 -- ---- the tests one after the other
 
-pub links_unfit : (l m : ℕ) → (leb 2 l && leb l 4000) ≡ false → refused 2 0 ≡ lengths_fault l m
-unfolding lengths_fault
-links_unfit l m e = rw e
+-- the train is one that an index has a bit for
+one-up : (t : ℕ) → leb 1 t ≡ not (eqb t 0)
+one-up t = go (eqb t 0) refl
+  where
+    go : (b : Bool) → eqb t 0 ≡ b → leb 1 t ≡ not b
+    go true e = lt-leb 1 t (omega (arith, eqb-true t 0 e))
+    go false e = le-leb 1 t (omega (arith, eqb-false t 0 e))
 
-pub links_fit : (l m : ℕ) → 2 ≤ l → l ≤ 4000 → refused_unless (eqb m l) 25 ≡ lengths_fault l m
-unfolding lengths_fault
-links_fit l m h k = rw (le-leb 2 l h, le-leb l 4000 k)
+two_tests : (a b : Bool) (r : Refusal) → or_else (refused_unless a 5) (or_else (refused_unless b 5) r) ≡ or_else (refused_unless (a && b) 5) r
+two_tests true b r = refl
+two_tests false b r = refl
 
 module _ (est : List ℕ) (o : Settings) (size m : ℕ) where
-  pub train-none : o.train_idx.0 < 1 → refused 5 0 ≡ lay_out_fault est o size m
-  unfolding lay_out_fault
-  train-none h = let e : o.train_idx.0 ≡ 0 = omega arith in rw (eq-eqb o.train_idx.0 0 e)
+  abbrev pub own_part : Refusal
+  own_part = or_else (own_six (TrainDisp.lay_out_fault est o size)) (refused_unless (eqb m o.links) 25)
 
-  pub train_large : 63 < o.train_idx.0 → refused 5 0 ≡ lay_out_fault est o size m
+  pub train_tests : raised (or_else (refused_unless (leb 1 o.train_idx.0) 5) (or_else (refused_unless (leb o.train_idx.0 63) 5) own_part)) ≡ raised (lay_out_fault est o size m)
   unfolding lay_out_fault
-  train_large h = rw (ne_eqb o.train_idx.0 0 (λ (e : o.train_idx.0 ≡ 0). omega (arith, e)), lt-leb o.train_idx.0 63 h)
-
-  pub train-fits : 1 ≤ o.train_idx.0 → o.train_idx.0 ≤ 63
-      → or_else (own_six (TrainDisp.lay_out_fault est o size)) (refused_unless (eqb m o.links) 25) ≡ lay_out_fault est o size m
-  unfolding lay_out_fault
-  train-fits h k = rw (ne_eqb o.train_idx.0 0 (λ (e : o.train_idx.0 ≡ 0). omega (arith, e)), le-leb o.train_idx.0 63 k)
+  train_tests =
+      ap raised (two_tests (leb 1 o.train_idx.0) (leb o.train_idx.0 63) own_part
+      ∙ ap (λ (b : Bool). or_else (refused_unless (b && leb o.train_idx.0 63) 5) own_part) (one-up o.train_idx.0))
 
   pub six_first : (f : Refusal) → f.number ≡ 6 → f ≡ or_else (own_six f) (refused_unless (eqb m o.links) 25)
   six_first f e = sym (rw (eq-eqb f.number 6 e, ne_eqb f.number 0 (λ (z : f.number ≡ 0). omega (arith, z, e))))

@@ -2,8 +2,7 @@
 use Rattle.std.specs.Prelude.{ℕ, zero, suc, ◌≡◌, Bool, true, false, cond, not, ◌&&◌, List, leb, eqb, length}
 use Rattle.link_rules.specs.Refusals.{no_refusal, or_else, refused_unless}
 use Rattle.link_rules.specs.declared.refusal.Refusal.{Refusal}
-use Rattle.link_rules.specs.declared.refusal.Answer as Step
-use Rattle.link_rules.specs.declared.refusal.Answer.TheVariants as Stepped
+use Rattle.link_rules.specs.Refusals as Step
 use Rattle.image_fault.specs.ImageFault.{length_fault}
 use Rattle.image_fault.specs.declared.Widths.{Widths}
 use Rattle.train_disp.specs.TrainDisp as TrainDisp
@@ -101,7 +100,7 @@ undoing answer yard index = record { answer = answer; yard = yard; index = index
 -- 25: a length outside 2 to 4,000; then 21
 abbrev pub undone_by : (number : ℕ) (f : Refusal) (done : Undone) (yard index : List ℕ) → Undone
 undone_by zero f done yard index = done
-undone_by (suc n) f done yard index = undoing (Stepped.Refused f) yard index
+undone_by (suc n) f done yard index = undoing (Step.Refused f) yard index
 
 unfoldable pub undone_beside : (yard r index : List ℕ) → Undone
 undone_beside yard r index =
@@ -131,7 +130,7 @@ laying answer img index = record { answer = answer; image = img; index = index }
 
 abbrev pub laid_by : (number : ℕ) (f : Refusal) (done : Laid) (img index : List ℕ) → Laid
 laid_by zero f done img index = done
-laid_by (suc n) f done img index = laying (Stepped.Refused f) img index
+laid_by (suc n) f done img index = laying (Step.Refused f) img index
 
 -- the bits of slot t, where its image was one and is another
 abbrev pub slot_kept : (old new : List ℕ) (t : ℕ) (index : List ℕ) → List ℕ

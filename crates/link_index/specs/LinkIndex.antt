@@ -1,7 +1,7 @@
 -- Which trains run over a link (change request Q-10): beside a yard goes an index with one u64 for each link, whose bit t is set exactly if slot t's path has an
 -- Arrive on it; a slot with a refused image sets none. How it is built, and how it is refreshed from one yard to the next. Assumes nothing.
-use Rattle.std.specs.Prelude.{ℕ, zero, suc, Bool, cond, not, ◌&&◌, List, leb, length, get_or}
-use Rattle.link_rules.specs.Refusals.{refused_unless, or_else}
+use Rattle.std.specs.Prelude.{◌≡◌, ℕ, zero, suc, Bool, cond, not, ◌&&◌, List, leb, length, get_or}
+use Rattle.link_rules.specs.Refusals.{refused_unless, or_else, Answer, raised}
 use Rattle.link_rules.specs.declared.refusal.Refusal.{Refusal}
 use Rattle.disp_structs.specs.Listed.{listed}
 use Rattle.image.specs.Image.{path_count_of}
@@ -47,6 +47,10 @@ pub record Built : Type 0 where
 
 abbrev pub leaves : Refusal → List ℕ → Built
 leaves f index = record { fault = f; index = index }
+
+-- what the code's answer and the index that it leaves are
+abbrev pub leaves_as : Built → Answer → List ℕ → Type 0
+leaves_as b r index = (r ≡ raised b.fault) × (index ≡ b.index)
 
 -- a refused build leaves the index
 abbrev pub built_by : (number : ℕ) (f : Refusal) (was fresh : List ℕ) → Built

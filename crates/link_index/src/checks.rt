@@ -1,5 +1,6 @@
 // Checks beside an index (document 02, Q-10): check_deadlock and check_wide, with and without an undo record. The check tells which slots changed.
 ghost use Rattle.std.specs.Prelude.{◌≡◌, ◌≤◌, length};
+ghost use Rattle.link_rules.specs.Refusals.{raised};
 ghost use Rattle.image_fault.specs.declared.Widths.TheVariants.{Narrow, Either};
 ghost use Rattle.yard_check.specs.Checks.{args_of};
 ghost use Rattle.undo.specs.Undo.{filled_bytes, old_yard};
@@ -8,27 +9,22 @@ ghost use Rattle.link_index.specs.Indexed.{lengths_fault, checked_beside, checke
 
 use crate::slots;
 use link_rules::link_idx::{NarrowTrainIdx, TrainIdx};
-use link_rules::refusal;
-use link_rules::refusal::Refusal;
+use link_rules::refusal::{Refusal, refuse_unless};
 use undo;
 use undo::records;
 use yard_check::check::{Answer, Args};
 use yard_check::{bytes, check};
 
 // 2, 25; l and m are the lengths of the occupancy and of the index.
-fn lengths_fault(l: usize, m: usize) -> Refusal
-    ensures { result ≡ lengths_fault l m }
+fn lengths_fault(l: usize, m: usize) -> Result<(), Refusal>
+    ensures { result ≡ raised (lengths_fault l m) }
 {
-    if l < 2 {
-        return refusal::refused_unless(false, 2);
-    }
-    if 4000 < l {
-        return refusal::refused_unless(false, 2);
-    }
-    refusal::refused_unless(m == l, 25)
+    refuse_unless(crate::length_fits(l), 2)?;
+    refuse_unless(m == l, 25)
 }
 
-// Past 2 and 25, with room for the largest image.
+// Past 2 and 25, with room for the largest image. It stands twice, over u16 and over u32 entries, as the checks that it calls do; a closure for the check
+// would ask for a clause as long as the function.
 fn check_within(
     yard: &mut [u8],
     occ: &[u16],
@@ -60,12 +56,13 @@ pub fn check_indexed(
     ensures { checked_of result yard.new report.new index.new
         ≡ checked_beside yard.old occ.now (args_of Narrow blocking.now a) report.old index.old }
 {
-    let f = lengths_fault(occ.len(), index.len());
-    if f.number != 0 {
-        return Answer::Refused(f);
+    match lengths_fault(occ.len(), index.len()) {
+        Ok(()) => {
+            let mut room = bytes::image_room();
+            check_within(yard, occ, blocking, a, report, index, &mut room[..41024])
+        }
+        Err(f) => Answer::Refused(f),
     }
-    let mut room = bytes::image_room();
-    check_within(yard, occ, blocking, a, report, index, &mut room[..41024])
 }
 
 // The same over u32 entries.
@@ -99,33 +96,29 @@ pub fn check_wide_indexed(
     ensures { checked_of result yard.new report.new index.new
         ≡ checked_beside yard.old occ.now (args_of Either blocking.now a) report.old index.old }
 {
-    let f = lengths_fault(occ.len(), index.len());
-    if f.number != 0 {
-        return Answer::Refused(f);
+    match lengths_fault(occ.len(), index.len()) {
+        Ok(()) => {
+            let mut room = bytes::image_room();
+            check_wide_within(yard, occ, blocking, a, report, index, &mut room[..41024])
+        }
+        Err(f) => Answer::Refused(f),
     }
-    let mut room = bytes::image_room();
-    check_wide_within(yard, occ, blocking, a, report, index, &mut room[..41024])
 }
 
 // ---- with an undo record
 
 // 20, 2, 25; y and room are the lengths of the yard and of the record.
-fn recorded_fault(y: usize, room: usize, l: usize, m: usize) -> Refusal
-    ensures { result ≡ recorded_fault y room l m }
+fn recorded_fault(y: usize, room: usize, l: usize, m: usize) -> Result<(), Refusal>
+    ensures { result ≡ raised (recorded_fault y room l m) }
 {
-    let f = records::room_fault(y, room);
-    let g = lengths_fault(l, m);
-    refusal::or_else(f, g)
+    records::room_fault(y, room)?;
+    lengths_fault(l, m)
 }
 
 fn is_refused(x: Answer) -> bool
     ensures { result ≡ is_refused x }
 {
-    match x {
-        Answer::Refused(f) => true,
-        Answer::Erred(n) => false,
-        Answer::Done { deadlock, next } => false,
-    }
+    matches!(x, Answer::Refused(_))
 }
 
 // From the old yard of a filled record to the one written.
@@ -153,26 +146,27 @@ pub fn check_recorded_indexed(
     ensures { recorded_of result yard.new report.new undo_record.new index.new
         ≡ recorded_beside yard.old occ.now (given_of Narrow blocking.now moved.0 begin local limit) report.old undo_record.old index.old }
 {
-    let f = recorded_fault(yard.len(), undo_record.len(), occ.len(), index.len());
-    if f.number != 0 {
-        return Answer::Refused(f);
+    match recorded_fault(yard.len(), undo_record.len(), occ.len(), index.len()) {
+        Ok(()) => {
+            let x = undo::check_recorded(
+                yard,
+                occ,
+                blocking,
+                moved,
+                begin,
+                local,
+                limit,
+                report,
+                undo_record,
+            );
+            if is_refused(x) {
+                return x;
+            }
+            refresh_from(undo_record, yard, index);
+            x
+        }
+        Err(f) => Answer::Refused(f),
     }
-    let x = undo::check_recorded(
-        yard,
-        occ,
-        blocking,
-        moved,
-        begin,
-        local,
-        limit,
-        report,
-        undo_record,
-    );
-    if is_refused(x) {
-        return x;
-    }
-    refresh_from(undo_record, yard, index);
-    x
 }
 
 // undo::check_recorded_wide beside an index. Refused by 20, 2, 25, 4, 5, 14, 22, 15 and 16.
@@ -191,24 +185,25 @@ pub fn check_recorded_wide_indexed(
     ensures { recorded_of result yard.new report.new undo_record.new index.new
         ≡ recorded_beside yard.old occ.now (given_of Either blocking.now moved.0 begin local limit) report.old undo_record.old index.old }
 {
-    let f = recorded_fault(yard.len(), undo_record.len(), occ.len(), index.len());
-    if f.number != 0 {
-        return Answer::Refused(f);
+    match recorded_fault(yard.len(), undo_record.len(), occ.len(), index.len()) {
+        Ok(()) => {
+            let x = undo::check_recorded_wide(
+                yard,
+                occ,
+                blocking,
+                moved,
+                begin,
+                local,
+                limit,
+                report,
+                undo_record,
+            );
+            if is_refused(x) {
+                return x;
+            }
+            refresh_from(undo_record, yard, index);
+            x
+        }
+        Err(f) => Answer::Refused(f),
     }
-    let x = undo::check_recorded_wide(
-        yard,
-        occ,
-        blocking,
-        moved,
-        begin,
-        local,
-        limit,
-        report,
-        undo_record,
-    );
-    if is_refused(x) {
-        return x;
-    }
-    refresh_from(undo_record, yard, index);
-    x
 }

@@ -1,30 +1,28 @@
 // Laying out a train beside an index (document 02, Q-10).
+ghost use Rattle.link_rules.specs.Refusals.{raised};
 ghost use Rattle.std.specs.Prelude.{◌≡◌, ◌≤◌, ◌<◌, length};
 ghost use Rattle.link_index.specs.Indexed.{LaidAs, lay_out_fault, laying, laid_beside};
 
 use crate::slots;
-use link_rules::refusal::{Answer, Refusal};
-use link_rules::{octets, refusal};
+use link_rules::octets;
+use link_rules::refusal::{Refusal, refuse_unless};
 use train_disp;
 use train_disp::Settings;
 use yard_check::bytes;
 
 // 5, 6, 25; size and m are the lengths of the image and of the index.
-fn lay_out_fault(est: &[u8], settings: Settings, size: usize, m: usize) -> Refusal
-    ensures { result ≡ lay_out_fault est.now settings size m }
+fn lay_out_fault(est: &[u8], settings: Settings, size: usize, m: usize) -> Result<(), Refusal>
+    ensures { result ≡ raised (lay_out_fault est.now settings size m) }
 {
     let train = settings.train_idx.0;
-    if train < 1 {
-        return refusal::refused_unless(false, 5);
+    refuse_unless(1 <= train, 5)?;
+    refuse_unless(train <= 63, 5)?;
+    if let Err(own) = train_disp::lay_out_fault(est, settings, size) {
+        if own.number == 6 {
+            return Err(own);
+        }
     }
-    if 63 < train {
-        return refusal::refused_unless(false, 5);
-    }
-    let own = train_disp::lay_out_fault(est, settings, size);
-    if own.number == 6 {
-        return own;
-    }
-    refusal::refused_unless(m == settings.links as usize, 25)
+    refuse_unless(m == settings.links as usize, 25)
 }
 
 // The image is copied to the room before the layout, and compared after it.
@@ -34,7 +32,7 @@ fn lay_out_watched(
     image: &mut [u8],
     index: &mut [u64],
     room: &mut [u8],
-) -> Answer
+) -> Result<(), Refusal>
     requires { (settings.train_idx.0 < 64) × (length index.old ≤ 4000) × (length image.old ≤ length room.old) }
     ensures { LaidAs est.now settings image.old index.old result image.new index.new }
 {
@@ -53,13 +51,10 @@ pub fn lay_out_indexed(
     settings: Settings,
     image: &mut [u8],
     index: &mut [u64],
-) -> Answer
+) -> Result<(), Refusal>
     ensures { laying result image.new index.new ≡ laid_beside est.now settings image.old index.old }
 {
-    let f = lay_out_fault(est, settings, image.len(), index.len());
-    if f.number != 0 {
-        return Answer::Refused(f);
-    }
+    lay_out_fault(est, settings, image.len(), index.len())?;
     let mut room = bytes::image_room();
     lay_out_watched(est, settings, image, index, &mut room[..41024])
 }

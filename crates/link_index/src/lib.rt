@@ -10,39 +10,33 @@ mod slots;
 pub mod undoing;
 
 ghost use Rattle.std.specs.Prelude.{◌≡◌};
-ghost use Rattle.link_index.specs.LinkIndex.{leaves, length_fits, build_fault, build_of};
+ghost use Rattle.link_rules.specs.Refusals.{raised};
+ghost use Rattle.link_index.specs.LinkIndex.{leaves_as, length_fits, build_fault, build_of};
 
-use link_rules::refusal;
-use link_rules::refusal::Refusal;
+use link_rules::refusal::{Refusal, refuse_unless};
 use yard_check::yard;
 
 // Builds the index of a yard afresh; L is its length. Refused by 25, 14: then it stays.
-pub fn build_index(yard: &[u8], index: &mut [u64]) -> Refusal
-    ensures { leaves result index.new ≡ build_of yard.now index.old }
+pub fn build_index(yard: &[u8], index: &mut [u64]) -> Result<(), Refusal>
+    ensures { leaves_as (build_of yard.now index.old) result index.new }
 {
-    let fault = build_fault(yard, index.len());
-    if fault.number != 0 {
-        return fault;
-    }
+    build_fault(yard, index.len())?;
     slots::build_slots(yard, index);
-    fault
+    Ok(())
 }
 
 // A length outside 2 to 4,000 is that of no index.
+#[tactic(auto, unfolding(crate::specs::LinkIndex::length_fits))]
 pub(crate) fn length_fits(links: usize) -> bool
     ensures { result ≡ length_fits links }
 {
-    if links < 2 {
-        return false;
-    }
-    links <= 4000
+    2 <= links && links <= 4000
 }
 
 // 25, 14.
-fn build_fault(yard: &[u8], links: usize) -> Refusal
-    ensures { result ≡ build_fault yard.now links }
+fn build_fault(yard: &[u8], links: usize) -> Result<(), Refusal>
+    ensures { result ≡ raised (build_fault yard.now links) }
 {
-    let bad_length = refusal::refused_unless(length_fits(links), 25);
-    let bad_yard = refusal::refused_unless(yard::yard_fits(yard), 14);
-    refusal::or_else(bad_length, bad_yard)
+    refuse_unless(length_fits(links), 25)?;
+    refuse_unless(yard::yard_fits(yard), 14)
 }

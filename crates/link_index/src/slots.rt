@@ -19,10 +19,8 @@ pub(crate) fn rebuild_slots(yard: &[u8], set: u64, index: &mut [u64])
     requires { length index.old ≤ 4000 }
     ensures { index.new ≡ slots_done (bit_of set) yard.now 64 index.old }
 {
-    let mut t: u32 = 0;
-    while t < 64 {
+    for t in 0..64 {
         rebuild_slot(yard, set, t, index);
-        t += 1;
     }
 }
 
@@ -48,10 +46,8 @@ fn changed_slots(old: &[u8], new: &[u8]) -> u64
     ensures { result ≡ number_of (changed old.now new.now) 64 }
 {
     let mut set: u64 = 0;
-    let mut t: u32 = 0;
-    while t < 64 {
+    for t in 0..64 {
         set = with_changed(old, new, t, set);
-        t += 1;
     }
     set
 }
@@ -98,10 +94,8 @@ fn clear_slot(t: u32, index: &mut [u64])
     requires { t < 64 }
     ensures { index.new ≡ slot_cleared t index.old }
 {
-    let mut l = 0;
-    while l < index.len() {
+    for l in 0..index.len() {
         index[l] = bits::without_bit(index[l], t);
-        l += 1;
     }
 }
 
@@ -110,10 +104,8 @@ fn add_arrivals(image: &[u8], t: u32, index: &mut [u64])
     ensures { index.new ≡ arrivals_added image.now (path_count_of image.now) t index.old }
 {
     let n = codec::path_count(image);
-    let mut i: u32 = 0;
-    while i < n {
+    for i in 0..n {
         add_arrival(codec::node_link_event(image, i), t, index);
-        i += 1;
     }
 }
 

@@ -5,8 +5,7 @@ ghost use Rattle.link_index.specs.LinkIndex.{refreshed};
 ghost use Rattle.link_index.specs.Indexed.{undone_beside, undoing};
 
 use crate::slots;
-use link_rules::refusal;
-use link_rules::refusal::Answer;
+use link_rules::refusal::{Refusal, refuse_unless};
 use undo;
 use undo::records;
 
@@ -20,16 +19,11 @@ fn refresh_to(yard: &[u8], undo_record: &[u8], index: &mut [u64])
 }
 
 // undo beside an index. A slot that only one of the two yards has, has changed. Refused by 25, 21: then nothing is changed.
-pub fn undo_indexed(yard: &mut [u8], undo_record: &[u8], index: &mut [u64]) -> Answer
+pub fn undo_indexed(yard: &mut [u8], undo_record: &[u8], index: &mut [u64]) -> Result<(), Refusal>
     ensures { undoing result yard.new index.new ≡ undone_beside yard.old undo_record.now index.old }
 {
-    let f = refusal::refused_unless(crate::length_fits(index.len()), 25);
-    if f.number != 0 {
-        return Answer::Refused(f);
-    }
-    if records::undo_fits(yard, undo_record) {
-        refresh_to(yard, undo_record, index);
-        return undo::undo(yard, undo_record);
-    }
-    Answer::Refused(refusal::refused_unless(false, 21))
+    refuse_unless(crate::length_fits(index.len()), 25)?;
+    refuse_unless(records::undo_fits(yard, undo_record), 21)?;
+    refresh_to(yard, undo_record, index);
+    undo::undo(yard, undo_record)
 }

@@ -1,4 +1,6 @@
 pub mod OctetLaws
+pub mod RefusalLaws
+pub mod RangeLaws
 pub mod TableLaws
 pub mod MarkLaws
 pub mod RenumberingLaws

@@ -1,14 +1,15 @@
 -- Laws of mark and release: the walks over a link's lockouts, the length, refusals. Assumes nothing.
-use Rattle.std.proofs.Common.{◌≡◌, ℕ, zero, suc, ◌+◌, ◌-◌, ◌<◌, ◌≤◌, Bool, true, false, cond, eqb, ltb, List, [], ◌∷◌, length, get_or, set, refl, ap, ◌∙◌, arith, length-set, eq-eqb, ne_eqb}
+use Rattle.std.proofs.Common.{◌≡◌, ℕ, zero, suc, ◌+◌, ◌-◌, ◌<◌, ◌≤◌, Bool, true, false, cond, eqb, ltb, List, [], ◌∷◌, length, get_or, set, map, refl, sym, ap, ◌∙◌, arith, length-set, eq-eqb, ne_eqb}
+use Rattle.std.proofs.lemmas.List.{map-id}
 use Rattle.link_rules.specs.LinkIdx.{no_train, same_train, hold, occupied}
 use Rattle.link_rules.specs.Network.{link_count, table_fits, lockouts, lockout_at, link_at}
-use Rattle.link_rules.specs.Refusals.{or_else, refused_unless}
-use Rattle.link_rules.specs.AdvanceRewind.{hold_all, refilled, reset_link_train_idx, reset_all, update_links_blocked, is_link, mark_refusal, refusal_judged, marked, marked_by, mark_judged, mark_of}
+use Rattle.link_rules.specs.Refusals.{refused, or_else, refused_unless, Done, Refused, raised}
+use Rattle.link_rules.specs.AdvanceRewind.{hold_all, refilled, reset_link_train_idx, reset_all, update_links_blocked, is_link, entries_fault, link_fault, mark_refusal, fault_judged, refusal_judged, marked, marked_by, mark_judged, mark_of}
 use Rattle.link_rules.specs.declared.link_idx.LinkIdx.{LinkIdx}
 use Rattle.link_rules.specs.declared.link_idx.TrainIdx.{TrainIdx}
-use Rattle.link_rules.specs.declared.refusal.Answer.TheVariants.{Refused}
 use Rattle.link_rules.specs.declared.refusal.Refusal.{Refusal}
 use Rattle.link_rules.proofs.TableLaws.{lockouts-turn, lockouts-end}
+use Rattle.link_rules.proofs.RefusalLaws.{none_raised, some_raised, unless_place, chain_place}
 
 -- ---- a walk over n lockouts from index j on, of which i are done
 
@@ -47,6 +48,11 @@ module _ (tbl : List ℕ) (n j i : ℕ) (occ : List ℕ) where
   pub refill_end : (l : LinkIdx) → n ≤ i → refilled occ l left ≡ occ
   unfolding refilled
   refill_end l h = rw (lockouts-end tbl n j i h)
+
+-- ---- entries that are their own numbers
+
+pub numbers_same : (tbl occ new : List ℕ) (l : LinkIdx) (t : TrainIdx) → map (λ (n : ℕ). n) new ≡ update_links_blocked tbl (map (λ (n : ℕ). n) occ) l t → new ≡ update_links_blocked tbl occ l t
+numbers_same tbl occ new l t e = sym (map-id new) ∙ e ∙ ap (λ (xs : List ℕ). update_links_blocked tbl xs l t) (map-id occ)
 
 -- ---- the length is kept
 
@@ -102,6 +108,24 @@ refused-leaves tbl occ l t r = go (mark_refusal tbl (length occ) l)
 pub refused_by : (n : ℕ) (was left : List ℕ) → (n ≡ 0 → ⊥) → marked_by n was left ≡ marked (Refused (record { number = n; place = 0 })) was
 refused_by zero was left h = absurd (h refl)
 refused_by (suc n) was left h = refl
+
+-- a mark that is refused by a refusal with place 0
+pub refused_marked : (g f : Refusal) (was left : List ℕ) → g.place ≡ 0 → raised g ≡ Refused f → marked (Refused f) was ≡ marked_by g.number was left
+refused_marked g f was left p e =
+    let h = some_raised g f e in
+    ap (λ (r : Refusal). marked (Refused r) was) (sym h.0 ∙ ap (λ (n : ℕ). refused g.number n) p) ∙ sym (refused_by g.number was left h.1)
+
+pub refused_first : (fits : Bool) (tbl : List ℕ) (n : ℕ) (l : LinkIdx) (f : Refusal) (was left : List ℕ) → raised (fault_judged fits tbl n l) ≡ Refused f
+    → marked (Refused f) was ≡ marked_by (refusal_judged fits tbl n l) was left
+unfolding refusal_judged
+refused_first fits tbl n l f was left e =
+    refused_marked (fault_judged fits tbl n l) f was left
+    (chain_place fits 1 (or_else (entries_fault tbl n) (link_fault tbl l)) (chain_place (eqb n (link_count tbl)) 2 (link_fault tbl l) (unless_place (is_link tbl l) 3)))
+    e
+
+pub none_judged : (fits : Bool) (tbl : List ℕ) (n : ℕ) (l : LinkIdx) → raised (fault_judged fits tbl n l) ≡ Done → refusal_judged fits tbl n l ≡ 0
+unfolding refusal_judged
+none_judged fits tbl n l e = none_raised (fault_judged fits tbl n l) e
 
 -- ---- a table judged once
 

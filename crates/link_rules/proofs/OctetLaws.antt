@@ -110,6 +110,21 @@ le_cong zero bs cs j h = refl
 le_cong (suc v) bs cs j h =
     ap₂ (λ (a b : ℕ). a + 256 * b) (h j (omega arith) (omega arith)) (le_cong v bs cs (j + 1) (λ i l m. h i (omega arith) (omega arith)))
 
+-- a number whose octets stand elsewhere too: xs has from j on what bs has from at on
+le_moved : (w : ℕ) (xs bs : List ℕ) (j at : ℕ) → ((i : ℕ) → i < w → get_or xs (j + i) 0 ≡ get_or bs (at + i) 0) → le_at w xs j ≡ le_at w bs at
+unfolding le_at
+le_moved zero xs bs j at h = refl
+le_moved (suc w) xs bs j at h =
+    ap₂ (λ (a b : ℕ). a + 256 * b) first
+    (le_moved w xs bs (j + 1) (at + 1) (λ i l. let e : j + 1 + i ≡ j + suc i = omega arith in let f : at + 1 + i ≡ at + suc i = omega arith in rw (e, f) (h (suc i) (omega arith))))
+  where
+    first : get_or xs j 0 ≡ get_or bs at 0
+    first = rw (add-zero, add-zero) at (h 0 (omega arith))
+
+-- the number of the w octets that bs has from at on
+pub le_of : (w : ℕ) (xs bs : List ℕ) (at : ℕ) → ((i : ℕ) → i < w → get_or xs i 0 ≡ get_or bs (at + i) 0) → le_at w xs 0 ≡ le_at w bs at
+le_of w xs bs at h = le_moved w xs bs 0 at (λ i l. rw zero-add (h i l))
+
 -- ---- octets put into a buffer
 
 module _ (k : ℕ) (xs r : List ℕ) where

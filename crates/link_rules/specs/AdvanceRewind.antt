@@ -1,13 +1,11 @@
 -- Marking and releasing a link (advance_rewind.rs 549-584), with refusals 1, 2 and 3. Assumes nothing.
 use Rattle.std.specs.Prelude.{ℕ, zero, suc, Bool, cond, not, ◌&&◌, List, [], ◌∷◌, length, ◌==◌, nat_lt}
 use Rattle.link_rules.specs.LinkIdx.{no_train, same_train, entry_at, occupied, hold}
-use Rattle.link_rules.specs.Refusals.{or_else, refused_unless}
+use Rattle.link_rules.specs.Refusals.{or_else, refused_unless, Answer, Done, Refused}
 use Rattle.link_rules.specs.Network.{link_count, link_at, table_fits}
 use Rattle.link_rules.specs.declared.link_idx.LinkIdx.{LinkIdx}
 use Rattle.link_rules.specs.declared.link_idx.TrainIdx.{TrainIdx}
 use Rattle.link_rules.specs.declared.refusal.Refusal.{Refusal}
-use Rattle.link_rules.specs.declared.refusal.Answer.{Answer}
-use Rattle.link_rules.specs.declared.refusal.Answer.TheVariants.{Done, Refused}
 
 -- each of some links is given the train (559-561)
 unfoldable pub hold_all : (occ : List ℕ) (ls : List LinkIdx) (t : TrainIdx) → List ℕ
@@ -59,8 +57,11 @@ unfoldable pub mark_refusal : (tbl : List ℕ) (n : ℕ) (l : LinkIdx) → ℕ
 mark_refusal tbl n l = (or_else (table_fault tbl) (or_else (entries_fault tbl n) (link_fault tbl l))).number
 
 -- the same of a table that is judged already: fits says whether it is accepted
+abbrev pub fault_judged : (fits : Bool) (tbl : List ℕ) (n : ℕ) (l : LinkIdx) → Refusal
+fault_judged fits tbl n l = or_else (refused_unless fits 1) (or_else (entries_fault tbl n) (link_fault tbl l))
+
 unfoldable pub refusal_judged : (fits : Bool) (tbl : List ℕ) (n : ℕ) (l : LinkIdx) → ℕ
-refusal_judged fits tbl n l = (or_else (refused_unless fits 1) (or_else (entries_fault tbl n) (link_fault tbl l))).number
+refusal_judged fits tbl n l = (fault_judged fits tbl n l).number
 
 -- the answer, and the occupancy that is left
 pub record Marked : Type 0 where

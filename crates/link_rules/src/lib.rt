@@ -5,5 +5,6 @@
 pub mod advance_rewind;
 pub mod link_idx;
 pub mod network;
+pub mod occupancy;
 pub mod octets;
 pub mod refusal;

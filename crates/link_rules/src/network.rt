@@ -9,13 +9,7 @@ use crate::octets;
 pub fn table_fits(table: &[u8]) -> bool
     ensures { result ≡ table_fits table.now }
 {
-    if !header_fits(table) {
-        return false;
-    }
-    if !records_fit(table) {
-        return false;
-    }
-    lockouts_fit(table)
+    header_fits(table) && records_fit(table) && lockouts_fit(table)
 }
 
 // L, how many links the table has.
@@ -74,36 +68,19 @@ pub(crate) fn lockout_at(table: &[u8], j: u64) -> u32
 fn header_fits(table: &[u8]) -> bool
     ensures { result ≡ header_fits table.now }
 {
+    let size = octets::u32_at(table, 0) as usize;
     let links = link_count(table) as usize;
     let lockouts = octets::u32_at(table, 8) as usize;
-    if links < 2 {
-        return false;
-    }
-    if 4000 < links {
-        return false;
-    }
-    if 4096 < lockouts {
-        return false;
-    }
-    if (octets::u32_at(table, 12) as usize) != 16 + 12 * links {
-        return false;
-    }
-    let size = octets::u32_at(table, 0) as usize;
-    if size != 16 + 12 * links + 4 * lockouts {
-        return false;
-    }
-    size == table.len()
+    let offset = octets::u32_at(table, 12) as usize;
+    (2 <= links)
+        & (links <= 4000)
+        & (lockouts <= 4096)
+        & (offset == 16 + 12 * links)
+        & (size == 16 + 12 * links + 4 * lockouts)
+        & (size == table.len())
 }
 
 // No test of a record or a lockout branches, so that the compiler asks several at once.
-fn both(a: bool, b: bool) -> bool
-    ensures { result ≡ a && b }
-{
-    if a {
-        return b;
-    }
-    false
-}
 
 fn records_fit(table: &[u8]) -> bool
     requires { header_fits table.now ≡ true }
@@ -112,11 +89,8 @@ fn records_fit(table: &[u8]) -> bool
     let links = link_count(table);
     let lockouts = octets::u32_at(table, 8);
     let mut fits = true;
-    let mut l: u32 = 0;
-    while l < links {
-        let good = record_fits(table, links, lockouts, l);
-        fits = both(fits, good);
-        l += 1;
+    for l in 0..links {
+        fits &= record_fits(table, links, lockouts, l);
     }
     fits
 }
@@ -130,8 +104,8 @@ fn record_fits(table: &[u8], links: u32, lockouts: u32, l: u32) -> bool
     let flip = octets::u32_in(table, at);
     let start = octets::u32_in(table, at + 4);
     let count = octets::u32_in(table, at + 8);
-    let left = std::num::wrapping_sub_u32(lockouts, start);
-    both(flip < links, both(start <= lockouts, count <= left))
+    let left = lockouts.wrapping_sub(start);
+    (flip < links) & ((start <= lockouts) & (count <= left))
 }
 
 fn lockouts_fit(table: &[u8]) -> bool
@@ -141,11 +115,8 @@ fn lockouts_fit(table: &[u8]) -> bool
     let links = link_count(table);
     let n = octets::u32_at(table, 8);
     let mut fits = true;
-    let mut j: u32 = 0;
-    while j < n {
-        let good = lockout_fits(table, links, j);
-        fits = both(fits, good);
-        j += 1;
+    for j in 0..n {
+        fits &= lockout_fits(table, links, j);
     }
     fits
 }

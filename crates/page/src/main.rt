@@ -33,12 +33,13 @@ fn main(rt: HostRuntime) -> io::Result<()> {
 }
 
 fn print_page(rt: &impl Print, image: &[u8], page: &mut [u8]) -> io::Result<()> {
-    let fault = path_page::page(image, page);
-    if fault.number != 0 {
-        return print_refused(rt, fault.number);
+    match path_page::page(image, page) {
+        Ok(()) => {
+            let long = 40 * (codec::path_count(image) as usize);
+            rt.write_all(&page[..long])
+        }
+        Err(fault) => print_refused(rt, fault.number),
     }
-    let long = 40 * (codec::path_count(image) as usize);
-    rt.write_all(&page[..long])
 }
 
 fn print_refused(rt: &impl Print, number: u16) -> io::Result<()> {

@@ -8,7 +8,7 @@ use native.Mathlib.Omega.{arith}
 use lib.Dec.{ltb, leb, eqb}
 use lib.ListN.{length, get_or, take, drop, length-append, length-drop}
 use lib.Seq.{get_or_at, drop_at, take_all, drop-append-le, take-append-le}
-use borrow.Author.Tests.{eqb-true, eqb-false, eq-eqb, ne_eqb, lt-ltb, le-ltb, ltb-true, ltb-false}
+use borrow.Author.Tests.{eqb-true, eqb-false, eq-eqb, ne_eqb, lt-ltb, le-ltb, ltb-true, ltb-false, leb-true, leb-false}
 use Rattle.link_rules.specs.Octets.{le_at}
 use Rattle.disp_structs.specs.Floats.{in_reach}
 use Rattle.disp_structs.specs.Listed.{listed}
@@ -19,7 +19,7 @@ use Rattle.image.specs.Image.{est_count, path_count_of, node_place, node_from, n
 use Rattle.image_fault.specs.ImageFault.{float_fits, fault_with}
 use Rattle.image_fault.specs.declared.Widths.TheVariants.{Either}
 use Rattle.image_fault.specs.CodeFacts.{CountsFit}
-use Rattle.link_rules.specs.Refusals.{refused, no_refusal}
+use Rattle.link_rules.specs.Refusals.{refused, no_refusal, Done, Refused, refuse_unless}
 use Rattle.link_rules.specs.declared.refusal.Refusal.{Refusal}
 use Rattle.image_fault.proofs.AcceptLaws.{accepted_in, fits-counts, node-fits, clean_node, clean_link}
 use Rattle.link_rules.proofs.TableLaws.{both}
@@ -172,6 +172,22 @@ module _ (t : Ties) (img page : List ℕ) where
           let n : ◌≡◌ {A = ℕ} 18 0 = sym (ap (λ (f : Refusal). f.number) (too_short (image-accepted z) (ltb-true (length page) (40 * path_count_of img) e))) ∙ z in
           absurd (omega arith)
       go false e = ltb-false (length page) (40 * path_count_of img) e
+
+-- ---- the test of the room, as an answer
+
+pub room_true : (need room : ℕ) → refuse_unless (leb need room) 18 ≡ Done → need ≤ room
+room_true need room h = go (leb need room) refl h
+  where
+    go : (t : Bool) → leb need room ≡ t → refuse_unless t 18 ≡ Done → need ≤ room
+    go true e h = leb-true need room e
+    go false e h = cc
+
+pub room_false : (need room : ℕ) (f : Refusal) → refuse_unless (leb need room) 18 ≡ Refused f → (room < need) × (refused 18 0 ≡ f)
+room_false need room f h = go (leb need room) refl h
+  where
+    go : (t : Bool) → leb need room ≡ t → refuse_unless t 18 ≡ Refused f → (room < need) × (refused 18 0 ≡ f)
+    go true e h = cc
+    go false e h = (leb-false need room e, cc)
 
 -- ---- the numbers of an accepted image fit their columns
 

@@ -4,6 +4,7 @@
 
 ghost use Rattle.std.specs.Prelude.{◌≡◌, true, ◌++◌, ℕ, ◌<◌};
 ghost use Rattle.disp_structs.specs.Floats.{in_reach};
+ghost use Rattle.link_rules.specs.Refusals.{raised};
 ghost use Rattle.text.specs.Text.{text_of, Put};
 ghost use Rattle.text.specs.Columns.{right_in};
 ghost use Rattle.image.specs.Image.{node_at};
@@ -14,7 +15,7 @@ use image::codec;
 use image_fault;
 use image_fault::Widths;
 use image_reader;
-use link_rules::refusal::Refusal;
+use link_rules::refusal::{Refusal, refuse_unless};
 use metres::{Ties, WholeMetres};
 use text;
 
@@ -75,36 +76,19 @@ fn put_lines(ties: Ties, text: &mut [u8], image: &[u8], n: u32) -> usize
     ensures { Put (page_lines ties (node_at image.now) n) (text_of 0 text.old) (text_of result text.new) }
 {
     let mut count = 0;
-    let mut i: u32 = 0;
-    while i < n {
+    for i in 0..n {
         count = put_node_line(ties, text, count, image, i);
-        i += 1;
     }
     count
 }
 
 // The page of the path of an image of either width, or the refusal; a refused call leaves the page.
-pub fn page(image: &[u8], page: &mut [u8]) -> Refusal
-    ensures { (result ≡ page_fault image.now page.old) × (page.new ≡ page_after drawing_rule image.now page.old) }
+pub fn page(image: &[u8], page: &mut [u8]) -> Result<(), Refusal>
+    ensures { (result ≡ raised (page_fault image.now page.old)) × (page.new ≡ page_after drawing_rule image.now page.old) }
 {
-    let none = Refusal {
-        number: 0,
-        place: 0,
-    };
-    let fault = image_fault::fault_with(image, 4000, Widths::Either, none);
-    if fault.number != 0 {
-        return fault;
-    }
+    image_fault::fault_with(image, 4000, Widths::Either, Ok(()))?;
     let n = codec::path_count(image);
-    if page.len() < 40 * (n as usize) {
-        return Refusal {
-            number: 18,
-            place: 0,
-        };
-    }
+    refuse_unless(40 * (n as usize) <= page.len(), 18)?;
     put_lines(Ties::Even, page, image, n);
-    Refusal {
-        number: 0,
-        place: 0,
-    }
+    Ok(())
 }

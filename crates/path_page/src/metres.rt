@@ -59,14 +59,6 @@ pub(crate) fn whole_metres(ties: Ties, x: f64) -> WholeMetres
 {
     let bits = floats::bits_of(x);
     let metres = metres_of(ties, bits);
-    if metres == 0 {
-        return WholeMetres {
-            minus: false,
-            metres: metres,
-        };
-    }
-    WholeMetres {
-        minus: 0x8000_0000_0000_0000 <= bits,
-        metres: metres,
-    }
+    let minus = metres != 0 && 0x8000_0000_0000_0000 <= bits;
+    WholeMetres { minus, metres }
 }

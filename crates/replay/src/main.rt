@@ -10,7 +10,6 @@ use image_fault;
 use image_reader;
 use link_rules::link_idx::TrainIdx;
 use link_rules::octets;
-use link_rules::refusal::Answer;
 use sheet_text::bundle;
 use sitting;
 use std::io;
@@ -79,8 +78,7 @@ fn print_free(rt: &impl Print, free: u16, nodes: u32) -> io::Result<()> {
 // An image that 6 to 9 refuse over so many links has no columns but 0.
 fn print_slot(rt: &impl Print, t: u32, image: &[u8], links: u32) -> io::Result<()> {
     print!(rt; "slot {t}")?;
-    let fault = image_fault::image_fault(image, links);
-    if fault.number != 0 {
+    if let Err(fault) = image_fault::image_fault(image, links) {
         print!(rt; " refused-{}", fault.number)?;
         return print_columns(rt, 0, 0);
     }
@@ -138,8 +136,8 @@ fn play_parts(
     octets::put_bytes(yard, 0, start);
     let links = octets::u32_at(file, 8);
     match sitting::replay(recording, table, yard, occupancy, list) {
-        Answer::Done => print_played(rt, yard, occupancy, list, links),
-        Answer::Refused(r) => print_refused(rt, r.number),
+        Ok(()) => print_played(rt, yard, occupancy, list, links),
+        Err(r) => print_refused(rt, r.number),
     }
 }
 

@@ -5,9 +5,7 @@ use mathlib.Core.List.{List}
 use Rattle.link_rules.specs.declared.link_idx.TrainIdx.{TrainIdx}
 use Rattle.disp_structs.specs.Train.{Train}
 use Rattle.image.specs.declared.codec.PathHeader.{PathHeader}
-use Rattle.free_path.specs.Base.{Res, ok, no}
-use Rattle.free_path.specs.Columns.{answer}
-use Rattle.free_path.proofs.CountLaws.{answer-no}
+use Rattle.free_path.specs.Base.{Res, ok}
 use Rattle.update_definition.specs.State as State
 use Rattle.search.specs.Effects.{effect_of}
 use Rattle.search.specs.declared.Effect.TheVariants.{GiveUp}
@@ -24,10 +22,3 @@ free-is img dt dn h = refl
 pub ends-blocked : (img dt dn : List ℕ) (h : PathHeader) (r : State.Round) (s : State.Search) (f : State.Search → Res State.Ended) → r.train ≡ train_of img dt dn h → (holder : TrainIdx)
     → ◌≡◌ {A = Res State.Ended} (ok (State.blocked_at (train_of img dt dn (with_free h)) holder)) (end_of f (effect_of r s (GiveUp holder)))
 ends-blocked img dt dn h r s f q holder = ap (λ (t : Train). ok (State.blocked_at t holder)) (free-is img dt dn h ∙ sym (ap (λ (t : Train). State.with_free t t.disp_node_idx_fixed) q))
-
-module _ (c : ℕ) (t : Train) (split div_split_of : ℕ) (f : State.Search → Res State.Ended) where
-  pub splice_refused : (c ≡ 0 → ⊥) → no c ≡ end_of f (answer c (State.ends (State.again t split div_split_of)))
-  splice_refused z = sym (ap (end_of f) (answer-no c (State.ends (State.again t split div_split_of)) z))
-
-  pub splice_again : c ≡ 0 → ok (State.again t split div_split_of) ≡ end_of f (answer c (State.ends (State.again t split div_split_of)))
-  splice_again z = rw z

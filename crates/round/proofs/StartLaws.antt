@@ -21,8 +21,7 @@ use Rattle.disp_structs.specs.declared.TrainIdxsView.{TrainIdxsView}
 use Rattle.image.specs.Image.{est_at, node_at, dist_disp_path_search_of, path_of}
 use Rattle.image.specs.declared.codec.PathHeader.{PathHeader}
 use Rattle.free_path.specs.Base.{Res, ok, no, ◌>>=◌, need, at, before}
-use Rattle.free_path.specs.Columns.{answer, tr, trains, div_at}
-use Rattle.free_path.proofs.CountLaws.{answer-no}
+use Rattle.free_path.specs.Columns.{tr, trains, div_at}
 use Rattle.free_path.specs.LinkOptType.{Sentinels}
 use Rattle.free_path.specs.SearchLimit.{offset_cancel_of}
 use Rattle.free_path.proofs.ColumnLaws.{listed_read}
@@ -127,21 +126,21 @@ module _ (occ img dt dn : List ℕ) (h : PathHeader) (gv : Given) (blocking star
   abbrev steps : ℕ
   steps = steps_by (given_of gv occ blocking start) (train_of img dt dn h) split div_split_of z
 
-  pub divide_steps : (c i : ℕ) → answer c i ≡ divided_at (divs_of h.diverge_count dt dn) split div_split_of z → (c ≡ 0 → ⊥) → 0 ≡ steps
-  divide_steps c i q n = rw (begun-is, ← q, answer-no c i n)
+  pub divide_steps : (n : ℕ) → no n ≡ divided_at (divs_of h.diverge_count dt dn) split div_split_of z → 0 ≡ steps
+  divide_steps n q = rw (begun-is, ← q)
 
-  pub save-steps : (d c i : ℕ) → ok d ≡ divided_at (divs_of h.diverge_count dt dn) split div_split_of z → answer c i ≡ save_point (path_of img h.path_count) h.fixed split → (c ≡ 0 → ⊥) → 0 ≡ steps
-  save-steps d c i p q n = rw (begun-is, ← p, ← q, answer-no c i n)
+  pub save-steps : (d n : ℕ) → ok d ≡ divided_at (divs_of h.diverge_count dt dn) split div_split_of z → no n ≡ save_point (path_of img h.path_count) h.fixed split → 0 ≡ steps
+  save-steps d n p q = rw (begun-is, ← p, ← q)
 
   pub saved_steps : (d save : ℕ) → ok d ≡ divided_at (divs_of h.diverge_count dt dn) split div_split_of z → ok save ≡ save_point (path_of img h.path_count) h.fixed split
       → steps_from (turn_limit (train_of img dt dn h)) (round_at (given_of gv occ blocking start) (train_of img dt dn h) (node_at img split) split) (search_at (train_of img dt dn h) split d save) ≡ steps
   saved_steps d save p q = rw (begun-is, ← p, ← q)
 
-  pub divide_refused : (c i : ℕ) → answer c i ≡ divided_at (divs_of h.diverge_count dt dn) split div_split_of z → (c ≡ 0 → ⊥) → no c ≡ whole
-  divide_refused c i q n = rw (searched, ← q, answer-no c i n)
+  pub divide_refused : (n : ℕ) → no n ≡ divided_at (divs_of h.diverge_count dt dn) split div_split_of z → no n ≡ whole
+  divide_refused n q = rw (searched, ← q)
 
-  pub save-refused : (d c i : ℕ) → ok d ≡ divided_at (divs_of h.diverge_count dt dn) split div_split_of z → answer c i ≡ save_point (path_of img h.path_count) h.fixed split → (c ≡ 0 → ⊥) → no c ≡ whole
-  save-refused d c i p q n = rw (searched, ← p, ← q, answer-no c i n)
+  pub save-refused : (d n : ℕ) → ok d ≡ divided_at (divs_of h.diverge_count dt dn) split div_split_of z → no n ≡ save_point (path_of img h.path_count) h.fixed split → no n ≡ whole
+  save-refused d n p q = rw (searched, ← p, ← q)
 
   pub divide_saved : (d save : ℕ) → ok d ≡ divided_at (divs_of h.diverge_count dt dn) split div_split_of z → ok save ≡ save_point (path_of img h.path_count) h.fixed split → begun d save ≡ whole
   divide_saved d save p q = rw (searched, ← p, ← q)

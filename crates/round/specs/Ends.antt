@@ -1,12 +1,13 @@
 -- What the functions of a round may rely on and how they end it. Assumes nothing.
-use Rattle.std.specs.Prelude.{ℕ, ◌≤◌, ◌≡◌, false, List, length, replicate}
+use Rattle.std.specs.Prelude.{ℕ, ◌≤◌, ◌≡◌, false, List, length, replicate, Result}
+use Rattle.std.specs.Result.{is_err}
 use Rattle.link_rules.specs.declared.link_idx.LinkIdx.{LinkIdx}
 use Rattle.link_rules.specs.declared.link_idx.TrainIdx.{TrainIdx}
 use Rattle.disp_structs.specs.Train.{Train}
 use Rattle.image.specs.Image.{diverge_room, node_at, dist_disp_path_search_of}
 use Rattle.image.specs.declared.codec.PathHeader.{PathHeader}
 use Rattle.free_path.specs.Base.{Res}
-use Rattle.free_path.specs.Columns.{answer}
+use Rattle.free_path.specs.declared.halt.Halt.{Halt}
 use Rattle.free_path.specs.SearchLimit.{offset_cancel_of}
 use Rattle.update_definition.specs.State as State
 use Rattle.update_definition.specs.Moves.{change_diverge}
@@ -20,6 +21,7 @@ use Rattle.search.specs.declared.Place.{Place}
 use Rattle.search.specs.declared.Round.{Round}
 use Rattle.search.specs.declared.look.Here.{Here}
 use Rattle.splice.specs.Read.{Kept, Stands, Joins, Changes}
+use Rattle.splice.specs.Answers.{again_in}
 use Rattle.update_definition.specs.ImageTrain.{train_of}
 use Rattle.splice.specs.declared.Again.{Again}
 use Rattle.splice.specs.declared.Reached.{Reached}
@@ -41,11 +43,10 @@ EndsByEffect effect h steps x =
     × (x.steps ≡ steps)
 
 -- a splice
-abbrev pub EndsBySplice : (a : Again) (steps : ℕ) (x : RoundEnd) → Type 0
+abbrev pub EndsBySplice : (a : Result Again Halt) (steps : ℕ) (x : RoundEnd) → Type 0
 EndsBySplice a steps x =
-    ((t : Train) (f : State.Search → Res State.Ended) → ended_of x t ≡ end_of f (answer a.code (State.ends (State.again t a.split a.div_split))))
-    × (x.header ≡ a.header)
-    × (end_refused x.end ≡ false → a.code ≡ 0)
+    ((img dt dn : List ℕ) (f : State.Search → Res State.Ended) → ended_in x img dt dn ≡ end_of f (again_in a img dt dn))
+    × (end_refused x.end ≡ is_err a)
     × (is_at_end x.end ≡ false)
     × (x.steps ≡ steps)
 
@@ -96,6 +97,3 @@ StepsAs f occ img dt dn g h x = (blocking start : List LinkIdx) → x.steps ≡ 
 -- and the train that it met
 abbrev pub MetAs : (f : Update.Given → Train → TrainIdx) (occ img dt dn : List ℕ) (g : Given) (h : PathHeader) (x : RoundEnd) → Type 0
 MetAs f occ img dt dn g h x = (blocking start : List LinkIdx) → x.met ≡ f (given_of g occ blocking start) (train_of img dt dn h)
-
-abbrev pub with_met : RoundEnd → TrainIdx → RoundEnd
-with_met x met = record { end = x.end; header = x.header; split = x.split; div_split = x.div_split; steps = x.steps; met = met }

@@ -5,6 +5,7 @@ use Rattle.disp_structs.specs.Train.{Train}
 use Rattle.image.specs.Image.{est_count, diverge_room, node_place, path_of}
 use Rattle.image.specs.declared.codec.PathHeader.{PathHeader}
 use Rattle.free_path.specs.Base.{Res, ok, no, ◌>>=◌}
+use Rattle.free_path.specs.Halts.{number_of}
 use Rattle.free_path.specs.LinkOptType.{Sentinels}
 use Rattle.update_definition.specs.State as State
 use Rattle.update_definition.specs.State.{Ended, at_end, blocked_at, again}
@@ -107,7 +108,7 @@ with_free h = record { path_count = h.path_count; diverge_count = h.diverge_coun
 -- ---- the end
 
 abbrev pub end_by : End → Train → ℕ → ℕ → Res Ended
-end_by (Refused c) t split div_split_of = no c
+end_by (Refused e) t split div_split_of = no (number_of e)
 end_by AtEnd t split div_split_of = ok at_end
 end_by (Blocked holder) t split div_split_of = ok (blocked_at t holder)
 end_by Again t split div_split_of = ok (again t split div_split_of)
@@ -117,13 +118,13 @@ abbrev pub ended_of : RoundEnd → Train → Res Ended
 ended_of x t = end_by x.end t x.split x.div_split
 
 abbrev pub end_refused : End → Bool
-end_refused (Refused c) = true
+end_refused (Refused e) = true
 end_refused AtEnd = false
 end_refused (Blocked holder) = false
 end_refused Again = false
 
 abbrev pub is_at_end : End → Bool
-is_at_end (Refused c) = false
+is_at_end (Refused e) = false
 is_at_end AtEnd = true
 is_at_end (Blocked holder) = false
 is_at_end Again = false

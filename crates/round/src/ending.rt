@@ -8,6 +8,7 @@ ghost use Rattle.round.specs.Rounds.{is_join, reached_at, with_free};
 ghost use Rattle.round.specs.Ends.{EndsByEffect, EndsBySplice, EndsByJoin, EndsByChange};
 
 use crate::{End, RoundEnd};
+use free_path::halt::Halt;
 use image::codec::PathHeader;
 use link_rules::link_idx::TrainIdx;
 use search::look::Here;
@@ -16,15 +17,16 @@ use search::{Effect, Place, Round, views};
 use splice::{Again, Reached, change, join};
 use update_definition::Move;
 
-fn ended(end: End, h: PathHeader, steps: u64) -> RoundEnd
+// With no next idx_split, and no train met.
+pub(crate) fn ended(end: End, h: PathHeader, steps: u64) -> RoundEnd
     ensures { result ≡ record { end = end; header = h; split = 0; div_split = 0; steps = steps; met = no_train } }
 {
     RoundEnd {
-        end: end,
+        end,
         header: h,
         split: 0,
         div_split: 0,
-        steps: steps,
+        steps,
         met: TrainIdx(0),
     }
 }
@@ -33,9 +35,11 @@ fn ended(end: End, h: PathHeader, steps: u64) -> RoundEnd
 fn blocked(holder: TrainIdx, h: PathHeader, steps: u64) -> RoundEnd
     ensures { result ≡ record { end = End.Blocked holder; header = with_free h; split = 0; div_split = 0; steps = steps; met = no_train } }
 {
-    let mut q = h;
-    q.free = h.fixed;
-    ended(End::Blocked(holder), q, steps)
+    ended(
+        End::Blocked(holder),
+        PathHeader { free: h.fixed, ..h },
+        steps,
+    )
 }
 
 // By an effect after which no search goes on.
@@ -44,10 +48,8 @@ pub(crate) fn by_effect(effect: Effect, h: PathHeader, steps: u64) -> RoundEnd
     ensures { EndsByEffect effect h steps result }
 {
     match effect {
-        Effect::Refused(c) => ended(End::Refused(c), h, steps),
-        Effect::Push(n) => ended(End::Refused(13), h, steps),
-        Effect::Pop => ended(End::Refused(13), h, steps),
-        Effect::Stay => ended(End::Refused(13), h, steps),
+        Effect::Refused(halt) => ended(End::Refused(halt), h, steps),
+        Effect::Push(_) | Effect::Pop | Effect::Stay => ended(End::Refused(Halt::Panic), h, steps),
         Effect::GiveUp(holder) => blocked(holder, h, steps),
     }
 }
@@ -55,15 +57,7 @@ pub(crate) fn by_effect(effect: Effect, h: PathHeader, steps: u64) -> RoundEnd
 pub(crate) fn is_join(go: Move) -> bool
     ensures { result ≡ is_join go }
 {
-    match go {
-        Move::Rewind => false,
-        Move::Alternate => false,
-        Move::ChangeDiverge => false,
-        Move::PushSaved => false,
-        Move::BlockEmpty => false,
-        Move::Advance => false,
-        Move::Join => true,
-    }
+    matches!(go, Move::Join)
 }
 
 // Where the search of a round ended, as a splice has it.
@@ -84,20 +78,20 @@ pub(crate) fn reached(r: Round, s: Searched) -> Reached
     }
 }
 
-fn by_splice(a: Again, steps: u64) -> RoundEnd
-    ensures { EndsBySplice a steps result }
+// By a splice of the train with the header h.
+fn by_splice(spliced: Result<Again, Halt>, h: PathHeader, steps: u64) -> RoundEnd
+    ensures { EndsBySplice spliced steps result }
 {
-    let h = a.header;
-    if a.code != 0 {
-        return ended(End::Refused(a.code), h, steps);
-    }
-    RoundEnd {
-        end: End::Again,
-        header: h,
-        split: a.split as usize,
-        div_split: a.div_split,
-        steps: steps,
-        met: TrainIdx(0),
+    match spliced {
+        Err(halt) => ended(End::Refused(halt), h, steps),
+        Ok(again) => RoundEnd {
+            end: End::Again,
+            header: again.header,
+            split: again.split as usize,
+            div_split: again.div_split,
+            steps,
+            met: TrainIdx(0),
+        },
     }
 }
 
@@ -120,7 +114,8 @@ pub(crate) fn joined(
 {
     let n = here.disp_node_curr;
     let e = here.est_curr;
-    by_splice(join::join(img, fresh, h, q, n, e, dt, dn, nt, nn), steps)
+    let spliced = join::join(img, fresh, h, q, n, e, dt, dn, nt, nn);
+    by_splice(spliced, h, steps)
 }
 
 // The trains that block the next est become those of the split node.
@@ -146,20 +141,7 @@ pub(crate) fn changed(
 {
     let e = here.est_curr;
     let v = views::view_at(begins, ends, n, e.idx_next);
-    by_splice(
-        change::change_diverge(
-            img,
-            h,
-            q,
-            e.idx_next_alt,
-            v,
-            pool,
-            p.pool_count,
-            dt,
-            dn,
-            nt,
-            nn,
-        ),
-        steps,
-    )
+    let alt = e.idx_next_alt;
+    let spliced = change::change_diverge(img, h, q, alt, v, pool, p.pool_count, dt, dn, nt, nn);
+    by_splice(spliced, h, steps)
 }

@@ -1,6 +1,7 @@
 // A round of update_free_path (free_path.rs 278-633), proved equal to round_of of update_definition.
 // The train stands in the bytes of an image, two columns of diverge nodes and a header's numbers; everything else is lent room.
 // dt and dn are the trains and nodes of div_nodes, nt and nn those of div_nodes_new. Of the public functions splitting::round alone has a `requires`.
+// The columns stay slices of their own, not one struct: that `requires`, and those of splice and search, name each.
 // The crate assumes nothing of its own.
 #![tactic(auto)]
 
@@ -9,6 +10,7 @@ pub mod searching;
 pub mod splitting;
 
 use disp_structs::Metres;
+use free_path::halt::Halt;
 use free_path::link_opt_type::LinkOptType;
 use image::codec::PathHeader;
 use link_rules::link_idx::TrainIdx;
@@ -24,7 +26,7 @@ pub struct Given {
 
 #[derive(Clone, Copy)]
 pub enum End {
-    Refused(u32),
+    Refused(Halt),
     AtEnd,
     Blocked(TrainIdx),
     Again,

@@ -1,6 +1,6 @@
 // The search of a round and its end (free_path.rs 345-633).
-ghost use Rattle.std.specs.Prelude.{[], ◌≤◌, length};
-ghost use Rattle.image.specs.Image.{est_count, diverge_room};
+ghost use Rattle.std.specs.Prelude.{[], ◌^◌, ◌≤◌, ◌<◌, length};
+ghost use Rattle.image.specs.Image.{est_count, diverge_room, node_place};
 ghost use Rattle.search.specs.Read.{arrays};
 ghost use Rattle.round.specs.Rounds.{Held, Room, Searching, SearchEnded, zeroed};
 ghost use Rattle.round.specs.Ends.{SearchGiven};
@@ -69,8 +69,8 @@ fn search_round(
     )
 }
 
-// The search in room of its own, that of the largest train.
-fn search_large(
+// The search in room of its own: F octets for the new path of a train of at most E est records, and room for at most Q diverge nodes.
+fn search_in<const F: usize, const E: usize, const Q: usize>(
     img: &mut [u8],
     occ: &[u32],
     on: &[u8],
@@ -80,15 +80,18 @@ fn search_large(
     dt: &mut [u32],
     dn: &mut [u32],
 ) -> RoundEnd
-    requires { SearchGiven occ.now img.old on.now dt.old dn.old h r start }
+    requires given { SearchGiven occ.now img.old on.now dt.old dn.old h r start }
+    requires new_path { (node_place 0 E ≤ F) × (F < 2 ^ 32) × (Q < 2 ^ 32) }
+    requires ests { est_count img.old ≤ E }
+    requires divs { diverge_room img.old ≤ Q }
     ensures { SearchEnded occ.now img.old dt.old dn.old h r (zeroed r.est_count start) result img.new dt.new dn.new }
 {
-    let mut fresh = [0u8; 16448];
+    let mut fresh = [0u8; F];
     let mut pool = [0u32; 2048];
-    let mut begins = [0u32; 512];
-    let mut ends = [0u32; 512];
-    let mut nt = [0u32; 1024];
-    let mut nn = [0u32; 1024];
+    let mut begins = [0u32; E];
+    let mut ends = [0u32; E];
+    let mut nt = [0u32; Q];
+    let mut nn = [0u32; Q];
     search_round(
         img,
         &mut fresh,
@@ -107,83 +110,7 @@ fn search_large(
     )
 }
 
-// The same with room for 64 diverge nodes.
-fn search_middle(
-    img: &mut [u8],
-    occ: &[u32],
-    on: &[u8],
-    h: PathHeader,
-    r: Round,
-    start: Place,
-    dt: &mut [u32],
-    dn: &mut [u32],
-) -> RoundEnd
-    requires { SearchGiven occ.now img.old on.now dt.old dn.old h r start × (diverge_room img.old ≤ 64) }
-    ensures { SearchEnded occ.now img.old dt.old dn.old h r (zeroed r.est_count start) result img.new dt.new dn.new }
-{
-    let mut fresh = [0u8; 16448];
-    let mut pool = [0u32; 2048];
-    let mut begins = [0u32; 512];
-    let mut ends = [0u32; 512];
-    let mut nt = [0u32; 64];
-    let mut nn = [0u32; 64];
-    search_round(
-        img,
-        &mut fresh,
-        occ,
-        on,
-        h,
-        r,
-        start,
-        dt,
-        dn,
-        &mut pool,
-        &mut begins,
-        &mut ends,
-        &mut nt,
-        &mut nn,
-    )
-}
-
-// The same for a train of at most 64 est records and with room for 64 diverge nodes, which takes less time to clear.
-fn search_small(
-    img: &mut [u8],
-    occ: &[u32],
-    on: &[u8],
-    h: PathHeader,
-    r: Round,
-    start: Place,
-    dt: &mut [u32],
-    dn: &mut [u32],
-) -> RoundEnd
-    requires { SearchGiven occ.now img.old on.now dt.old dn.old h r start × (est_count img.old ≤ 64) × (diverge_room img.old ≤ 64) }
-    ensures { SearchEnded occ.now img.old dt.old dn.old h r (zeroed r.est_count start) result img.new dt.new dn.new }
-{
-    let mut fresh = [0u8; 2112];
-    let mut pool = [0u32; 2048];
-    let mut begins = [0u32; 64];
-    let mut ends = [0u32; 64];
-    let mut nt = [0u32; 64];
-    let mut nn = [0u32; 64];
-    search_round(
-        img,
-        &mut fresh,
-        occ,
-        on,
-        h,
-        r,
-        start,
-        dt,
-        dn,
-        &mut pool,
-        &mut begins,
-        &mut ends,
-        &mut nt,
-        &mut nn,
-    )
-}
-
-// The search from start, by the size of the train; each room is asked for in one place.
+// The search from start, by the size of the train: less room takes less time to clear.
 pub(crate) fn search(
     img: &mut [u8],
     occ: &[u32],
@@ -197,11 +124,11 @@ pub(crate) fn search(
     requires { SearchGiven occ.now img.old on.now dt.old dn.old h r start }
     ensures { SearchEnded occ.now img.old dt.old dn.old h r (zeroed r.est_count start) result img.new dt.new dn.new }
 {
-    if r.diverge_room <= 64 {
-        if r.est_count <= 64 {
-            return search_small(img, occ, on, h, r, start, dt, dn);
-        }
-        return search_middle(img, occ, on, h, r, start, dt, dn);
+    if r.diverge_room > 64 {
+        return search_in::<16448, 512, 1024>(img, occ, on, h, r, start, dt, dn);
     }
-    search_large(img, occ, on, h, r, start, dt, dn)
+    if r.est_count > 64 {
+        return search_in::<16448, 512, 64>(img, occ, on, h, r, start, dt, dn);
+    }
+    search_in::<2112, 64, 64>(img, occ, on, h, r, start, dt, dn)
 }

@@ -9,50 +9,22 @@ ghost use Rattle.update_definition.specs.Update.{round_of, round_steps, round_me
 ghost use Rattle.splice.specs.Read.{Kept};
 ghost use Rattle.update_definition.specs.ImageTrain.{train_of};
 ghost use Rattle.round.specs.Rounds.{Held, round_from, steps_by, start_at, end_refused, is_at_end};
-ghost use Rattle.round.specs.Ends.{RoundAt, EndsAs, StepsAs, MetAs, with_met};
+ghost use Rattle.round.specs.Ends.{RoundAt, EndsAs, StepsAs, MetAs};
 
-use crate::{End, Given, RoundEnd, searching};
+use crate::{End, Given, RoundEnd, ending, searching};
+use free_path::halt::Halt;
 use free_path::link_opt_type;
 use free_path::link_opt_type::IdxSentinels;
 use image::codec;
 use image::codec::PathHeader;
-use link_rules::link_idx::TrainIdx;
 use round_start::{diverge, limit, path, split};
 use search::{Place, Round};
 
-fn refused(code: u32, h: PathHeader) -> RoundEnd
-    ensures { result ≡ record { end = End.Refused code; header = h; split = 0; div_split = 0; steps = 0; met = no_train } }
+// Before the search.
+fn refused(halt: Halt, h: PathHeader) -> RoundEnd
+    ensures { result ≡ record { end = End.Refused halt; header = h; split = 0; div_split = 0; steps = 0; met = no_train } }
 {
-    RoundEnd {
-        end: End::Refused(code),
-        header: h,
-        split: 0,
-        div_split: 0,
-        steps: 0,
-        met: TrainIdx(0),
-    }
-}
-
-fn at_end(h: PathHeader, met: TrainIdx) -> RoundEnd
-    ensures { result ≡ record { end = End.AtEnd; header = h; split = 0; div_split = 0; steps = 0; met = met } }
-{
-    RoundEnd {
-        end: End::AtEnd,
-        header: h,
-        split: 0,
-        div_split: 0,
-        steps: 0,
-        met: met,
-    }
-}
-
-// A round that has met a train before its search.
-fn with_met(x: RoundEnd, met: TrainIdx) -> RoundEnd
-    ensures { result ≡ with_met x met }
-{
-    let mut r = x;
-    r.met = met;
-    r
+    ending::ended(End::Refused(halt), h, 0)
 }
 
 // What the search from the split point does not change.
@@ -113,16 +85,16 @@ fn search_at(
         × StepsAs (λ G t. steps_by G t split div_split (record { node = z.node; divs = z.divs })) occ.now img.old dt.old dn.old g h result }
 {
     let m = h.diverge_count as usize;
-    let d = diverge::div_at(dn, m, split, div_split, z.node, z.divs);
-    if d.code != 0 {
-        return refused(d.code, h);
-    }
-    let k = path::save_point(img, h.path_count, h.fixed as usize, split);
-    if k.code != 0 {
-        return refused(k.code, h);
-    }
+    let d = match diverge::div_at(dn, m, split, div_split, z.node, z.divs) {
+        Ok(d) => d,
+        Err(halt) => return refused(halt, h),
+    };
+    let save = match path::save_point(img, h.path_count, h.fixed as usize, split) {
+        Ok(save) => save,
+        Err(halt) => return refused(halt, h),
+    };
     let r = round_of(img, g, h, split);
-    let p = place_of(h, split, d.index, k.index);
+    let p = place_of(h, split, d, save);
     searching::search(img, occ, on, h, r, p, dt, dn)
 }
 
@@ -152,18 +124,20 @@ pub fn round(
 {
     let n = h.path_count;
     let m = h.diverge_count as usize;
-    let z = link_opt_type::calc_idx_sentinels(div_split, g.train_idx_moved, dt, dn, m);
-    if z.code != 0 {
-        return refused(z.code, h);
-    }
+    let z = match link_opt_type::calc_idx_sentinels(div_split, g.train_idx_moved, dt, dn, m) {
+        Ok(z) => z,
+        Err(halt) => return refused(halt, h),
+    };
     let class = g.link_opt_type;
-    let i = split::split_point(class, img, n, col, occ, h.free as usize, split, z.node);
-    if i.code != 0 {
-        return refused(i.code, h);
-    }
+    let free = h.free as usize;
+    let i = match split::split_point(class, img, n, col, occ, free, split, z.node) {
+        Ok(i) => i,
+        Err(halt) => return refused(halt, h),
+    };
     if n as usize <= i.index {
-        return at_end(h, i.met);
+        let end = ending::ended(End::AtEnd, h, 0);
+        return RoundEnd { met: i.met, ..end };
     }
-    let x = search_at(img, occ, on, g, h, i.index, div_split, z, dt, dn);
-    with_met(x, i.met)
+    let end = search_at(img, occ, on, g, h, i.index, div_split, z, dt, dn);
+    RoundEnd { met: i.met, ..end }
 }

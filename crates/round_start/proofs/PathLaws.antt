@@ -1,47 +1,27 @@
--- The links on the path of an image, a node at a time as a loop has it. Assumes nothing.
-use mathlib.Core.Path.{◌≡◌, refl, sym, ap, ◌∙◌}
-use mathlib.Core.Bool.{Bool, true, false, cond, ◌&&◌, ◌||◌}
-use mathlib.Core.List.{◌∷◌}
-use Prim.Native.Nat.{ℕ, suc, ◌+◌, ◌≤◌, ◌<◌}
-use native.Mathlib.Numerals.{add-one}
-use lib.ListN.{drop}
+-- The links on the path of an image, as `any` over its nodes' numbers has them. Assumes nothing.
+use Rattle.std.proofs.Common.{◌≡◌, ℕ, Bool, true, false, cond, ◌&&◌, ◌||◌, List, [], ◌∷◌, map, sym, refl, ap, ◌∙◌, arith}
+use Rattle.std.specs.List.{list_any, range_with_len}
 use Rattle.link_rules.specs.LinkIdx.{same_link}
 use Rattle.link_rules.specs.declared.link_idx.LinkIdx.{LinkIdx}
 use Rattle.disp_structs.specs.Listed.{listed}
 use Rattle.disp_structs.specs.Values.{is_arrive}
-use Rattle.disp_structs.specs.declared.LinkEvent.{LinkEvent}
 use Rattle.disp_structs.specs.declared.DispNode.{DispNode}
 use Rattle.free_path.specs.Base.{any}
 use Rattle.free_path.specs.LinkOptType.{links_on_path, contains}
-use Rattle.free_path.proofs.ColumnLaws.{listed-from, listed-end}
+use Rattle.free_path.proofs.FoundLaws.{listed-range}
 
--- ---- links_on_path
+module _ (f : ℕ → DispNode) (l : LinkIdx) where
+  abbrev arrives : ℕ → Bool
+  arrives i = is_arrive (f i).link_event.est_type && same_link l (f i).link_event.link_idx
 
-module _ (n : DispNode) (e : LinkEvent) (q : e ≡ n.link_event) where
-  arrives : (l : LinkIdx) → (is_arrive e.est_type && same_link l e.link_idx) ≡ (is_arrive n.link_event.est_type && same_link l n.link_event.link_idx)
-  arrives l = ap (λ (v : LinkEvent). is_arrive v.est_type && same_link l v.link_idx) q
-
-  pub arrives-some : (l : LinkIdx) → is_arrive e.est_type ≡ true → same_link l e.link_idx ≡ (is_arrive n.link_event.est_type && same_link l n.link_event.link_idx)
-  arrives-some l h = ap (λ (t : Bool). t && same_link l e.link_idx) (sym h) ∙ arrives l
-
-  pub arrives-none : (l : LinkIdx) → is_arrive e.est_type ≡ false → false ≡ (is_arrive n.link_event.est_type && same_link l n.link_event.link_idx)
-  arrives-none l h = ap (λ (t : Bool). t && same_link l e.link_idx) (sym h) ∙ arrives l
-
-module _ (n : ℕ) (f : ℕ → DispNode) (l : LinkIdx) (i : ℕ) where
-  first : i < n → contains (links_on_path (drop i (listed n f))) l ≡ ((is_arrive (f i).link_event.est_type && same_link l (f i).link_event.link_idx) || contains (links_on_path (drop (i + 1) (listed n f))) l)
+  among : (xs : List ℕ) → list_any arrives xs ≡ contains (links_on_path (map f xs)) l
   unfolding contains any links_on_path
-  first h = rw (listed-from n f i h, add-one) (go (is_arrive (f i).link_event.est_type))
+  among [] = refl
+  among (x ∷ xs) = ap (λ (b : Bool). arrives x || b) (among xs) ∙ go (is_arrive (f x).link_event.est_type)
     where
-      go : (t : Bool) → contains (cond t ((f i).link_event.link_idx ∷ links_on_path (drop (suc i) (listed n f))) (links_on_path (drop (suc i) (listed n f)))) l ≡ ((t && same_link l (f i).link_event.link_idx) || contains (links_on_path (drop (suc i) (listed n f))) l)
+      go : (t : Bool) → ((t && same_link l (f x).link_event.link_idx) || contains (links_on_path (map f xs)) l) ≡ contains (cond t ((f x).link_event.link_idx ∷ links_on_path (map f xs)) (links_on_path (map f xs))) l
       go true = refl
       go false = refl
 
-  pub has_link : i < n → (is_arrive (f i).link_event.est_type && same_link l (f i).link_event.link_idx) ≡ true → true ≡ contains (links_on_path (drop i (listed n f))) l
-  has_link h e = sym (first h ∙ ap (λ t. t || contains (links_on_path (drop (i + 1) (listed n f))) l) e)
-
-  pub has_turn : i < n → (is_arrive (f i).link_event.est_type && same_link l (f i).link_event.link_idx) ≡ false → contains (links_on_path (drop (i + 1) (listed n f))) l ≡ contains (links_on_path (drop i (listed n f))) l
-  has_turn h e = sym (first h ∙ ap (λ t. t || contains (links_on_path (drop (i + 1) (listed n f))) l) e)
-
-  pub has_end : n ≤ i → false ≡ contains (links_on_path (drop i (listed n f))) l
-  unfolding contains any links_on_path
-  has_end h = rw (listed-end n f i h)
+  pub any_arrives : (n : ℕ) → list_any arrives (range_with_len 0 n) ≡ contains (links_on_path (listed n f)) l
+  any_arrives n = among (range_with_len 0 n) ∙ ap (λ (ns : List DispNode). contains (links_on_path ns) l) (sym (listed-range f n n 0 (omega arith)))

@@ -16,16 +16,6 @@ use Rattle.free_path.specs.LinkOptType.{links_on_path, contains, link_idx_path, 
 use Rattle.free_path.specs.declared.link_opt_type.LinkOptType.{LinkOptType}
 use Rattle.update_definition.specs.Update.{Given, apart, search_begin, meeting, split_point}
 
-module _ (split free sentinel : ℕ) where
-  pub begin-split : free ≤ split → split ≡ search_begin split free sentinel
-  begin-split h = rw (le-ltb split free h)
-
-  pub begin-free : split < free → free ≤ sentinel → free ≡ search_begin split free sentinel
-  begin-free h k = rw (lt-ltb split free h, le-leb free sentinel k)
-
-  pub begin-sentinel : split < free → sentinel < free → sentinel ≡ search_begin split free sentinel
-  begin-sentinel h k = rw (lt-ltb split free h, lt-leb free sentinel k)
-
 module _ (class : LinkOptType) (occ col : List ℕ) (n free split sentinel : ℕ) where
   pub meet_back : sentinel < split → no 13 ≡ meeting class occ (listed n (link_at col)) free split sentinel
   unfolding meeting

@@ -1,11 +1,12 @@
 -- The start of a round: idx_split, div_idx_split with its asserts, and paths whose links have flags. Assumes nothing.
-use Rattle.std.specs.Prelude.{◌≡◌, true, cond, ℕ, ◌<◌, List, ltb, leb}
+use Rattle.std.specs.Prelude.{◌≡◌, true, cond, ℕ, ◌<◌, List, ltb, leb, Result, IfOk}
 use Rattle.link_rules.specs.declared.link_idx.LinkIdx.{LinkIdx}
 use Rattle.disp_structs.specs.Values.{is_arrive}
 use Rattle.disp_structs.specs.declared.DispNode.{DispNode}
 use Rattle.disp_structs.specs.declared.DivergeNode.{DivergeNode}
 use Rattle.free_path.specs.Base.{Res, ok, ◌>>=◌, need, at, before}
-use Rattle.free_path.specs.Columns.{answer}
+use Rattle.free_path.specs.Halts.{answered_by}
+use Rattle.free_path.specs.declared.halt.Halt.{Halt}
 use Rattle.free_path.specs.LinkOptType.{Sentinels, links_on_path, contains, train_met}
 use Rattle.free_path.specs.declared.link_opt_type.LinkOptType.{LinkOptType}
 use Rattle.update_definition.specs.Accepted.{Each}
@@ -17,8 +18,8 @@ abbrev pub split_at : (class : LinkOptType) (path : List DispNode) (links : List
 split_at class path links occ free split sentinel = cond (apart class (contains (links_on_path path))) (ok sentinel) (meeting class occ links free split sentinel)
 
 -- x is that answer r, with the train met there (document 02, Q-14)
-abbrev pub Splits : (x : Split) (sentinel : ℕ) (links : List LinkIdx) (occ : List ℕ) (r : Res ℕ) → Type 0
-Splits x sentinel links occ r = (answer x.code x.index ≡ r) × (x.met ≡ train_met sentinel links occ r)
+abbrev pub Splits : (x : Result Split Halt) (sentinel : ℕ) (links : List LinkIdx) (occ : List ℕ) (r : Res ℕ) → Type 0
+Splits x sentinel links occ r = (answered_by (λ s. s.index) x ≡ r) × IfOk x (λ s. s.met ≡ train_met sentinel links occ r)
 
 -- the asserts on the diverge nodes before and at d (331-332)
 unfoldable pub parted_at : List DivergeNode → ℕ → ℕ → Res ℕ

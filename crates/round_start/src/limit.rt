@@ -9,7 +9,8 @@ pub fn offset_cancel(local: bool, lowest: Metres, offset: Metres, search: Metres
     ensures { result ≡ offset_cancel_of local lowest offset search }
 {
     if local {
-        return Metres(search_limit::maximum(lowest.0, offset.0 - search.0));
+        Metres(search_limit::maximum(lowest.0, offset.0 - search.0))
+    } else {
+        lowest
     }
-    lowest
 }

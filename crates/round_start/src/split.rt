@@ -2,46 +2,33 @@
 ghost use Rattle.std.specs.Prelude.{◌≡◌};
 ghost use Rattle.disp_structs.specs.Listed.{listed};
 ghost use Rattle.free_path.specs.Columns.{link_at};
-ghost use Rattle.link_rules.specs.LinkIdx.{no_train};
 ghost use Rattle.update_definition.specs.Update as Update;
 ghost use Rattle.update_definition.specs.Update.{search_begin};
 ghost use Rattle.image.specs.Image.{path_of};
 ghost use Rattle.round_start.specs.Start.{split_at, Splits};
 
 use crate::path;
+use free_path::halt::Halt;
 use free_path::link_opt_type;
 use free_path::link_opt_type::LinkOptType;
 use link_rules::link_idx::TrainIdx;
 
-// A refusal's number, or 0; idx_split, and the train met there.
+// idx_split, and the train met there.
 #[derive(Clone, Copy)]
 pub struct Split {
-    pub code: u32,
     pub index: usize,
     pub met: TrainIdx,
-}
-
-fn no_split() -> Split
-    ensures { result ≡ record { code = 13; index = 0; met = no_train } }
-{
-    Split {
-        code: 13,
-        index: 0,
-        met: TrainIdx(0),
-    }
 }
 
 // Where the intersection search begins.
 fn search_begin(split: usize, free: usize, sentinel: usize) -> usize
     ensures { result ≡ search_begin split free sentinel }
 {
-    if free <= split {
-        return split;
+    if split < free {
+        free.min(sentinel)
+    } else {
+        split
     }
-    if free <= sentinel {
-        return free;
-    }
-    sentinel
 }
 
 // The first intersection, with link_idx_path as n links of a column.
@@ -53,23 +40,21 @@ fn meeting(
     free: usize,
     split: usize,
     sentinel: usize,
-) -> Split
+) -> Result<Split, Halt>
     ensures { Splits result sentinel (listed n (link_at col.now)) occ.now (Update.meeting class occ.now (listed n (link_at col.now)) free split sentinel) }
 {
     if sentinel < split {
-        return no_split();
+        return Err(Halt::Panic);
     }
     let begin = search_begin(split, free, sentinel);
     if n <= begin {
-        return no_split();
+        return Err(Halt::Panic);
     }
-    let x = link_opt_type::find_train_intersect(begin, sentinel, class, col, n, occ);
-    let t = x.met;
-    Split {
-        code: x.code,
+    let x = link_opt_type::find_train_intersect(begin, sentinel, class, col, n, occ)?;
+    Ok(Split {
         index: x.idx,
-        met: t,
-    }
+        met: x.met,
+    })
 }
 
 // idx_split after the intersection search.
@@ -82,16 +67,15 @@ pub fn split_point(
     free: usize,
     split: usize,
     sentinel: usize,
-) -> Split
+) -> Result<Split, Halt>
     ensures { Splits result sentinel (listed n (link_at col.now)) occ.now
         (split_at class (path_of img.now n) (listed n (link_at col.now)) occ.now free split sentinel) }
 {
     if path::is_apart(class, img, n) {
-        return Split {
-            code: 0,
+        return Ok(Split {
             index: sentinel,
             met: TrainIdx(0),
-        };
+        });
     }
     meeting(class, col, n as usize, occ, free, split, sentinel)
 }

@@ -13,10 +13,9 @@ use Rattle.disp_structs.specs.declared.DispNode.{DispNode}
 use Rattle.disp_structs.specs.declared.DivergeNode.{DivergeNode}
 use Rattle.disp_structs.specs.declared.TrainIdxsView.{TrainIdxsView}
 use Rattle.free_path.specs.Base.{Res, ok, no, ◌>>=◌, slice}
-use Rattle.free_path.specs.Columns.{answer, div_at, tr, trains}
+use Rattle.free_path.specs.Columns.{div_at, tr, trains}
 use Rattle.disp_structs.specs.Listed.{listed}
 use Rattle.disp_structs.proofs.ListedLaws.{listed-length, listed-map, listed_same}
-use Rattle.free_path.proofs.CountLaws.{answer-no, bind_go}
 use Rattle.free_path.proofs.PoolLaws.{trains-at, trains-length}
 use Rattle.update_definition.specs.State as State
 use Rattle.update_definition.specs.State.{diverging, push_divs}
@@ -102,10 +101,12 @@ module _ (r : State.Round) (h : Look.Here) (s : State.Search) where
       go (ok ts) = refl
       go (no n) = refl
 
-  module _ (c : ℕ) (ds : List DivergeNode) (q : answer c ds ≡ deposit s.train_idxs_blocking (State.view_of s.views h.est_curr.idx_next) r.train.diverge_room s.div_nodes_new h.idx_join_new) where
-    pub alternate_stop : (c ≡ 0 → ⊥) → no c ≡ Moves.alternate r h s
-    alternate_stop z = sym (whole ∙ ap (λ (x : Res (List DivergeNode)). x >>= Next) (sym q ∙ answer-no c ds z))
+  abbrev Deposited : Res (List DivergeNode)
+  Deposited = deposit s.train_idxs_blocking (State.view_of s.views h.est_curr.idx_next) r.train.diverge_room s.div_nodes_new h.idx_join_new
 
-    pub alternate_go : c ≡ 0 → (f : ℕ) → f ≡ alternate_free h.idx_join_new s.disp_node_idx_free → (n : DispNode) → n ≡ alternate_node h.disp_node_curr h.est_curr.idx_next_alt
-        → push_turn (State.set_divs_new (State.set_free s f) ds) n ≡ Moves.alternate r h s
-    alternate_go z f e n w = rw (e, w) (bind_go c ds Next q z ∙ sym whole)
+  pub alternate_stop : (c : ℕ) → no c ≡ Deposited → no c ≡ Moves.alternate r h s
+  alternate_stop c q = ap (λ (x : Res (List DivergeNode)). x >>= Next) q ∙ sym whole
+
+  pub alternate_go : (ds : List DivergeNode) → ok ds ≡ Deposited → (f : ℕ) → f ≡ alternate_free h.idx_join_new s.disp_node_idx_free → (n : DispNode) → n ≡ alternate_node h.disp_node_curr h.est_curr.idx_next_alt
+      → push_turn (State.set_divs_new (State.set_free s f) ds) n ≡ Moves.alternate r h s
+  alternate_go ds q f e n w = rw (e, w) (ap (λ (x : Res (List DivergeNode)). x >>= Next) q ∙ sym whole)

@@ -12,17 +12,16 @@ use Rattle.disp_structs.specs.declared.DispNode.{DispNode}
 use Rattle.disp_structs.specs.declared.DivergeNode.{DivergeNode}
 use Rattle.disp_structs.specs.declared.EstTime.{EstTime}
 use Rattle.free_path.specs.Base.{Res, ok, no, ◌>>=◌, ◌>>◌, need, at, before}
-use Rattle.free_path.specs.Columns.{answer, div_at}
+use Rattle.free_path.specs.Columns.{div_at}
 use Rattle.free_path.proofs.ColumnLaws.{listed_read, listed_out}
 use Rattle.image.specs.Image.{est_place, est_at, whole_est, ests_of}
 use Rattle.image.proofs.RecordLaws.{whole-est}
 use Rattle.update_definition.specs.State.{blocked}
 use Rattle.update_definition.specs.Look as Def
 use Rattle.update_definition.specs.Look.{look_from}
-use Rattle.search.specs.Read.{views_of, divs_of, here_of, rising}
+use Rattle.search.specs.Read.{views_of, divs_of, rising}
 use Rattle.search.specs.declared.Round.{Round}
 use Rattle.search.specs.declared.Place.{Place}
-use Rattle.search.specs.declared.look.Here.{Here}
 use Rattle.search.proofs.ListedLaws.{below_or_not}
 use Rattle.search.proofs.ReadLaws.{need-inside}
 
@@ -54,9 +53,6 @@ module _ (m : ℕ) (t n : List ℕ) (i : ℕ) where
 -- an est record of the n that lie within the image
 pub est-inside : (img : List ℕ) (n i : ℕ) → est_place n ≤ length img → i < n → (e : EstTime) → e ≡ whole_est img i → e ≡ est_at img i
 est-inside img n i h o e q = q ∙ whole-est img i (omega arith)
-
-pub refused : {A : Res Def.Here} (h : Here) → h.code ≡ 13 → no 13 ≡ A → answer h.code (here_of h) ≡ A
-refused h e q = rw e q
 
 module _ (r : Round) (p : Place) (curr : DispNode) (img b ends t dn : List ℕ) where
   abbrev Look : Res Def.Here

@@ -1,5 +1,5 @@
 -- The turns of the loop: how it begins, goes on and stops, and the bounds by which it indexes. Assumes nothing.
-use Prim.Native.Nat.{ℕ, zero, suc, ◌+◌, ◌-◌, ◌≤◌, ◌<◌}
+use Prim.Native.Nat.{ℕ, zero, suc, ◌+◌, ◌-◌, ◌*◌, ◌≤◌, ◌<◌}
 use mathlib.Core.Path.{◌≡◌, refl, sym, ap, ap₂, subst, ◌∙◌}
 use mathlib.Core.Bool.{Bool, true, false, cond}
 use mathlib.Core.List.{List, [], ◌∷◌, ◌++◌}
@@ -8,17 +8,20 @@ use native.Mathlib.Omega.{arith}
 use lib.Dec.{T, eqb, ltb}
 use lib.Ieee.{Float, nan, inf, fin, is_nan, eq, le}
 use mathlib.Core.Bool.{not}
-use lib.ListN.{length, get_or, take, set, length-append}
+use lib.ListN.{length, get_or, take, set, length-append, length-set}
 use lib.Seq.{take-append-le, take_all, get_or_at, get_or-set_same, get_or-set_other}
 use borrow.Author.Tests.{ne_eqb, ltb-false, lt-ltb, le-ltb}
-use Rattle.link_rules.specs.declared.link_idx.TrainIdx.{TrainIdx}
 use Rattle.disp_structs.specs.Listed.{listed}
 use Rattle.disp_structs.proofs.ListedLaws.{listed-length, listed_same, listed_at, listed-take}
 use Rattle.disp_structs.specs.Train.{Train}
 use Rattle.disp_structs.specs.Floats.{in_reach}
 use Rattle.disp_structs.specs.declared.DispNode.{DispNode}
 use Rattle.disp_structs.specs.declared.EstType.TheVariants.{Arrive}
-use Rattle.image.specs.Image.{est_count, node_place, est_at, node_at, whole_node, put_node, path_of}
+use Rattle.image.specs.Image.{est_count, est_place, node_place, est_at, node_at, whole_node, put_node, path_of}
+use Rattle.image.proofs.RecordLaws.{whole-node}
+use Rattle.std.proofs.Common.{Some, None, Ok, Err}
+use Rattle.free_path.specs.declared.halt.Halt.{Halt}
+use Rattle.free_path.specs.declared.halt.Halt.TheVariants.{Panic}
 use Rattle.free_path.specs.Base.{Res, ok, no, at}
 use Rattle.free_path.proofs.CountLaws.{top}
 use Rattle.free_path.proofs.WalkLaws.{at_in}
@@ -36,20 +39,22 @@ use Rattle.update_laws.specs.Good.{Good}
 use Rattle.update_laws.proofs.GoodTurns.{step_good, good_bounds}
 use Rattle.update_laws.specs.FitsGood.{TrainFits}
 use Rattle.update_laws.proofs.Fitting.{step_fits}
-use Rattle.search.specs.Read.{divs_of, round_of, search_in, Arrays, Small}
+use Rattle.search.specs.Read.{divs_of, round_of, here_of, search_in, Arrays, Small, Lent}
 use Rattle.search.specs.declared.Round.{Round}
 use Rattle.search.specs.declared.Place.{Place}
-use Rattle.search.specs.Effects.{leaves, turn_of}
+use Rattle.search.specs.Effects.{turn_of, search_at, TurnFits, TurnAt}
+use Rattle.search.specs.declared.turn.Turned.{Turned}
+use Rattle.search.specs.declared.run.Searched.{Searched}
 use Rattle.search.specs.declared.Effect.{Effect}
-use Rattle.search.specs.declared.Effect.TheVariants.{Refused, Push, Pop, Stay, GiveUp}
+use Rattle.search.specs.declared.Effect.TheVariants.{Refused}
 use Rattle.search.specs.declared.run.Next.{Next}
-use Rattle.search.proofs.TurnLaws.{turn-done, Answers}
+use Rattle.search.proofs.TurnLaws.{Answers, refused}
 use Rattle.disp_structs.proofs.FloatLaws.{reach-number}
-use Rattle.splice.proofs.NodeLaws.{put-kept, put_other, put_same, kept_eq}
+use Rattle.splice.proofs.NodeLaws.{put-kept, put_other, put_same, kept_eq, kept-count, kept_then}
 use Rattle.splice.specs.Parts.{Sound}
 use Rattle.splice.specs.Read.{Kept}
 use Rattle.search.proofs.StepLaws.{turn-stops}
-use Rattle.search.specs.Runs.{end_of, counted, slot_of, Follows, FollowsTurn, SearchBegins, Going, Ran}
+use Rattle.search.specs.Runs.{end_of, counted, slot_of, FollowsTurn, SearchBegins, Ready, Going, Ran, Searches}
 
 -- what the rule of an array read gives past the end
 abbrev pub blank : DispNode
@@ -92,9 +97,6 @@ slot_in k h = rw (lt-ltb k 63 h)
 
 pub slot_behind : (k : ℕ) → 63 ≤ k → slot_of k ≡ 63
 slot_behind k h = rw (le-ltb k 63 h)
-
-pub slot-low : (k : ℕ) → slot_of k ≤ 63
-slot-low k = ⊎_elim (λ (h : k < 63). omega (arith, slot_in k h)) (λ (h : 63 ≤ k). omega (arith, slot_behind k h)) (below_or_not k 63)
 
 -- another node of the first 63 has another place
 slot-other : (k i : ℕ) → i < 63 → (i ≡ k → ⊥) → i ≡ slot_of k → ⊥
@@ -166,55 +168,11 @@ current-in img fresh split (suc m) top w f t = ap₂ (cond (eqb (suc m) 0)) w (b
     behind true q = f (omega arith)
     behind false q = t (omega arith) (ltb-false 63 (suc m) q)
 
--- and where none is left
-pub current-none : (img fresh : List ℕ) (split c : ℕ) → c ≡ 0 → node_at img (split - 1) ≡ current_in img fresh split c
-current-none img fresh split c q = rw q
-
 -- ---- after a turn
 
-module _ (k : ℕ) (n : DispNode) where
-  abbrev pub stopped : Next
-  stopped = record { goes = false; node = n; count = 0 }
-
-  abbrev pub goes_to : ℕ → Next
-  goes_to c = record { goes = true; node = n; count = c }
-
-  pub follows_refused : (c : ℕ) → Follows (Refused c) k stopped
-  follows_refused c = record { goes = refl; few = omega arith; node = λ q r s l. clash false q refl }
-
-  pub follows_give_up : (holder : TrainIdx) → Follows (GiveUp holder) k stopped
-  follows_give_up holder = record { goes = refl; few = omega arith; node = λ q r s l. clash false q refl }
-
-  pub follows_push : Follows (Push n) k (goes_to (k + 1))
-  follows_push = record {
-    goes = refl;
-    few = omega arith;
-    node = λ q r s l. ap (λ (y : List DispNode). ok (State.go_on (State.set_new s y))) (sym (take_all (k + 1) (s.disp_path_new ++ (n ∷ [])) (omega (arith, length-append s.disp_path_new (n ∷ []), l))));
-  }
-
-  pub follows_pop : Follows Pop k (goes_to (k - 1))
-  follows_pop = record {
-    goes = refl;
-    few = omega arith;
-    node = λ q r s l. ap (λ (y : List DispNode). ok (State.go_on (State.set_new s y))) (sym (take-append-le (k - 1) s.disp_path_new (n ∷ []) (omega arith) ∙ ap (λ (m : ℕ). take (m - 1) s.disp_path_new) (sym l)));
-  }
-
-  pub follows_stay : Follows Stay k (goes_to k)
-  follows_stay = record {
-    goes = refl;
-    few = omega arith;
-    node = λ q r s l. ap (λ (y : List DispNode). ok (State.go_on (State.set_new s y))) (sym (take-append-le k s.disp_path_new (n ∷ []) (omega arith) ∙ take_all k s.disp_path_new (omega (arith, l))));
-  }
-
-pub follows_left : (go : Move) (e : Effect) (k : ℕ) (n : DispNode) → leaves go ≡ true → FollowsTurn go e k (stopped k n)
-follows_left go e k n q = record { few = omega arith; stops = λ a b. clash (leaves go) q b; node = λ a r h s l. clash false a refl }
-
-pub follows_done : (go : Move) (e : Effect) (k : ℕ) (x : Next) → leaves go ≡ false → Follows e k x → FollowsTurn go e k x
-follows_done go e k x q f = record {
-  few = f.few;
-  stops = λ a b. sym f.goes ∙ a;
-  node = λ a r h s l. turn-done go e r h s q ∙ f.node (sym f.goes ∙ a) r s l;
-}
+-- a turn that is refused
+pub follows_halt : (e : Halt) (k : ℕ) → FollowsTurn Advance (Refused e) k None
+follows_halt e k = record { stops = λ a b. refl; few = tt; node = tt }
 
 -- ---- bounds
 
@@ -325,8 +283,7 @@ module _ (occ img dt dn : List ℕ) (r : Round) (t : Train) (s₀ : State.Search
 
   -- a turn was made
   module _ (nt' nn' : List ℕ) (a' : Arrays) (go : Move) (e : Effect) (h : Look.Here) (q : Place) (m : ℕ) (n : left ≡ suc m)
-      (w : Answers go e round h (search_in r.est_count q new (divs_of q.div_count nt' nn') a') (search_in r.est_count p new (divs_of p.div_count nt nn) a))
-      (x : Next) (f : FollowsTurn go e p.new_count x) where
+      (w : Answers go e round h (search_in r.est_count q new (divs_of q.div_count nt' nn') a') (search_in r.est_count p new (divs_of p.div_count nt nn) a)) where
     abbrev after : State.Search
     after = search_in r.est_count q new (divs_of q.div_count nt' nn') a'
 
@@ -334,32 +291,33 @@ module _ (occ img dt dn : List ℕ) (r : Round) (t : Train) (s₀ : State.Search
     left_one = subst (λ (j : ℕ). Going b.top (length occ) round n₀ s₀ j steps (search_in r.est_count p new (divs_of p.div_count nt nn) a)) n g
 
     -- it goes on with this new path
-    abbrev longer : List DispNode
-    longer = take x.count (new ++ (x.node ∷ []))
+    module _ (x : Next) (f : FollowsTurn go e p.new_count (Some x)) where
+      abbrev longer : List DispNode
+      longer = take x.count (new ++ (x.node ∷ []))
 
-    goes_on : x.goes ≡ true → Going b.top (length occ) round n₀ s₀ m (steps + 1) (State.set_new after longer)
-    goes_on y = going_on (length occ) round s₀ b n₀ m steps _ left_one (turn_of go e round h after) w.0 (State.set_new after longer) (f.node y round h after new-long)
+      goes_on : Going b.top (length occ) round n₀ s₀ m (steps + 1) (State.set_new after longer)
+      goes_on = going_on (length occ) round s₀ b n₀ m steps _ left_one (turn_of go e round h after) w.0 (State.set_new after longer) (f.node round h after new-long)
 
-    pub turn_sound : x.goes ≡ true → x.count ≡ p.new_count + 1 → Sound x.node
-    turn_sound y z =
-        let u : longer ≡ new ++ (x.node ∷ []) = take_all x.count (new ++ (x.node ∷ [])) (omega (arith, length-append new (x.node ∷ []), new-long, z)) in
-        let v : at (new ++ (x.node ∷ [])) p.new_count ≡ ok x.node = at_in (new ++ (x.node ∷ [])) p.new_count x.node (omega (arith, length-append new (x.node ∷ []), new-long)) ∙ ap ok (get_or_at new x.node [] x.node p.new_count new-long) in
-        node_sound (length occ) round s₀ b n₀ m (steps + 1) (State.set_new after longer) (goes_on y) p.new_count x.node (ap (λ (ns : List DispNode). at ns p.new_count) u ∙ v)
+      pub turn_sound : x.count ≡ p.new_count + 1 → Sound x.node
+      turn_sound z =
+          let u : longer ≡ new ++ (x.node ∷ []) = take_all x.count (new ++ (x.node ∷ [])) (omega (arith, length-append new (x.node ∷ []), new-long, z)) in
+          let v : at (new ++ (x.node ∷ [])) p.new_count ≡ ok x.node = at_in (new ++ (x.node ∷ [])) p.new_count x.node (omega (arith, length-append new (x.node ∷ []), new-long)) ∙ ap ok (get_or_at new x.node [] x.node p.new_count new-long) in
+          node_sound (length occ) round s₀ b n₀ m (steps + 1) (State.set_new after longer) goes_on p.new_count x.node (ap (λ (ns : List DispNode). at ns p.new_count) u ∙ v)
 
-    pub turn_on : x.goes ≡ true → (fresh1 : List ℕ) → listed x.count (node_at fresh1) ≡ longer → Going b.top (length occ) round n₀ s₀ m (steps + 1) (search_in r.est_count (counted q x.count) (listed x.count (node_at fresh1)) (divs_of q.div_count nt' nn') a')
-    turn_on y fresh1 z = subst (λ (ns : List DispNode). Going b.top (length occ) round n₀ s₀ m (steps + 1) (search_in r.est_count (counted q x.count) ns (divs_of q.div_count nt' nn') a')) (sym z) (goes_on y)
+      pub turn_on : (fresh1 : List ℕ) → listed x.count (node_at fresh1) ≡ longer → Going b.top (length occ) round n₀ s₀ m (steps + 1) (search_in r.est_count (counted q x.count) (listed x.count (node_at fresh1)) (divs_of q.div_count nt' nn') a')
+      turn_on fresh1 z = subst (λ (ns : List DispNode). Going b.top (length occ) round n₀ s₀ m (steps + 1) (search_in r.est_count (counted q x.count) ns (divs_of q.div_count nt' nn') a')) (sym z) goes_on
 
-    pub turn-ends : x.goes ≡ false → n₀ ≡ turn_limit round.train → Ran (length occ) round s₀ go e h (steps + 1) after
-    turn-ends y o = record {
+    pub turn-ends : FollowsTurn go e p.new_count None → n₀ ≡ turn_limit round.train → Ran (length occ) round s₀ go e h (steps + 1) after
+    turn-ends f o = record {
       after = search_from m round;
       is = ap (λ (j : ℕ). search_from j round s₀) (sym o) ∙ going_ends (length occ) round s₀ b n₀ m steps _ left_one (turn_of go e round h after) w.0;
-      counts = going_last (length occ) round s₀ b n₀ m steps _ left_one (turn_of go e round h after) w.0 (turn-stops (λ u. steps_from m round u) go e round h after (λ c. f.stops y c)) ∙ ap (λ (j : ℕ). steps_from j round s₀) o;
-      ended = λ c. f.stops y c;
+      counts = going_last (length occ) round s₀ b n₀ m steps _ left_one (turn_of go e round h after) w.0 (turn-stops (λ u. steps_from m round u) go e round h after (λ c. f.stops refl c)) ∙ ap (λ (j : ℕ). steps_from j round s₀) o;
+      ended = λ c. f.stops refl c;
       left = λ c. record { top = search_in r.est_count p new (divs_of p.div_count nt nn) a; good = g.good; looked = w.1 c };
     }
 
 -- no turn was left
-pub turns_out : (links : ℕ) (r : State.Round) (s₀ s u : State.Search) (b : SearchBegins links r s₀) (h : Look.Here) (n₀ left steps : ℕ) → Going b.top links r n₀ s₀ left steps s → left ≡ 0 → n₀ ≡ turn_limit r.train → Ran links r s₀ Advance (Refused 13) h steps u
+pub turns_out : (links : ℕ) (r : State.Round) (s₀ s u : State.Search) (b : SearchBegins links r s₀) (h : Look.Here) (n₀ left steps : ℕ) → Going b.top links r n₀ s₀ left steps s → left ≡ 0 → n₀ ≡ turn_limit r.train → Ran links r s₀ Advance (Refused Panic) h steps u
 turns_out links r s₀ s u b h n₀ left steps g z o = record {
   after = λ v. no 13;
   is = ap (λ (j : ℕ). search_from j r s₀) (sym o) ∙ going_out links r s₀ b n₀ steps s (subst (λ (j : ℕ). Going b.top links r n₀ s₀ j steps s) z g);
@@ -367,3 +325,155 @@ turns_out links r s₀ s u b h n₀ left steps g z o = record {
   ended = λ c. refl;
   left = λ c. clash false c refl;
 }
+
+-- ---- the loop
+
+-- what it keeps: `turns` turns are made, and the search stands at p
+pub record Turning (img occ dt dn : List ℕ) (r : Round) (start : Place) (fresh₀ : List ℕ) (a₀ : Arrays) (nt₀ nn₀ : List ℕ) (turns : ℕ) (p : Place) (curr : DispNode) (firsts : List DispNode) (fresh : List ℕ) (a : Arrays) (nt nn : List ℕ) : Type 0 where
+  pub kept : Kept fresh fresh₀
+  pub lent : Lent r.est_count a
+  pub begins : length a.begins ≡ length a₀.begins
+  pub ends : length a.ends ≡ length a₀.ends
+  pub new_trains : length nt ≡ length nt₀
+  pub new_nodes : length nn ≡ length nn₀
+  pub pooled : p.pool_count ≤ 2048
+  pub current : curr ≡ current_in img fresh p.idx_split p.new_count
+  pub slots : length firsts ≡ 64
+  pub same : (i : ℕ) → i < p.new_count → i < 63 → get_or firsts i blank ≡ node_at fresh i
+  pub going : (t : Train) (b : SearchBegins (length occ) (round_of t occ img dt dn r) (search_at r start [] a₀ nt₀ nn₀))
+      → Going b.top (length occ) (round_of t occ img dt dn r) (3 * r.est_count + 1) (search_at r start [] a₀ nt₀ nn₀) (3 * r.est_count + 1 - turns) turns (search_at r p (listed p.new_count (node_at fresh)) a nt nn)
+
+module _ {img occ on dt dn : List ℕ} {r : Round} {start : Place} {fresh₀ : List ℕ} {a₀ : Arrays} {nt₀ nn₀ : List ℕ} (g : Ready img occ on dt dn r start fresh₀ a₀ nt₀ nn₀) where
+  abbrev limit : ℕ
+  limit = 3 * r.est_count + 1
+
+  start_split : (1 ≤ start.idx_split) × (start.idx_split < length (path_of img r.path_count)) × (start.idx_split + start.new_count ≤ 512) × (start.idx_split + start.new_count ≤ length (Rattle.image.specs.Image.ests_of img r.est_count))
+  start_split = place-split (length occ) _ g.begins.accepted r.est_count start [] nt₀ nn₀ a₀ g.begins.good (sym g.none)
+
+  pub turning_first : (before : ℕ) → before ≡ start.idx_split - 1 → (curr : DispNode) → curr ≡ whole_node img before → (firsts : List DispNode) → length firsts ≡ 64 → Turning img occ dt dn r start fresh₀ a₀ nt₀ nn₀ 0 start curr firsts fresh₀ a₀ nt₀ nn₀
+  unfolding listed
+  turning_first before q curr e firsts l =
+      let none_made : 3 * r.est_count + 1 - 0 ≡ 3 * r.est_count + 1 = omega arith in
+      let n = whole-node img before (omega (arith, q, start_split.0, start_split.1, listed-length r.path_count (node_at img), g.nodes)) in
+      record {
+        kept = record { size = refl; below = λ i h. refl };
+        lent = g.lent;
+        begins = refl;
+        ends = refl;
+        new_trains = refl;
+        new_nodes = refl;
+        pooled = g.pooled;
+        current = rw g.none (e ∙ n ∙ ap (node_at img) q);
+        slots = l;
+        same = λ i h. absurd (omega (arith, g.none, h));
+        going = λ t b. rw (g.none, none_made) (going_first _ _ _ b _);
+      }
+
+  module _ {turns : ℕ} {p : Place} {curr : DispNode} {firsts : List DispNode} {fresh : List ℕ} {a : Arrays} {nt nn : List ℕ} (v : Turning img occ dt dn r start fresh₀ a₀ nt₀ nn₀ turns p curr firsts fresh a nt nn) where
+    abbrev news : List DispNode
+    news = listed p.new_count (node_at fresh)
+
+    pub split : (1 ≤ p.idx_split) × (p.idx_split ≤ r.path_count) × (p.idx_split + p.new_count ≤ 512) × (p.idx_split + p.new_count ≤ r.est_count)
+    split = top_split occ img dt dn r g.train _ g.begins _ (limit - turns) turns p fresh nt nn a (v.going g.train g.begins)
+
+    pub few : p.new_count < 512
+    few = omega (arith, split.0, split.2)
+
+    pub fits : TurnFits img on r p a nt nn (est_place r.est_count ≤ length img)
+    fits =
+        let small : Small p = top_small occ img dt dn r g.train _ g.begins _ (limit - turns) turns p fresh nt nn a (v.going g.train g.begins) v.pooled in
+        (small, g.sized, v.lent, omega (arith, v.new_trains, g.new_trains), omega (arith, v.new_nodes, g.new_nodes), g.marked, g.ests)
+
+    room : node_place (est_count fresh) (p.new_count + 1) ≤ length fresh
+    room = omega (arith, split.0, split.3, kept-count _ _ v.kept, v.kept.size, g.buffer)
+
+    node : current (path_of img r.path_count) news p.idx_split ≡ ok curr
+    node = top-current occ img dt dn r g.train _ g.begins _ (limit - turns) turns p fresh nt nn a (v.going g.train g.begins) ∙ ap ok (sym v.current)
+
+    limit-is : (t : Train) → limit ≡ turn_limit (round_of t occ img dt dn r).train
+    limit-is t = ap (λ (j : ℕ). 3 * j + 1) (sym (listed-length r.est_count (est_at img)))
+
+    -- no turn is left
+    pub out_of_turns : turns ≡ limit → (x : Searched) → x.go ≡ Advance → x.effect ≡ Refused Panic → x.steps ≡ turns → (fresh₁ : List ℕ) (b : Arrays) (nt₁ nn₁ : List ℕ) → Searches occ img dt dn r start a₀ nt₀ nn₀ x fresh₁ b nt₁ nn₁
+    out_of_turns q x e f s fresh₁ b nt₁ nn₁ = λ t y. rw (e, f, s) (turns_out (length occ) (round_of t occ img dt dn r) _ _ _ y _ _ (limit - turns) turns (v.going t y) (omega arith) (limit-is t))
+
+    module _ (h : turns < limit) (b : Arrays) (nt₁ nn₁ : List ℕ) where
+      left : limit - turns ≡ suc (limit - (turns + 1))
+      left = omega arith
+
+      -- the turn is refused
+      pub turn_refused : (e : Halt) → TurnAt occ img dt dn r p curr a nt nn (Err e) b nt₁ nn₁ → (x : Searched) → x.go ≡ Advance → x.effect ≡ Refused e → x.new_count ≡ p.new_count → x.steps ≡ turns + 1
+          → Searches occ img dt dn r start a₀ nt₀ nn₀ x fresh b nt₁ nn₁
+      turn_refused e w x q f k s = λ t y. rw (q, f, k, s)
+          (turn-ends occ img dt dn r t _ y limit (limit - turns) turns p fresh nt nn a (v.going t y) nt₁ nn₁ b Advance (Refused e) (here_of x.here) x.place (limit - (turns + 1)) left
+          (refused (round_of t occ img dt dn r) (here_of x.here) (search_at r p news a nt nn) (search_at r x.place news b nt₁ nn₁) e (w.0 t news (listed-length _ _) node)) (follows_halt e p.new_count) (limit-is t))
+
+      module _ (y : Turned) (w : TurnAt occ img dt dn r p curr a nt nn (Ok y) b nt₁ nn₁) where
+        -- the turn ends the search
+        pub turn_ended : FollowsTurn y.go y.effect p.new_count None
+            → Searches occ img dt dn r start a₀ nt₀ nn₀ (record { go = y.go; effect = y.effect; here = y.here; place = y.place; new_count = p.new_count; steps = turns + 1 }) fresh b nt₁ nn₁
+        turn_ended f = λ t z.
+            turn-ends occ img dt dn r t _ z limit (limit - turns) turns p fresh nt nn a (v.going t z) nt₁ nn₁ b y.go y.effect (here_of y.here) y.place (limit - (turns + 1)) left
+            (w.0 t news (listed-length _ _) node) f (limit-is t)
+
+        -- the search goes on
+        module _ (x : Next) (f : FollowsTurn y.go y.effect p.new_count (Some x)) (pool : length b.pool ≡ length a.pool) (first : length b.begins ≡ length a.begins) (last : length b.ends ≡ length a.ends) (trains : length nt₁ ≡ length nt) (nodes : length nn₁ ≡ length nn) where
+          lent : Lent r.est_count b
+          lent = record { est = v.lent.est; trains = pool ∙ v.lent.trains; first = omega (arith, first, v.lent.first); last = omega (arith, last, v.lent.last) }
+
+          on_by : (fresh₁ : List ℕ) → listed x.count (node_at fresh₁) ≡ take x.count (news ++ (x.node ∷ [])) → (t : Train) (z : SearchBegins (length occ) (round_of t occ img dt dn r) (search_at r start [] a₀ nt₀ nn₀))
+              → Going z.top (length occ) (round_of t occ img dt dn r) limit (search_at r start [] a₀ nt₀ nn₀) (limit - (turns + 1)) (turns + 1) (search_at r (counted y.place x.count) (listed x.count (node_at fresh₁)) b nt₁ nn₁)
+          on_by fresh₁ q t z =
+              turn_on occ img dt dn r t _ z limit (limit - turns) turns p fresh nt nn a (v.going t z) nt₁ nn₁ b y.go y.effect (here_of y.here) y.place (limit - (turns + 1)) left
+              (w.0 t news (listed-length _ _) node) x f fresh₁ q
+
+          -- with a node more
+          pub turning_pushed : x.count ≡ p.new_count + 1 → (fresh₁ : List ℕ) → fresh₁ ≡ put_node x.node (node_place (est_count fresh) p.new_count) fresh → (at : ℕ) → at ≡ slot_of p.new_count
+              → Turning img occ dt dn r start fresh₀ a₀ nt₀ nn₀ (turns + 1) (counted y.place x.count) x.node (set firsts at x.node) fresh₁ b nt₁ nn₁
+          turning_pushed q fresh₁ e at o =
+              let s : Sound x.node = turn_sound occ img dt dn r g.train _ g.begins limit (limit - turns) turns p fresh nt nn a (v.going g.train g.begins) nt₁ nn₁ b y.go y.effect (here_of y.here) y.place (limit - (turns + 1)) left
+              (w.0 g.train news (listed-length _ _) node) x f q in
+              record {
+                kept = kept_then _ fresh fresh₀ (pushed_kept fresh fresh₁ p.new_count x.node e) v.kept;
+                lent = lent;
+                begins = first ∙ v.begins;
+                ends = last ∙ v.ends;
+                new_trains = trains ∙ v.new_trains;
+                new_nodes = nodes ∙ v.new_nodes;
+                pooled = w.1.pool;
+                current = pushed_current fresh fresh₁ p.new_count x.node e room s x.count q img y.place.idx_split;
+                slots = length-set firsts at x.node ∙ v.slots;
+                same = rw o (array_pushed fresh fresh₁ p.new_count x.node e room s x.count q firsts blank v.slots v.same);
+                going = on_by fresh₁ (pushed fresh fresh₁ p.new_count x.node e room s x.count q);
+              }
+
+          -- with none more
+          module _ (k : x.count ≡ p.new_count + 1 → ⊥) where
+            fewer : x.count ≤ p.new_count
+            fewer = not_more _ _ f.few k
+
+            next_split : (1 ≤ y.place.idx_split) × (y.place.idx_split ≤ r.path_count) × (y.place.idx_split + x.count ≤ 512) × (y.place.idx_split + x.count ≤ r.est_count)
+            next_split = top_split occ img dt dn r g.train _ g.begins _ (limit - (turns + 1)) (turns + 1) (counted y.place x.count) fresh nt₁ nn₁ b (on_by fresh (not_pushed _ _ _ _ fewer) g.train g.begins)
+
+            pub next_few : (y.place.idx_split ≤ 512) × (x.count ≤ 512)
+            next_few = (omega (arith, next_split.2), omega (arith, next_split.2))
+
+            pub turning_same : (at : ℕ) → at ≡ slot_of (x.count - 1) → (curr₁ : DispNode)
+                → curr₁ ≡ cond (eqb x.count 0) (whole_node img (y.place.idx_split - 1)) (cond (ltb 63 x.count) (whole_node fresh (x.count - 1)) (get_or firsts at blank))
+                → Turning img occ dt dn r start fresh₀ a₀ nt₀ nn₀ (turns + 1) (counted y.place x.count) curr₁ firsts fresh b nt₁ nn₁
+            turning_same at o curr₁ e =
+                let less = fewer in
+                record {
+                  kept = v.kept;
+                  lent = lent;
+                  begins = first ∙ v.begins;
+                  ends = last ∙ v.ends;
+                  new_trains = trains ∙ v.new_trains;
+                  new_nodes = nodes ∙ v.new_nodes;
+                  pooled = w.1.pool;
+                  current = e ∙ current-in img fresh _ x.count _ (whole-node img _ (omega (arith, next_split.0, next_split.1, g.nodes))) (λ h. whole-node fresh _ (omega (arith, h, fewer, room)))
+                      (λ h j. rw (o, slot_in (x.count - 1) (omega (arith, h, j))) (v.same (x.count - 1) (omega (arith, fewer, h)) (omega (arith, h, j))));
+                  slots = v.slots;
+                  same = λ i h j. v.same i (omega (arith, h, fewer)) j;
+                  going = on_by fresh (not_pushed _ _ _ _ fewer);
+                }

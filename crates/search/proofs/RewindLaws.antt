@@ -7,22 +7,20 @@ use native.Mathlib.Omega.{arith}
 use lib.Dec.{ltb, eqb}
 use lib.Ieee.{lt}
 use lib.ListN.{length, get_or, take, drop, set}
-use borrow.Author.Tests.{eq-eqb, ne_eqb, lt-ltb, le-ltb, le-leb, lt-leb}
-use Rattle.disp_structs.specs.Values.{is_fake, same_event}
+use borrow.Author.Tests.{ne_eqb, lt-ltb, le-ltb}
+use Rattle.disp_structs.specs.Values.{same_event}
 use Rattle.disp_structs.specs.declared.EstTime.{EstTime}
 use Rattle.disp_structs.specs.declared.DispNode.{DispNode}
 use Rattle.disp_structs.specs.declared.DivergeNode.{DivergeNode}
 use Rattle.disp_structs.specs.declared.LinkEvent.{LinkEvent}
 use Rattle.disp_structs.specs.declared.TrainIdxsView.{TrainIdxsView}
-use Rattle.link_rules.specs.LinkIdx.{no_train}
 use Rattle.link_rules.specs.declared.link_idx.TrainIdx.{TrainIdx}
 use Rattle.free_path.specs.Base.{Res, ok, no, ◌>>=◌, ◌>>◌, need, at, walk_back, popped, is_empty}
-use Rattle.free_path.specs.Columns.{answer, tr, trains, div_at}
+use Rattle.free_path.specs.Columns.{tr, trains, div_at}
 use Rattle.disp_structs.specs.Listed.{listed}
 use Rattle.free_path.specs.TrainIdxsView.{Pooled, concat_train_idx_views}
 use Rattle.free_path.proofs.ColumnLaws.{listed_read, listed_out}
 use Rattle.disp_structs.proofs.ListedLaws.{listed-length, listed-take}
-use Rattle.free_path.proofs.CountLaws.{answer-no}
 use Rattle.update_definition.specs.State as State
 use Rattle.update_definition.specs.State.{view_of}
 use Rattle.update_definition.specs.Look as Look
@@ -55,48 +53,33 @@ module _ {A : Type 0} (p : A → Bool) (n : ℕ) (f : ℕ → A) (k : ℕ) where
 
 -- ---- the save node
 
-module _ (path : List DispNode) (fixed : ℕ) (event : LinkEvent) (save c k : ℕ) (q : answer c k ≡ walk_back not_fake path save) where
-  pub shift_stop : (c ≡ 0 → ⊥) → answer c k ≡ shift_save path fixed event save
+module _ (path : List DispNode) (fixed : ℕ) (event : LinkEvent) (save : ℕ) where
+  pub shift_stop : (c : ℕ) → no c ≡ walk_back not_fake path save → no c ≡ shift_save path fixed event save
   unfolding shift_save
-  shift_stop z = rw (← q, answer-no c k z)
+  shift_stop c q = rw (← q)
 
-  module _ (z : c ≡ 0) where
+  module _ (k : ℕ) (q : ok k ≡ walk_back not_fake path save) where
     pub shift_high : fixed ≤ k → no 13 ≡ shift_save path fixed event save
     unfolding shift_save
-    shift_high h = rw (← q, z, le-ltb k fixed h)
+    shift_high h = rw (← q, le-ltb k fixed h)
 
     module _ (o : k < fixed) where
       pub shift_out : at path k ≡ no 13 → no 13 ≡ shift_save path fixed event save
       unfolding shift_save
-      shift_out h = rw (← q, z, lt-ltb k fixed o, h)
+      shift_out h = rw (← q, lt-ltb k fixed o, h)
 
       module _ (n : DispNode) (o₂ : at path k ≡ ok n) where
         pub shift_other : same_event event n.link_event ≡ false → no 13 ≡ shift_save path fixed event save
         unfolding shift_save
-        shift_other h = rw (← q, z, lt-ltb k fixed o, o₂, h)
+        shift_other h = rw (← q, lt-ltb k fixed o, o₂, h)
 
-        pub shift_good : same_event event n.link_event ≡ true → answer c k ≡ shift_save path fixed event save
+        pub shift_good : same_event event n.link_event ≡ true → ok k ≡ shift_save path fixed event save
         unfolding shift_save
-        shift_good h = rw (← q, z, lt-ltb k fixed o, o₂, h)
-
-module _ (r : State.Round) (h : Look.Here) (s : State.Search) where
-  pub save_late : s.disp_node_idx_free < h.idx_join_new → ok s.idx_save ≡ rewind_save r h s
-  save_late e = rw (lt-leb h.idx_join_new s.disp_node_idx_free e)
-
-  module _ (o : h.idx_join_new ≤ s.disp_node_idx_free) where
-    pub save_fake : is_fake h.disp_node_curr.link_event.est_type ≡ true → ok s.idx_save ≡ rewind_save r h s
-    save_fake e = rw (le-leb h.idx_join_new s.disp_node_idx_free o, e)
-
-    pub save_shift : is_fake h.disp_node_curr.link_event.est_type ≡ false
-        → shift_save r.train.disp_path r.train.disp_node_idx_fixed h.disp_node_curr.link_event s.idx_save ≡ rewind_save r h s
-    save_shift e = rw (le-leb h.idx_join_new s.disp_node_idx_free o, e)
+        shift_good h = rw (← q, lt-ltb k fixed o, o₂, h)
 
 -- ---- the view of the current est
 
 module _ (e : EstTime) (views : List TrainIdxsView) (pool : List TrainIdx) where
-  pub view-one : e.idx_next_alt.0 ≡ 0 → ok (record { pool = pool; made = view_of views e.idx_next }) ≡ rewind_view e views pool
-  view-one h = rw (eq-eqb e.idx_next_alt.0 0 h)
-
   pub view_both : (e.idx_next_alt.0 ≡ 0 → ⊥) → concat_train_idx_views pool (view_of views e.idx_next) (view_of views e.idx_next_alt) ≡ rewind_view e views pool
   view_both h = rw (ne_eqb e.idx_next_alt.0 0 h)
 
@@ -114,17 +97,20 @@ module _ (nt nn : List ℕ) (count join : ℕ) where
   pub divs-none : no 13 ≡ walk_back (off join) (divs_of count nt nn) count → no 13 ≡ rewind_divs join (divs_of count nt nn)
   divs-none h = sym (open_up ∙ rw (← h))
 
-  pub divs-left : (k : ℕ) → 0 < k → k ≤ count → (d : ℕ) → d ≡ get_or nn (k - 1) 0 → (d ≡ join → ⊥)
+  divs-left : (k : ℕ) → 0 < k → k ≤ count → (d : ℕ) → d ≡ get_or nn (k - 1) 0 → (d ≡ join → ⊥)
       → walk_back (off join) (divs_of count nt nn) k ≡ walk_back (off join) (divs_of count nt nn) count
-      → answer (cond (ltb d join) 0 13) (divs_of k nt nn) ≡ rewind_divs join (divs_of count nt nn)
+      → (need (ltb d join) >> ok (divs_of k nt nn)) ≡ rewind_divs join (divs_of count nt nn)
   divs-left k o m d q h w =
       let e : k - 1 + 1 ≡ k = omega arith in
       let v : walk_back (off join) (divs_of count nt nn) count ≡ ok (k - 1) = sym w ∙ sym (back_hit (off join) count (div_at nt nn) k o m (ap not (ne_eqb (get_or nn (k - 1) 0) join (λ g. h (q ∙ g))))) in
-      sym (open_up ∙ rw (v, listed_read count (div_at nt nn) (k - 1) (omega arith), e, listed-take k count (div_at nt nn) m, ← q) (go (ltb d join)))
-    where
-      go : (b : Bool) → (need b >> ok (divs_of k nt nn)) ≡ answer (cond b 0 13) (divs_of k nt nn)
-      go true = refl
-      go false = refl
+      sym (open_up ∙ rw (v, listed_read count (div_at nt nn) (k - 1) (omega arith), e, listed-take k count (div_at nt nn) m, ← q))
+
+  module _ (k : ℕ) (o : 0 < k) (m : k ≤ count) (d : ℕ) (q : d ≡ get_or nn (k - 1) 0) (w : walk_back (off join) (divs_of count nt nn) k ≡ walk_back (off join) (divs_of count nt nn) count) where
+    pub divs-below : d < join → ok (divs_of k nt nn) ≡ rewind_divs join (divs_of count nt nn)
+    divs-below h = sym (ap (λ (b : Bool). need b >> ok (divs_of k nt nn)) (lt-ltb d join h)) ∙ divs-left k o m d q (λ z. omega arith) w
+
+    pub divs-above : join < d → no 13 ≡ rewind_divs join (divs_of count nt nn)
+    divs-above h = sym (ap (λ (b : Bool). need b >> ok (divs_of k nt nn)) (le-ltb d join (omega arith))) ∙ divs-left k o m d q (λ z. omega arith) w
 
 -- ---- the first train of a view
 
@@ -137,34 +123,14 @@ first-at (x ∷ xs) zero i l = absurd (omega arith)
 first-at (x ∷ xs) (suc n) zero l = refl
 first-at (x ∷ xs) (suc n) (suc i) l = first-at xs n i (omega arith)
 
-past : (xs : List ℕ) (n i : ℕ) → n ≤ i → drop i (take n (trains xs)) ≡ []
-past xs zero zero l = refl
-past xs zero (suc i) l = refl
-past xs (suc n) zero l = absurd (omega arith)
-past [] (suc n) (suc i) l = refl
-past (x ∷ xs) (suc n) (suc i) l = past xs n i (omega arith)
-
 first-take : (k : ℕ) (ts : List TrainIdx) → (k ≡ 0 → ⊥) → first_train (take k ts) ≡ first_train ts
 first-take zero ts z = absurd (z refl)
 first-take (suc k) [] z = refl
 first-take (suc k) (t ∷ ts) z = refl
 
-take_none : (k : ℕ) → take {A = TrainIdx} k [] ≡ []
-take_none zero = refl
-take_none (suc k) = refl
-
 module _ (xs : List ℕ) (n : ℕ) (v : TrainIdxsView) where
   abbrev held : TrainIdx
   held = holder_of (record { pool = take n (trains xs); made = v })
-
-  pub held_empty : v.idx_end ≤ v.idx_begin → no_train ≡ held
-  held_empty l =
-      let z : v.idx_end - v.idx_begin ≡ 0 = omega arith in
-      sym (ap (λ (k : ℕ). first_train (take k (drop v.idx_begin (take n (trains xs))))) z)
-
-  pub held_past : n ≤ v.idx_begin → no_train ≡ held
-  held_past l =
-      sym (ap (λ (ts : List TrainIdx). first_train (take (v.idx_end - v.idx_begin) ts)) (past xs n v.idx_begin l) ∙ ap first_train (take_none (v.idx_end - v.idx_begin)))
 
   pub held_first : v.idx_begin < v.idx_end → v.idx_begin < n → tr (get_or xs v.idx_begin 0) ≡ held
   held_first l m =
@@ -173,17 +139,6 @@ module _ (xs : List ℕ) (n : ℕ) (v : TrainIdxsView) where
 -- ---- one dispatch node back
 
 module _ (r : State.Round) (h : Look.Here) (b : TrainIdx) (s : State.Search) where
-  module _ (c : ℕ) (l : length s.div_nodes_new ≡ c) where
-    pub stop_divs : (c ≡ 1 → ⊥) → no 13 ≡ give_up r h b s
-    stop_divs e = rw (l, ne_eqb c 1 e)
-
-    module _ (o : c ≡ 1) where
-      pub stop_join : (h.idx_join_new ≡ s.idx_split → ⊥) → no 13 ≡ give_up r h b s
-      stop_join e = rw (l, eq-eqb c 1 o, ne_eqb h.idx_join_new s.idx_split e)
-
-      pub stop_good : h.idx_join_new ≡ s.idx_split → ok (State.ends (State.blocked_at (State.with_free r.train r.train.disp_node_idx_fixed) b)) ≡ give_up r h b s
-      stop_good e = rw (l, eq-eqb c 1 o, eq-eqb h.idx_join_new s.idx_split e)
-
   some : (xs : List DispNode) → (length xs ≡ 0 → ⊥) → is_empty xs ≡ false
   some [] e = absurd (e refl)
   some (x ∷ xs) e = refl
@@ -216,22 +171,22 @@ module _ (r : State.Round) (h : Look.Here) (b : TrainIdx) (s : State.Search) whe
 
 -- ---- the whole
 
-module _ (r : State.Round) (h : Look.Here) (s : State.Search) (c save : ℕ) (q : answer c save ≡ rewind_save r h s) where
-  pub rewind-save : (c ≡ 0 → ⊥) → no c ≡ Moves.rewind r h s
+module _ (r : State.Round) (h : Look.Here) (s : State.Search) where
+  pub rewind-save : (c : ℕ) → no c ≡ rewind_save r h s → no c ≡ Moves.rewind r h s
   unfolding Moves.rewind
-  rewind-save z = rw (← q, answer-no c save z)
+  rewind-save c q = rw (← q)
 
-  module _ (z : c ≡ 0) (d : ℕ) (u : Pooled) (w : answer d u ≡ rewind_view h.est_curr s.views s.train_idxs_blocking) where
-    pub rewind-pool : (d ≡ 0 → ⊥) → no d ≡ Moves.rewind r h s
+  module _ (save : ℕ) (q : ok save ≡ rewind_save r h s) where
+    pub rewind-pool : (c : ℕ) → no c ≡ rewind_view h.est_curr s.views s.train_idxs_blocking → no c ≡ Moves.rewind r h s
     unfolding Moves.rewind
-    rewind-pool y = rw (← q, z, ← w, answer-no d u y)
+    rewind-pool c w = rw (← q, ← w)
 
-    module _ (y : d ≡ 0) (e : ℕ) (divs : List DivergeNode) (v : answer e divs ≡ rewind_divs h.idx_join_new s.div_nodes_new) where
-      pub rewind-divs : (e ≡ 0 → ⊥) → no e ≡ Moves.rewind r h s
+    module _ (u : Pooled) (w : ok u ≡ rewind_view h.est_curr s.views s.train_idxs_blocking) where
+      pub rewind-divs : (c : ℕ) → no c ≡ rewind_divs h.idx_join_new s.div_nodes_new → no c ≡ Moves.rewind r h s
       unfolding Moves.rewind
-      rewind-divs x = rw (← q, z, ← w, y, ← v, answer-no e divs x)
+      rewind-divs c v = rw (← q, ← w, ← v)
 
-      pub rewind_go : e ≡ 0 → (b : TrainIdx) → b ≡ holder_of u → (views : List TrainIdxsView) → views ≡ set s.views h.disp_node_curr.est_idx.0 u.made
+      pub rewind_go : (divs : List DivergeNode) → ok divs ≡ rewind_divs h.idx_join_new s.div_nodes_new → (b : TrainIdx) → b ≡ holder_of u → (views : List TrainIdxsView) → views ≡ set s.views h.disp_node_curr.est_idx.0 u.made
           → one_back r h b (record { idx_split = s.idx_split; div_idx_split = s.div_idx_split; idx_save = save; disp_node_idx_free = s.disp_node_idx_free; disp_path_new = s.disp_path_new; div_nodes_new = divs; train_idxs_blocking = u.pool; views = views }) ≡ Moves.rewind r h s
       unfolding Moves.rewind
-      rewind_go x b k views g = rw (← q, z, ← w, y, ← v, x, g, k)
+      rewind_go divs v b k views g = rw (← q, ← w, ← v, g, k)

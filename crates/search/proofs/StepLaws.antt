@@ -60,7 +60,7 @@ module _ (f : State.Search → ℕ) where
       then-last (room (leb (length (take s.div_idx_split r.train.div_nodes ++ State.diverging s.idx_split ts ++ drop k r.train.div_nodes)) r.train.diverge_room)) _ refl)))))
 
   effect_last : (r : State.Round) (s : State.Search) (e : Effect) → onward e ≡ false → Last (effect_of r s e)
-  effect_last r s (Refused c) q = refl
+  effect_last r s (Refused e) q = refl
   effect_last r s (Push n) q = clash true refl q
   effect_last r s Pop q = clash true refl q
   effect_last r s Stay q = clash true refl q

@@ -1,26 +1,31 @@
 -- The trains stored in the diverge nodes over the readings, test by test as the code has them. Assumes nothing.
-use mathlib.Core.Path.{◌≡◌, refl, sym, ap, ◌∙◌}
+use mathlib.Core.Path.{◌≡◌, refl, sym, ap, subst, ◌∙◌}
 use mathlib.Core.Bool.{Bool, true, false, cond, ◌||◌}
 use mathlib.Core.List.{List}
 use Prim.Native.Nat.{ℕ, suc, ◌+◌, ◌-◌, ◌≤◌, ◌<◌}
 use native.Mathlib.Omega.{arith}
-use lib.Dec.{ltb, eqb}
+use lib.Dec.{eqb}
 use lib.ListN.{get_or}
-use borrow.Author.Tests.{eq-eqb, ne_eqb, lt-ltb, le-ltb, le-leb}
+use borrow.Author.Tests.{eq-eqb, ne_eqb, le-leb}
 use Rattle.link_rules.specs.LinkIdx.{same_train}
 use Rattle.link_rules.specs.declared.link_idx.TrainIdx.{TrainIdx}
 use Rattle.disp_structs.specs.declared.DivergeNode.{DivergeNode}
-use Rattle.free_path.specs.Base.{Res, ok, no, ◌>>=◌, ◌>>◌, need, at, before, slice}
-use Rattle.free_path.specs.Columns.{answer, div_at, tr}
+use Rattle.free_path.specs.Base.{Res, ok, no, ◌>>=◌, at, before, slice}
+use Rattle.free_path.specs.Columns.{div_at, tr}
+use Rattle.free_path.specs.Halts.{number_of, answered_by}
+use Rattle.free_path.specs.declared.halt.Halt.{Halt}
+use Rattle.std.proofs.Common.{Result, Err, IfOk}
+use Rattle.std.proofs.lemmas.Result.{IfOk-weaker}
+use Rattle.disp_structs.specs.declared.DispNode.{DispNode}
+use Rattle.search.specs.declared.Place.{Place}
 use Rattle.disp_structs.specs.Listed.{listed}
 use Rattle.free_path.proofs.ColumnLaws.{listed_read, listed_out}
 use Rattle.disp_structs.proofs.ListedLaws.{listed-length, listed-map}
-use Rattle.free_path.proofs.CountLaws.{answer-no, bind_stop, bind_go}
 use Rattle.update_definition.specs.State as State
 use Rattle.free_path.specs.Validate.{on_path}
 use Rattle.update_definition.specs.Look as Def
 use Rattle.update_definition.specs.Look.{stored_from}
-use Rattle.search.specs.Read.{divs_of, trains_from, node_before, settle, settled}
+use Rattle.search.specs.Read.{divs_of, trains_from, node_before, settle, Small, Arrays, search_in, place_with, Steps}
 use Rattle.search.proofs.ListedLaws.{listed-part}
 
 -- ---- the walk
@@ -29,14 +34,6 @@ use Rattle.search.proofs.ListedLaws.{listed-part}
 abbrev pub with_met : Bool → Res Def.Stored → Res Def.Stored
 with_met met (no n) = no n
 with_met met (ok x) = ok (record { div_idx_split = x.div_idx_split; met = x.met || met })
-
-pub met-none : (r : Res Def.Stored) → with_met false r ≡ r
-met-none (no n) = refl
-met-none (ok x) = ap (λ (b : Bool). ok (record { div_idx_split = x.div_idx_split; met = b })) (or-false x.met)
-  where
-    or-false : (b : Bool) → (b || false) ≡ b
-    or-false true = refl
-    or-false false = refl
 
 module _ (m : ℕ) (t n : List ℕ) (join : ℕ) (moved : TrainIdx) (k : ℕ) (met : Bool) where
   pub walk_end : k ≡ 0 → no 13 ≡ with_met met (stored_from (divs_of m t n) join moved k)
@@ -93,10 +90,10 @@ module _ (m : ℕ) (t n : List ℕ) (i : ℕ) where
     before_in h x q = rw (lower, listed_read m (div_at t n) (i - 1) (omega arith), q)
 
 -- what reads the diverge node only by its number
-pub by_node : {B : Type 0} (divs : List DivergeNode) (i c x : ℕ) → answer c x ≡ node_before divs i → (f : ℕ → Res B) → (before divs i >>= λ d. f d.disp_node_idx) ≡ (answer c x >>= f)
-by_node {B} divs i c x q f = go (before divs i) q
+pub by_node : {B : Type 0} (divs : List DivergeNode) (i : ℕ) (x : Res ℕ) → x ≡ node_before divs i → (f : ℕ → Res B) → (before divs i >>= λ d. f d.disp_node_idx) ≡ (x >>= f)
+by_node {B} divs i x q f = go (before divs i) q
   where
-    go : (r : Res DivergeNode) → answer c x ≡ (r >>= λ d. ok d.disp_node_idx) → (r >>= λ d. f d.disp_node_idx) ≡ (answer c x >>= f)
+    go : (r : Res DivergeNode) → x ≡ (r >>= λ d. ok d.disp_node_idx) → (r >>= λ d. f d.disp_node_idx) ≡ (x >>= f)
     go (ok d) e = sym (ap (λ (y : Res ℕ). y >>= f) e)
     go (no k) e = sym (ap (λ (y : Res ℕ). y >>= f) e)
 
@@ -144,55 +141,50 @@ module _ (r : State.Round) (h : Def.Here) (s : State.Search) where
         unfolding Def.take_stored
         through = rw (ne_eqb h.est_curr.idx_next_alt.0 0 o, o₂, o₃)
 
-        pub take_out : no 13 ≡ Walk → no 13 ≡ Def.take_stored r h s
-        take_out e = sym (through ∙ ap (λ (x : Res Def.Stored). x >>= Next) (sym e))
+        pub take_stop : (n : ℕ) → no n ≡ Walk → no n ≡ Def.take_stored r h s
+        take_stop n e = sym (through ∙ ap (λ (x : Res Def.Stored). x >>= Next) (sym e))
 
-        module _ (c : ℕ) (x : Def.Stored) (q : answer c x ≡ Walk) where
-          pub take_stop : (c ≡ 0 → ⊥) → (b : State.Search) → answer c b ≡ Def.take_stored r h s
-          take_stop z b = bind_stop c x Next q z b ∙ sym through
+        module _ (x : Def.Stored) (q : ok x ≡ Walk) where
+          found : Next x ≡ Def.take_stored r h s
+          found = ap (λ (y : Res Def.Stored). y >>= Next) q ∙ sym through
 
-          pub take-met : c ≡ 0 → x.met ≡ true → ok (State.set_div_split s x.div_idx_split) ≡ Def.take_stored r h s
-          take-met z e = sym (ap (λ (b : Bool). cond b (ok (State.set_div_split s x.div_idx_split)) (Def.block_stored r h s x)) e) ∙ bind_go c x Next q z ∙ sym through
+          pub take-met : x.met ≡ true → ok (State.set_div_split s x.div_idx_split) ≡ Def.take_stored r h s
+          take-met e = sym (ap (λ (b : Bool). cond b (ok (State.set_div_split s x.div_idx_split)) (Def.block_stored r h s x)) e) ∙ found
 
-          pub take_block : c ≡ 0 → x.met ≡ false → Def.block_stored r h s x ≡ Def.take_stored r h s
-          take_block z e = sym (ap (λ (b : Bool). cond b (ok (State.set_div_split s x.div_idx_split)) (Def.block_stored r h s x)) e) ∙ bind_go c x Next q z ∙ sym through
+          pub take_block : x.met ≡ false → Def.block_stored r h s x ≡ Def.take_stored r h s
+          take_block e = sym (ap (λ (b : Bool). cond b (ok (State.set_div_split s x.div_idx_split)) (Def.block_stored r h s x)) e) ∙ found
 
   -- stored_trains
-  module _ (c x : ℕ) (q : answer c x ≡ node_before r.train.div_nodes s.div_idx_split) where
-    abbrev Then : ℕ → Res State.Search
-    Then k = cond (eqb k h.idx_join_new) (Def.take_stored r h s) (ok s) >>= λ t. settle r.train.div_nodes h.idx_join_new t
+  abbrev Then : ℕ → Res State.Search
+  Then k = cond (eqb k h.idx_join_new) (Def.take_stored r h s) (ok s) >>= λ t. settle r.train.div_nodes h.idx_join_new t
 
-    whole : Def.stored_trains r h s ≡ (answer c x >>= Then)
-    unfolding Def.stored_trains
-    whole = by_node r.train.div_nodes s.div_idx_split c x q Then
+  whole : (x : Res ℕ) → x ≡ node_before r.train.div_nodes s.div_idx_split → (x >>= Then) ≡ Def.stored_trains r h s
+  unfolding Def.stored_trains
+  whole x q = sym (by_node r.train.div_nodes s.div_idx_split x q Then)
 
-    pub trains_stop : (c ≡ 0 → ⊥) → (b : State.Search) → answer c b ≡ Def.stored_trains r h s
-    trains_stop z b = answer-no c b z ∙ sym (whole ∙ ap (λ (y : Res ℕ). y >>= Then) (answer-no c x z))
+  pub trains_stop : (n : ℕ) → no n ≡ node_before r.train.div_nodes s.div_idx_split → no n ≡ Def.stored_trains r h s
+  trains_stop n q = whole (no n) q
 
-    pub trains-apart : c ≡ 0 → (x ≡ h.idx_join_new → ⊥) → settle r.train.div_nodes h.idx_join_new s ≡ Def.stored_trains r h s
-    trains-apart z e = sym (whole ∙ rw (z, ne_eqb x h.idx_join_new e))
+  module _ (x : ℕ) (q : ok x ≡ node_before r.train.div_nodes s.div_idx_split) where
+    pub trains-apart : (x ≡ h.idx_join_new → ⊥) → settle r.train.div_nodes h.idx_join_new s ≡ Def.stored_trains r h s
+    trains-apart e = sym (sym (whole (ok x) q) ∙ rw (ne_eqb x h.idx_join_new e))
 
-    pub trains-at : c ≡ 0 → x ≡ h.idx_join_new → (Def.take_stored r h s >>= λ t. settle r.train.div_nodes h.idx_join_new t) ≡ Def.stored_trains r h s
-    trains-at z e = sym (whole ∙ rw (z, eq-eqb x h.idx_join_new e))
+    pub trains-at : x ≡ h.idx_join_new → (Def.take_stored r h s >>= λ t. settle r.train.div_nodes h.idx_join_new t) ≡ Def.stored_trains r h s
+    trains-at e = sym (sym (whole (ok x) q) ∙ rw (eq-eqb x h.idx_join_new e))
 
--- ---- settled
+-- ---- steps
 
-module _ (divs : List DivergeNode) (join c : ℕ) (s : State.Search) where
-  pub settled_stop : (c ≡ 0 → ⊥) → answer c s ≡ settled divs join c s
-  settled_stop z = rw (answer-no c s z)
+-- where the search stands at a place that is settled, or at none
+module _ (n : ℕ) (p : Place) (a : Arrays) (q : Place) (b : Arrays) (y : Result Place Halt) (f : State.Search → Res State.Search) where
+  pub steps_at : IfOk y (λ z. z ≡ q) → Small q → q ≡ place_with p q.div_idx_split q.pool_count
+      → ((new : List DispNode) (divs : List DivergeNode) → answered_by (λ z. search_in n z new divs b) y ≡ f (search_in n p new divs a)) → Steps n p a y b f
+  steps_at e s k h = record {
+    is = h;
+    small = IfOk-weaker y (λ z. z ≡ q) Small (λ z w. subst Small (sym w) s) e;
+    kept = IfOk-weaker y (λ z. z ≡ q) (λ z. z ≡ place_with p z.div_idx_split z.pool_count) (λ z w. subst (λ (x : Place). x ≡ place_with p x.div_idx_split x.pool_count) (sym w) k) e;
+  }
 
-  module _ (z : c ≡ 0) (k x : ℕ) (q : answer k x ≡ node_before divs s.div_idx_split) where
-    abbrev Below : ℕ → Res State.Search
-    Below y = need (ltb y join) >> ok s
-
-    open_up : settled divs join c s ≡ (answer k x >>= Below)
-    open_up = rw z (by_node divs s.div_idx_split k x q Below)
-
-    pub settled-no : (k ≡ 0 → ⊥) → answer k s ≡ settled divs join c s
-    settled-no e = answer-no k s e ∙ sym (open_up ∙ ap (λ (y : Res ℕ). y >>= Below) (answer-no k x e))
-
-    pub settled_late : k ≡ 0 → join ≤ x → no 13 ≡ settled divs join c s
-    settled_late e l = sym (open_up ∙ rw (e, le-ltb x join l))
-
-    pub settled_well : k ≡ 0 → x < join → ok s ≡ settled divs join c s
-    settled_well e l = sym (open_up ∙ rw (e, lt-ltb x join l))
+-- a refused call refuses what calls it
+pub steps_stop : (n : ℕ) (p : Place) (a b : Arrays) (y : Result Place Halt) (f : State.Search → Res State.Search) (e : Halt) → y ≡ Err e
+    → ((new : List DispNode) (divs : List DivergeNode) → no (number_of e) ≡ f (search_in n p new divs a)) → Steps n p a y b f
+steps_stop n p a b y f e w h = subst (λ (x : Result Place Halt). Steps n p a x b f) (sym w) (record { is = h; small = tt; kept = tt })

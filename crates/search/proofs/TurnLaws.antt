@@ -9,9 +9,9 @@ use lib.ListN.{length}
 use Rattle.est_times.proofs.Counting.{clash}
 use Rattle.disp_structs.specs.Train.{Train}
 use Rattle.disp_structs.specs.declared.DispNode.{DispNode}
-use Rattle.free_path.specs.Base.{Res, ok}
-use Rattle.free_path.specs.Columns.{answer}
-use Rattle.free_path.proofs.CountLaws.{answer-no}
+use Rattle.free_path.specs.Base.{Res, ok, no}
+use Rattle.free_path.specs.Halts.{number_of}
+use Rattle.free_path.specs.declared.halt.Halt.{Halt}
 use Rattle.update_definition.specs.State as State
 use Rattle.update_definition.specs.Look as Look
 use Rattle.update_definition.specs.Look.{current, look_from, look_here, stored_trains, occupied_next, move_of}
@@ -77,9 +77,9 @@ module _ (p s q : Place) (a : s ≡ place_with p s.div_idx_split s.pool_count) (
 
 -- ---- the steps
 
-pub look-same : (r : State.Round) (s : State.Search) (n : DispNode) (k : ℕ) (c : ℕ) (h : Look.Here) → current r.train.disp_path s.disp_path_new s.idx_split ≡ ok n → length s.disp_path_new ≡ k
-    → answer c h ≡ look_from (ok n) (s.idx_split + k) r.train.est_times s.views r.train.div_nodes s.div_idx_split → answer c h ≡ look_here r s
-look-same r s n k c h e l q =
+pub look-same : (r : State.Round) (s : State.Search) (n : DispNode) (k : ℕ) (h : Res Look.Here) → current r.train.disp_path s.disp_path_new s.idx_split ≡ ok n → length s.disp_path_new ≡ k
+    → h ≡ look_from (ok n) (s.idx_split + k) r.train.est_times s.views r.train.div_nodes s.div_idx_split → h ≡ look_here r s
+look-same r s n k h e l q =
     q ∙ sym (ap₂ (λ (x : Res DispNode) (j : ℕ). look_from x (s.idx_split + j) r.train.est_times s.views r.train.div_nodes s.div_idx_split) e l)
 
 -- what a turn from s promises of its move, its effect and where it stands
@@ -106,35 +106,40 @@ turn-done BlockEmpty e r h u l = refl
 turn-done Advance e r h u l = refl
 turn-done Join e r h u l = clash true refl l
 
-module _ (r : State.Round) (s : State.Search) (c : ℕ) (h : Look.Here) (q : answer c h ≡ look_here r s) where
-  pub step_look : (c ≡ 0 → ⊥) → (a : State.Search) → Answers Advance (Refused c) r h a s
+module _ (r : State.Round) (s : State.Search) where
+  pub step_look : (c : ℕ) → no c ≡ look_here r s → no c ≡ search_step r s
   unfolding search_step
-  step_look z a = (rw (← q, answer-no c h z), λ l. clash false l refl)
+  step_look c q = rw (← q)
 
-  module _ (z : c ≡ 0) (d : ℕ) (t : State.Search) (w : answer d t ≡ stored_trains r h s) where
-    pub step_stored : (d ≡ 0 → ⊥) → (a : State.Search) → Answers Advance (Refused d) r h a s
+  module _ (h : Look.Here) (q : ok h ≡ look_here r s) where
+    pub step_stored : (c : ℕ) → no c ≡ stored_trains r h s → no c ≡ search_step r s
     unfolding search_step
-    step_stored y a = (rw (← q, z, ← w, answer-no d t y), λ l. clash false l refl)
+    step_stored c w = rw (← q, ← w)
 
-    module _ (y : d ≡ 0) (e : ℕ) (u : State.Search) (v : answer e u ≡ occupied_next r h t) where
-      pub step_occupied : (e ≡ 0 → ⊥) → (a : State.Search) → Answers Advance (Refused e) r h a s
+    module _ (t : State.Search) (w : ok t ≡ stored_trains r h s) where
+      pub step_occupied : (c : ℕ) → no c ≡ occupied_next r h t → no c ≡ search_step r s
       unfolding search_step
-      step_occupied x a = (rw (← q, z, ← w, y, ← v, answer-no e u x), λ l. clash false l refl)
+      step_occupied c v = rw (← q, ← w, ← v)
 
-      module _ (x : e ≡ 0) (f : ℕ) (m : Move) (k : answer f m ≡ move_of r h u) where
-        pub step_chosen : (f ≡ 0 → ⊥) → (a : State.Search) → Answers Advance (Refused f) r h a s
+      module _ (u : State.Search) (v : ok u ≡ occupied_next r h t) where
+        pub step_chosen : (c : ℕ) → no c ≡ move_of r h u → no c ≡ search_step r s
         unfolding search_step
-        step_chosen g a = (rw (← q, z, ← w, y, ← v, x, ← k, answer-no f m g), λ l. clash false l refl)
+        step_chosen c k = rw (← q, ← w, ← v, ← k)
 
-        step_go : f ≡ 0 → do_move m r h u ≡ search_step r s
-        unfolding search_step
-        step_go g = rw (← q, z, ← w, y, ← v, x, ← k, g)
+        module _ (m : Move) (k : ok m ≡ move_of r h u) where
+          pub step_go : do_move m r h u ≡ search_step r s
+          unfolding search_step
+          step_go = rw (← q, ← w, ← v, ← k)
 
-        looked : Looked r s h u
-        looked = record { between = t; here = rw (← q, z); stored = rw (← w, y); next = rw (← v, x) }
+          looked : Looked r s h u
+          looked = record { between = t; here = sym q; stored = sym w; next = sym v }
 
-        pub step_left : f ≡ 0 → leaves m ≡ true → (o : Effect) → Answers m o r h u s
-        step_left g l o = (turn-left m o r h u l ∙ step_go g, λ _. looked)
+          pub step_left : leaves m ≡ true → (o : Effect) → Answers m o r h u s
+          step_left l o = (turn-left m o r h u l ∙ step_go, λ _. looked)
 
-        pub step_done : f ≡ 0 → leaves m ≡ false → (o : Effect) (a : State.Search) → effect_of r a o ≡ do_move m r h u → Answers m o r h a s
-        step_done g l o a p = (turn-done m o r h a l ∙ p ∙ step_go g, λ j. clash (leaves m) j l)
+          pub step_done : leaves m ≡ false → (o : Effect) (a : State.Search) → effect_of r a o ≡ do_move m r h u → Answers m o r h a s
+          step_done l o a p = (turn-done m o r h a l ∙ p ∙ step_go, λ j. clash (leaves m) j l)
+
+-- a turn that is refused
+pub refused : (r : State.Round) (h : Look.Here) (s a : State.Search) (e : Halt) → no (number_of e) ≡ search_step r s → Answers Advance (Refused e) r h a s
+refused r h s a e q = (q, λ l. clash false l refl)

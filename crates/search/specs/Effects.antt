@@ -1,5 +1,5 @@
 -- What a move and a turn of the search answer, as update_definition's definitions have it, and the bounds that a move keeps. Assumes nothing.
-use Rattle.std.specs.Prelude.{ℕ, ◌+◌, ◌≤◌, ◌≡◌, Bool, true, false, cond, List, [], ◌∷◌, ◌++◌, length, take}
+use Rattle.std.specs.Prelude.{ℕ, ◌+◌, ◌≤◌, ◌≡◌, Bool, true, false, cond, List, [], ◌∷◌, ◌++◌, length, take, Result, Ok, Err, IfOk, MatchResult}
 use Rattle.link_rules.specs.declared.link_idx.TrainIdx.{TrainIdx}
 use Rattle.disp_structs.specs.Train.{Train}
 use Rattle.disp_structs.specs.declared.EstTime.{EstTime}
@@ -7,7 +7,9 @@ use Rattle.disp_structs.specs.declared.DispNode.{DispNode}
 use Rattle.disp_structs.specs.declared.DivergeNode.{DivergeNode}
 use Rattle.disp_structs.specs.declared.TrainIdxsView.{TrainIdxsView}
 use Rattle.free_path.specs.Base.{Res, ok, no, ◌>>=◌, popped}
-use Rattle.free_path.specs.Columns.{answer, trains}
+use Rattle.free_path.specs.Columns.{trains, pooled}
+use Rattle.free_path.specs.Halts.{number_of, answered, answered_by}
+use Rattle.free_path.specs.declared.halt.Halt.{Halt}
 use Rattle.free_path.specs.declared.train_idxs_view.Union.{Union}
 use Rattle.update_definition.specs.State as State
 use Rattle.update_definition.specs.Look as Look
@@ -20,7 +22,6 @@ use Rattle.search.specs.Read.{divs_of, views_of, round_of, search_of, search_in,
 use Rattle.image.specs.Image.{path_of}
 use Rattle.search.specs.declared.Round.{Round}
 use Rattle.search.specs.declared.Place.{Place}
-use Rattle.search.specs.declared.Index.{Index}
 use Rattle.search.specs.declared.Moved.{Moved}
 use Rattle.search.specs.declared.look.Here.{Here}
 use Rattle.search.specs.declared.turn.Turned.{Turned}
@@ -31,15 +32,20 @@ use Rattle.search.specs.declared.Effect.TheVariants.{Refused, Push, Pop, Stay, G
 
 -- a refusal, what is done to the new path, or the end of the round
 abbrev pub effect_of : State.Round → State.Search → Effect → Res State.Turn
-effect_of r s (Refused c) = no c
+effect_of r s (Refused e) = no (number_of e)
 effect_of r s (Push n) = ok (State.go_on (State.set_new s (s.disp_path_new ++ (n ∷ []))))
 effect_of r s Pop = ok (State.go_on (State.set_new s (popped s.disp_path_new)))
 effect_of r s Stay = ok (State.go_on s)
 effect_of r s (GiveUp holder) = ok (State.ends (State.blocked_at (State.with_free r.train r.train.disp_node_idx_fixed) holder))
 
+-- what a move answers, the search standing at a place as `standing` says
+abbrev pub moved_of : State.Round → (Place → State.Search) → Result Moved Halt → Res State.Turn
+moved_of r standing (Ok x) = effect_of r (standing x.place) x.effect
+moved_of r standing (Err e) = no (number_of e)
+
 -- a turn that goes on: Push, Pop and Stay
 abbrev pub onward : Effect → Bool
-onward (Refused c) = false
+onward (Refused e) = false
 onward (Push n) = true
 onward Pop = true
 onward Stay = true
@@ -104,43 +110,47 @@ pub record Goes (r : Round) (p q : Place) : Type 0 where
   pub pool : q.pool_count ≤ 2048
   pub free : (b : ℕ) → p.disp_node_idx_free + 1 ≤ b → r.disp_node_idx_fixed + (p.idx_split + p.new_count) ≤ b → q.disp_node_idx_free ≤ b
 
+-- and the counts of the new diverge nodes and of the pool
+abbrev pub Keeps : (r : Round) (p : Place) (x : Moved) → Type 0
+Keeps r p x = Goes r p x.place × (x.place.div_count ≡ p.div_count) × (x.place.pool_count ≡ p.pool_count)
+
 -- ---- what the moves answer; what they bind, they do not read
 
 -- x is the move f, which leaves the lists of the search as they are
-abbrev pub MoveIs : (f : State.Round → Look.Here → State.Search → Res State.Turn) (r : State.Round) (h : Here) (p : Place) (x : Moved) → Type 0
+abbrev pub MoveIs : (f : State.Round → Look.Here → State.Search → Res State.Turn) (r : State.Round) (h : Here) (p : Place) (x : Result Moved Halt) → Type 0
 MoveIs f r h p x =
     (new : List DispNode) (divs : List DivergeNode) (pool : List TrainIdx) (views : List TrainIdxsView)
-    → effect_of r (search_of x.place new divs pool views) x.effect ≡ f r (here_of h) (search_of p new divs pool views)
+    → moved_of r (λ q. search_of q new divs pool views) x ≡ f r (here_of h) (search_of p new divs pool views)
 
 -- the same of lists that are as long as p counts
-abbrev pub CountedMoveIs : (f : State.Round → Look.Here → State.Search → Res State.Turn) (r : State.Round) (h : Here) (p : Place) (x : Moved) → Type 0
+abbrev pub CountedMoveIs : (f : State.Round → Look.Here → State.Search → Res State.Turn) (r : State.Round) (h : Here) (p : Place) (x : Result Moved Halt) → Type 0
 CountedMoveIs f r h p x =
     (new : List DispNode) (divs : List DivergeNode) (pool : List TrainIdx) (views : List TrainIdxsView) → length new ≡ p.new_count → length divs ≡ p.div_count
-    → effect_of r (search_of x.place new divs pool views) x.effect ≡ f r (here_of h) (search_of p new divs pool views)
+    → moved_of r (λ q. search_of q new divs pool views) x ≡ f r (here_of h) (search_of p new divs pool views)
 
--- beside its answer E a move keeps the bounds, and the counts of the new diverge nodes and of the pool
-abbrev pub Keeping : (r : Round) (p : Place) (x : Moved) (E : Type 0) → Type 0
-Keeping r p x E = E × Goes r p x.place × (x.place.div_count ≡ p.div_count) × (x.place.pool_count ≡ p.pool_count)
+-- beside its answer E a move that is not refused keeps the bounds, and the counts of the new diverge nodes and of the pool
+abbrev pub Keeping : (r : Round) (p : Place) (x : Result Moved Halt) (E : Type 0) → Type 0
+Keeping r p x E = E × IfOk x (Keeps r p)
 
 -- give_up, in any round
-abbrev pub GivesUp : (h : Here) (holder : TrainIdx) (p : Place) (x : Moved) → Type 0
+abbrev pub GivesUp : (h : Here) (holder : TrainIdx) (p : Place) (x : Result Moved Halt) → Type 0
 GivesUp h holder p x =
-    (x.place ≡ p)
+    IfOk x (λ m. m.place ≡ p)
     × ((t : Train) (occ img dt dn : List ℕ) (r : Round) (new : List DispNode) (divs : List DivergeNode) (pool : List TrainIdx) (views : List TrainIdxsView) → length divs ≡ p.div_count
-    → effect_of (round_of t occ img dt dn r) (search_of p new divs pool views) x.effect ≡ Moves.give_up (round_of t occ img dt dn r) (here_of h) holder (search_of p new divs pool views))
+    → moved_of (round_of t occ img dt dn r) (λ q. search_of q new divs pool views) x ≡ Moves.give_up (round_of t occ img dt dn r) (here_of h) holder (search_of p new divs pool views))
 
 -- idx_save after a rewind
-abbrev pub SavesAt : (img : List ℕ) (r : Round) (h : Here) (p : Place) (x : Index) → Type 0
+abbrev pub SavesAt : (img : List ℕ) (r : Round) (h : Here) (p : Place) (x : Result ℕ Halt) → Type 0
 SavesAt img r h p x =
     ((t : Train) (occ dt dn : List ℕ) (new : List DispNode) (divs : List DivergeNode) (pool : List TrainIdx) (views : List TrainIdxsView)
-    → answer x.code x.index ≡ rewind_save (round_of t occ img dt dn r) (here_of h) (search_of p new divs pool views))
-    × (x.index ≤ 512)
+    → answered x ≡ rewind_save (round_of t occ img dt dn r) (here_of h) (search_of p new divs pool views))
+    × IfOk x (λ k. k ≤ 512)
 
 -- rewind_view, over a pool that has len trains
-abbrev pub RewindsView : (est : EstTime) (views : List TrainIdxsView) (pool : List ℕ) (len : ℕ) (u : Union) (pool₁ : List ℕ) → Type 0
+abbrev pub RewindsView : (est : EstTime) (views : List TrainIdxsView) (pool : List ℕ) (len : ℕ) (u : Result Union Halt) (pool₁ : List ℕ) → Type 0
 RewindsView est views pool len u pool₁ =
-    (answer u.code (record { pool = take u.len (trains pool₁); made = u.view }) ≡ Moves.rewind_view est views (take len (trains pool)))
-    × (u.len ≤ 2048)
+    (answered_by (pooled pool₁) u ≡ Moves.rewind_view est views (take len (trains pool)))
+    × IfOk u (λ v. v.len ≤ 2048)
 
 -- the search at p with its new path, in arrays and in columns nt, nn of new diverge nodes
 abbrev pub search_at : (r : Round) (p : Place) (new : List DispNode) (a : Arrays) (nt nn : List ℕ) → State.Search
@@ -154,25 +164,25 @@ BlocksEmpty r h p begins ends x begins₁ ends₁ =
     ≡ ok (Moves.block_empty (round_of t occ img dt dn r) (here_of h) (search_of p new divs pool (views_of r.est_count begins ends)))
 
 -- Alternate, which changes new diverge nodes alone
-abbrev pub Alternates : (r : Round) (h : Here) (p : Place) (a : Arrays) (nt nn : List ℕ) (x : Moved) (nt₁ nn₁ : List ℕ) → Type 0
+abbrev pub Alternates : (r : Round) (h : Here) (p : Place) (a : Arrays) (nt nn : List ℕ) (x : Result Moved Halt) (nt₁ nn₁ : List ℕ) → Type 0
 Alternates r h p a nt nn x nt₁ nn₁ =
     ((t : Train) (occ img dt dn : List ℕ) (new : List DispNode)
-    → effect_of (round_of t occ img dt dn r) (search_at r x.place new a nt₁ nn₁) x.effect ≡ Moves.alternate (round_of t occ img dt dn r) (here_of h) (search_at r p new a nt nn))
-    × Goes r p x.place
+    → moved_of (round_of t occ img dt dn r) (λ q. search_at r q new a nt₁ nn₁) x ≡ Moves.alternate (round_of t occ img dt dn r) (here_of h) (search_at r p new a nt nn))
+    × IfOk x (λ m. Goes r p m.place)
 
 -- Rewind, which leaves the new diverge nodes as they are but for their count
-abbrev pub Rewinds : (img : List ℕ) (r : Round) (h : Here) (p : Place) (a : Arrays) (nn : List ℕ) (x : Moved) (b : Arrays) → Type 0
+abbrev pub Rewinds : (img : List ℕ) (r : Round) (h : Here) (p : Place) (a : Arrays) (nn : List ℕ) (x : Result Moved Halt) (b : Arrays) → Type 0
 Rewinds img r h p a nn x b =
     ((t : Train) (occ dt dn nt : List ℕ) (new : List DispNode) → length new ≡ p.new_count
-    → effect_of (round_of t occ img dt dn r) (search_at r x.place new b nt nn) x.effect ≡ Moves.rewind (round_of t occ img dt dn r) (here_of h) (search_at r p new a nt nn))
-    × Goes r p x.place
+    → moved_of (round_of t occ img dt dn r) (λ q. search_at r q new b nt nn) x ≡ Moves.rewind (round_of t occ img dt dn r) (here_of h) (search_at r p new a nt nn))
+    × IfOk x (λ m. Goes r p m.place)
 
 -- the move go, one that is not left to the caller
-abbrev pub DoesMove : (go : Move) (img : List ℕ) (r : Round) (h : Here) (p : Place) (a : Arrays) (nt nn : List ℕ) (x : Moved) (b : Arrays) (nt₁ nn₁ : List ℕ) → Type 0
+abbrev pub DoesMove : (go : Move) (img : List ℕ) (r : Round) (h : Here) (p : Place) (a : Arrays) (nt nn : List ℕ) (x : Result Moved Halt) (b : Arrays) (nt₁ nn₁ : List ℕ) → Type 0
 DoesMove go img r h p a nt nn x b nt₁ nn₁ =
     ((t : Train) (occ dt dn : List ℕ) (new : List DispNode) → length new ≡ p.new_count
-    → effect_of (round_of t occ img dt dn r) (search_at r x.place new b nt₁ nn₁) x.effect ≡ do_move go (round_of t occ img dt dn r) (here_of h) (search_at r p new a nt nn))
-    × Goes r p x.place
+    → moved_of (round_of t occ img dt dn r) (λ q. search_at r q new b nt₁ nn₁) x ≡ do_move go (round_of t occ img dt dn r) (here_of h) (search_at r p new a nt nn))
+    × IfOk x (λ m. Goes r p m.place)
 
 -- ---- what a turn may rely on, and what it answers
 
@@ -202,17 +212,20 @@ TurnFits img on r p a nt nn E =
 abbrev pub Turns : (r : State.Round) (s : State.Search) (h : Look.Here) (x : Turned) (u : State.Search) → Type 0
 Turns r s h x u = (turn_of x.go x.effect r h u ≡ search_step r s) × (leaves x.go ≡ true → Looked r s h u)
 
+-- the same of a turn that may be refused: then searchStep is refused by that number
+abbrev pub TurnsOr : (r : State.Round) (s : State.Search) (standing : Place → State.Search) (x : Result Turned Halt) → Type 0
+TurnsOr r s standing x = MatchResult x (λ y. Turns r s (here_of y.here) y (standing y.place)) (λ e. no (number_of e) ≡ search_step r s)
+
 -- a turn that stands at h, from there on
-abbrev pub TurnFrom : (occ img dt dn : List ℕ) (r : Round) (h : Here) (p : Place) (a : Arrays) (nt nn : List ℕ) (x : Turned) (b : Arrays) (nt₁ nn₁ : List ℕ) → Type 0
+abbrev pub TurnFrom : (occ img dt dn : List ℕ) (r : Round) (h : Here) (p : Place) (a : Arrays) (nt nn : List ℕ) (x : Result Turned Halt) (b : Arrays) (nt₁ nn₁ : List ℕ) → Type 0
 TurnFrom occ img dt dn r h p a nt nn x b nt₁ nn₁ =
     ((t : Train) (new : List DispNode) → length new ≡ p.new_count → Look.look_here (round_of t occ img dt dn r) (search_at r p new a nt nn) ≡ ok (here_of h)
-    → Turns (round_of t occ img dt dn r) (search_at r p new a nt nn) (here_of h) x (search_at r x.place new b nt₁ nn₁))
-    × Goes r p x.place
-    × (x.here ≡ h)
+    → TurnsOr (round_of t occ img dt dn r) (search_at r p new a nt nn) (λ q. search_at r q new b nt₁ nn₁) x)
+    × IfOk x (λ y. Goes r p y.place × (y.here ≡ h))
 
 -- a turn with the current node curr
-abbrev pub TurnAt : (occ img dt dn : List ℕ) (r : Round) (p : Place) (curr : DispNode) (a : Arrays) (nt nn : List ℕ) (x : Turned) (b : Arrays) (nt₁ nn₁ : List ℕ) → Type 0
+abbrev pub TurnAt : (occ img dt dn : List ℕ) (r : Round) (p : Place) (curr : DispNode) (a : Arrays) (nt nn : List ℕ) (x : Result Turned Halt) (b : Arrays) (nt₁ nn₁ : List ℕ) → Type 0
 TurnAt occ img dt dn r p curr a nt nn x b nt₁ nn₁ =
     ((t : Train) (new : List DispNode) → length new ≡ p.new_count → Look.current (path_of img r.path_count) new p.idx_split ≡ ok curr
-    → Turns (round_of t occ img dt dn r) (search_at r p new a nt nn) (here_of x.here) x (search_at r x.place new b nt₁ nn₁))
-    × Goes r p x.place
+    → TurnsOr (round_of t occ img dt dn r) (search_at r p new a nt nn) (λ q. search_at r q new b nt₁ nn₁) x)
+    × IfOk x (λ y. Goes r p y.place)

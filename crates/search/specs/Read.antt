@@ -1,5 +1,5 @@
 -- What the numbers and arrays of the search stand for: the lists, the round, the place and the answers of update_definition's definitions. Assumes nothing.
-use Rattle.std.specs.Prelude.{◌≡◌, ℕ, ◌+◌, ◌≤◌, ◌<◌, Bool, not, List, ltb, eqb, length, get_or, take}
+use Rattle.std.specs.Prelude.{◌≡◌, ℕ, ◌+◌, ◌≤◌, ◌<◌, Bool, not, List, ltb, eqb, length, get_or, take, Result, IfOk}
 use Rattle.link_rules.specs.declared.link_idx.TrainIdx.{TrainIdx}
 use Rattle.disp_structs.specs.Values.{view}
 use Rattle.disp_structs.specs.Train.{Train}
@@ -8,7 +8,9 @@ use Rattle.disp_structs.specs.declared.DispNode.{DispNode}
 use Rattle.disp_structs.specs.declared.DivergeNode.{DivergeNode}
 use Rattle.disp_structs.specs.declared.TrainIdxsView.{TrainIdxsView}
 use Rattle.free_path.specs.Base.{Res, ok, ◌>>=◌, ◌>>◌, need, at, before}
-use Rattle.free_path.specs.Columns.{answer, div_at, tr, trains}
+use Rattle.free_path.specs.Columns.{div_at, tr, trains}
+use Rattle.free_path.specs.Halts.{answered, answered_by}
+use Rattle.free_path.specs.declared.halt.Halt.{Halt}
 use Rattle.disp_structs.specs.Listed.{listed}
 use Rattle.image.specs.Image.{ests_of, path_of}
 use Rattle.update_definition.specs.State as State
@@ -18,8 +20,7 @@ use Rattle.search.specs.declared.Round.{Round}
 use Rattle.search.specs.declared.Place.{Place}
 use Rattle.search.specs.declared.look.Here.{Here}
 use Rattle.search.specs.declared.look.Stored.{Stored}
-use Rattle.search.specs.declared.look.Placed.{Placed}
-use Rattle.search.specs.declared.look.Chosen.{Chosen}
+use Rattle.update_definition.specs.declared.Move.{Move}
 
 -- ---- lists
 
@@ -141,10 +142,10 @@ place_with p div_split_of pool =
     }
 
 -- x and the arrays b are what f makes of the search at p with the arrays a, whatever the new path and the new diverge nodes are
-pub record Steps (n : ℕ) (p : Place) (a : Arrays) (x : Placed) (b : Arrays) (f : State.Search → Res State.Search) : Type 0 where
-  pub is : (new : List DispNode) (divs : List DivergeNode) → answer x.code (search_in n x.place new divs b) ≡ f (search_in n p new divs a)
-  pub small : Small x.place
-  pub kept : x.place ≡ place_with p x.place.div_idx_split x.place.pool_count
+pub record Steps (n : ℕ) (p : Place) (a : Arrays) (x : Result Place Halt) (b : Arrays) (f : State.Search → Res State.Search) : Type 0 where
+  pub is : (new : List DispNode) (divs : List DivergeNode) → answered_by (λ q. search_in n q new divs b) x ≡ f (search_in n p new divs a)
+  pub small : IfOk x Small
+  pub kept : IfOk x (λ q. q ≡ place_with p q.div_idx_split q.pool_count)
 
 -- ---- what a turn does up to its move
 
@@ -153,10 +154,10 @@ abbrev pub rising : List DivergeNode → ℕ → Res (Unit {0})
 rising divs i = before divs i >>= λ a. at divs i >>= λ b. need (ltb a.disp_node_idx b.disp_node_idx)
 
 -- h is where the search stands, whatever the columns have that it does not read
-abbrev pub Looks : (h : Here) (img : List ℕ) (r : Round) (p : Place) (curr : DispNode) (ends dn : List ℕ) → Type 0
+abbrev pub Looks : (h : Result Here Halt) (img : List ℕ) (r : Round) (p : Place) (curr : DispNode) (ends dn : List ℕ) → Type 0
 Looks h img r p curr ends dn =
-    ((b t : List ℕ) → answer h.code (here_of h) ≡ Look.look_from (ok curr) (p.idx_split + p.new_count) (ests_of img r.est_count) (views_of r.est_count b ends) (divs_of r.diverge_count t dn) p.div_idx_split)
-    × (h.idx_join_new ≤ p.idx_split + p.new_count)
+    ((b t : List ℕ) → answered_by here_of h ≡ Look.look_from (ok curr) (p.idx_split + p.new_count) (ests_of img r.est_count) (views_of r.est_count b ends) (divs_of r.diverge_count t dn) p.div_idx_split)
+    × IfOk h (λ x. x.idx_join_new ≤ p.idx_split + p.new_count)
 
 -- disp_node_idx of div_nodes[i - 1]
 abbrev pub node_before : List DivergeNode → ℕ → Res ℕ
@@ -166,30 +167,26 @@ node_before divs i = before divs i >>= λ d. ok d.disp_node_idx
 abbrev pub settle : List DivergeNode → ℕ → State.Search → Res State.Search
 settle divs join s = before divs s.div_idx_split >>= λ b. need (ltb b.disp_node_idx join) >> ok s
 
--- answers of a walk, and then settled
-abbrev pub settled : List DivergeNode → ℕ → ℕ → State.Search → Res State.Search
-settled divs join code s = answer code s >>= λ t. settle divs join t
-
 -- ---- what the functions of a turn up to its move answer; what they bind, they do not read
 
 -- the stored trains from div on block the next est: block_stored
-abbrev pub BlocksStored : (dt : List ℕ) (r : Round) (h : Here) (p : Place) (div : ℕ) (a : Arrays) (x : Placed) (b : Arrays) → Type 0
+abbrev pub BlocksStored : (dt : List ℕ) (r : Round) (h : Here) (p : Place) (div : ℕ) (a : Arrays) (x : Result Place Halt) (b : Arrays) → Type 0
 BlocksStored dt r h p div a x b =
     (t : Train) (occ img dn : List ℕ) (met : Bool)
     → Steps r.est_count p a x b (λ s. Look.block_stored (round_of t occ img dt dn r) (here_of h) s (record { div_idx_split = div; met = met }))
 
 -- f is take_stored or stored_trains, on the flags of the path
-abbrev pub StepsStored : (f : State.Round → Look.Here → State.Search → Res State.Search) (dt dn on : List ℕ) (r : Round) (h : Here) (p : Place) (a : Arrays) (x : Placed) (b : Arrays) → Type 0
+abbrev pub StepsStored : (f : State.Round → Look.Here → State.Search → Res State.Search) (dt dn on : List ℕ) (r : Round) (h : Here) (p : Place) (a : Arrays) (x : Result Place Halt) (b : Arrays) → Type 0
 StepsStored f dt dn on r h p a x b =
     (t : Train) (occ img : List ℕ) → Marked on (path_of img r.path_count)
     → Steps r.est_count p a x b (λ s. f (round_of t occ img dt dn r) (here_of h) s)
 
--- y is x, and refused where the assert after the stored trains does not hold
-abbrev pub Settles : (dn : List ℕ) (m join : ℕ) (x y : Placed) → Type 0
-Settles dn m join x y =
-    (y.place ≡ x.place)
-    × ((t : List ℕ) (new : List DispNode) (divs : List DivergeNode) (pool : List TrainIdx) (views : List TrainIdxsView)
-    → answer y.code (search_of x.place new divs pool views) ≡ settled (divs_of m t dn) join x.code (search_of x.place new divs pool views))
+-- y is q, and refused where the assert after the stored trains does not hold, of a search that stands at q
+abbrev pub Settles : (dn : List ℕ) (m join : ℕ) (q : Place) (y : Result Place Halt) → Type 0
+Settles dn m join q y =
+    IfOk y (λ z. z ≡ q)
+    × ((t : List ℕ) (standing : Place → State.Search) → (standing q).div_idx_split ≡ q.div_idx_split
+    → answered_by standing y ≡ settle (divs_of m t dn) join (standing q))
 
 -- x is meets_train of a search with that disp_node_idx_free
 abbrev pub MeetsAt : (occ : List ℕ) (n : ℕ) (h : Here) (free : ℕ) (ends : List ℕ) (x : Bool) → Type 0
@@ -198,11 +195,11 @@ MeetsAt occ n h free ends x =
     → x ≡ Look.meets_train occ (here_of h) (search_of p new divs pool (views_of n b ends))
 
 -- occupied_next
-abbrev pub StepsNext : (occ : List ℕ) (r : Round) (h : Here) (p : Place) (a : Arrays) (x : Placed) (b : Arrays) → Type 0
+abbrev pub StepsNext : (occ : List ℕ) (r : Round) (h : Here) (p : Place) (a : Arrays) (x : Result Place Halt) (b : Arrays) → Type 0
 StepsNext occ r h p a x b = (t : Train) (img dt dn : List ℕ) → Steps r.est_count p a x b (λ s. Look.occupied_next (round_of t occ img dt dn r) (here_of h) s)
 
 -- x is move_of, on the flags of the path
-abbrev pub Chooses : (img on : List ℕ) (r : Round) (h : Here) (p : Place) (ends : List ℕ) (x : Chosen) → Type 0
+abbrev pub Chooses : (img on : List ℕ) (r : Round) (h : Here) (p : Place) (ends : List ℕ) (x : Result Move Halt) → Type 0
 Chooses img on r h p ends x =
     (t : Train) (occ dt dn b : List ℕ) (new : List DispNode) (divs : List DivergeNode) (pool : List TrainIdx) → Marked on (path_of img r.path_count)
-    → answer x.code x.go ≡ Look.move_of (round_of t occ img dt dn r) (here_of h) (search_of p new divs pool (views_of r.est_count b ends))
+    → answered x ≡ Look.move_of (round_of t occ img dt dn r) (here_of h) (search_of p new divs pool (views_of r.est_count b ends))

@@ -1,5 +1,5 @@
 -- What the loop over the turns of a search begins with, keeps and answers. Assumes nothing.
-use Rattle.std.specs.Prelude.{ℕ, ◌+◌, ◌≤◌, ◌≡◌, true, false, cond, ltb, List, [], ◌∷◌, ◌++◌, length, take}
+use Rattle.std.specs.Prelude.{ℕ, ◌+◌, ◌≤◌, ◌≡◌, true, false, cond, ltb, List, [], ◌∷◌, ◌++◌, length, take, Option, is_some, IfSome}
 use Rattle.disp_structs.specs.Train.{Train}
 use Rattle.disp_structs.specs.Listed.{listed}
 use Rattle.image.specs.Image.{est_count, est_place, node_at, node_place, path_of}
@@ -41,16 +41,16 @@ abbrev pub slot_of : ℕ → ℕ
 slot_of k = cond (ltb k 63) k 63
 
 -- x is how the search goes on after an effect with k nodes on the new path: a node is written behind them, and so many count
-pub record Follows (effect : Effect) (k : ℕ) (x : Next) : Type 0 where
-  pub goes : x.goes ≡ onward effect
-  pub few : x.count ≤ k + 1
-  pub node : onward effect ≡ true → (r : State.Round) (s : State.Search) → length s.disp_path_new ≡ k → effect_of r s effect ≡ ok (State.go_on (State.set_new s (take x.count (s.disp_path_new ++ (x.node ∷ [])))))
+pub record Follows (effect : Effect) (k : ℕ) (x : Option Next) : Type 0 where
+  pub goes : is_some x ≡ onward effect
+  pub few : IfSome x (λ n. n.count ≤ k + 1)
+  pub node : IfSome x (λ n. (r : State.Round) (s : State.Search) → length s.disp_path_new ≡ k → effect_of r s effect ≡ ok (State.go_on (State.set_new s (take n.count (s.disp_path_new ++ (n.node ∷ []))))))
 
 -- the same after a turn
-pub record FollowsTurn (go : Move) (effect : Effect) (k : ℕ) (x : Next) : Type 0 where
-  pub few : x.count ≤ k + 1
-  pub stops : x.goes ≡ false → leaves go ≡ false → onward effect ≡ false
-  pub node : x.goes ≡ true → (r : State.Round) (h : Look.Here) (s : State.Search) → length s.disp_path_new ≡ k → turn_of go effect r h s ≡ ok (State.go_on (State.set_new s (take x.count (s.disp_path_new ++ (x.node ∷ [])))))
+pub record FollowsTurn (go : Move) (effect : Effect) (k : ℕ) (x : Option Next) : Type 0 where
+  pub stops : is_some x ≡ false → leaves go ≡ false → onward effect ≡ false
+  pub few : IfSome x (λ n. n.count ≤ k + 1)
+  pub node : IfSome x (λ n. (r : State.Round) (h : Look.Here) (s : State.Search) → length s.disp_path_new ≡ k → turn_of go effect r h s ≡ ok (State.go_on (State.set_new s (take n.count (s.disp_path_new ++ (n.node ∷ []))))))
 
 -- a search that begins: its train is accepted over so many links, floats and auth have room in their fields, and no train is above some largest one
 pub record SearchBegins (links : ℕ) (r : State.Round) (s : State.Search) : Type 0 where

@@ -2,7 +2,7 @@
 // the moves but ChangeDiverge and Join (moves, rewind), a turn up to these two (turn), and turn after turn up to the one that ends it (run).
 // est_times and disp_path are read from the image; diverge nodes, views, the pool of blocking trains and is_on_path are
 // columns of numbers that the caller lends. What stands past a column's end reads as 0. dt and dn are the trains and
-// nodes of div_nodes, nt and nn those of div_nodes_new. Of the public functions run::run alone has a `requires`: Ready. The crate assumes nothing of its own.
+// nodes of div_nodes, nt and nn those of div_nodes_new; they stand singly in every signature, as in run's, which a landed `requires` names. Of the public functions run::run alone has a `requires`: Ready. The crate assumes nothing of its own.
 #![tactic(auto)]
 
 pub mod fakes;
@@ -14,6 +14,7 @@ pub mod turn;
 pub mod views;
 
 use disp_structs::{DispNode, Metres};
+use free_path::halt::Halt;
 use link_rules::link_idx::TrainIdx;
 
 // What the search of a round does not change, with the counts of the train's lists and document 01's Q.
@@ -41,23 +42,17 @@ pub struct Place {
     pub pool_count: usize,
 }
 
-// A refusal's number, or 0; and an index.
-#[derive(Clone, Copy)]
-pub struct Index {
-    pub code: u32,
-    pub index: usize,
-}
-
-// What a move does: it is refused, it changes the new path or leaves it as it is, or it ends the round, blocked by a train.
+// What a turn does: it is refused, it changes the new path or leaves it as it is, or it ends the round, blocked by a train.
 #[derive(Clone, Copy)]
 pub enum Effect {
-    Refused(u32),
+    Refused(Halt),
     Push(DispNode),
     Pop,
     Stay,
     GiveUp(TrainIdx),
 }
 
+// The effect of a move, and where the search stands after it.
 #[derive(Clone, Copy)]
 pub struct Moved {
     pub effect: Effect,

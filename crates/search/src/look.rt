@@ -1,71 +1,47 @@
 // A turn of the search up to its move (free_path.rs 345-417).
-ghost use Rattle.std.specs.Prelude.{◌≡◌, List, ℕ, ◌+◌, ◌<◌, ◌≤◌, ◌^◌, ◌++◌, ◌||◌, length, take};
+ghost use Rattle.std.specs.Prelude.{◌≡◌, List, ℕ, ◌+◌, ◌<◌, ◌≤◌, ◌^◌, ◌++◌, ◌||◌, length, take, IfOk};
 ghost use Rattle.link_rules.specs.LinkIdx.{same_train};
 ghost use Rattle.disp_structs.specs.Values.{same_est, no_est};
 ghost use Rattle.update_definition.specs.State.{blocked};
-ghost use Rattle.image.specs.Image.{est_place, zero_est};
+ghost use Rattle.image.specs.Image.{est_place};
 ghost use Rattle.free_path.specs.Base.{need};
-ghost use Rattle.free_path.specs.Columns.{answer, tr, trains};
+ghost use Rattle.free_path.specs.Columns.{tr, trains};
+ghost use Rattle.free_path.specs.Halts.{answered, answered_by};
 ghost use Rattle.update_definition.specs.Look.{block_by, stored_from, take_stored, stored_trains, blocked_move};
 ghost use Rattle.search.specs.Read.{divs_of, views_of, trains_from, stored_of, rising, node_before, Looks, Steps, Small, Lent, arrays, on_flag, BlocksStored, StepsStored, Settles, MeetsAt, StepsNext, Chooses};
 
-use crate::{Index, Place, Round, views};
+use crate::{Place, Round, views};
 use disp_structs::{DispNode, EstIdx, EstTime, TrainIdxsView, events};
 use free_path::columns;
+use free_path::halt::Halt;
 use image::codec;
 use link_rules::link_idx::TrainIdx;
 use update_definition::Move;
 
-// A refusal's number, or 0; idx_join_new, disp_node_curr, est_curr, and the est record of its idx_next.
+// idx_join_new, disp_node_curr, est_curr, and the est record of its idx_next.
 #[derive(Clone, Copy)]
 pub struct Here {
-    pub code: u32,
     pub idx_join_new: usize,
     pub disp_node_curr: DispNode,
     pub est_curr: EstTime,
     pub est_next: EstTime,
 }
 
-// A refusal's number, or 0; the div_idx_split that the walk over stored trains leaves, and whether it met the moved train.
+// The div_idx_split that the walk over stored trains leaves, and whether it met the moved train.
 #[derive(Clone, Copy)]
 pub struct Stored {
-    pub code: u32,
     pub div_idx_split: usize,
     pub met: bool,
-}
-
-// A refusal's number, or 0; and where the search stands.
-#[derive(Clone, Copy)]
-pub struct Placed {
-    pub code: u32,
-    pub place: Place,
 }
 
 // There are diverge nodes before and at i, the one before at a lower node.
 fn between_divs(dn: &[u32], m: usize, i: usize) -> bool
     ensures { (t : List ℕ) → need result ≡ rising (divs_of m t dn.now) i }
 {
-    if i == 0 {
-        return false;
-    }
-    if m <= i {
+    if i == 0 || m <= i {
         return false;
     }
     columns::u32_of(dn, i - 1) < columns::u32_of(dn, i)
-}
-
-// The turn is refused by 13; where it stood does not count.
-pub(crate) fn nowhere(curr: DispNode) -> Here
-    ensures { result ≡ record { code = 13; idx_join_new = 0; disp_node_curr = curr; est_curr = zero_est; est_next = zero_est } }
-{
-    let e = codec::zero_est();
-    Here {
-        code: 13,
-        idx_join_new: 0,
-        disp_node_curr: curr,
-        est_curr: e,
-        est_next: e,
-    }
 }
 
 // The est records lie within the image.
@@ -76,47 +52,38 @@ pub(crate) fn look_here(
     curr: DispNode,
     ends: &[u32],
     dn: &[u32],
-) -> Here
+) -> Result<Here, Halt>
     requires { Small p × (est_place r.est_count ≤ length img.now) }
     ensures { Looks result img.now r p curr ends.now dn.now }
 {
     let n = r.est_count;
-    if n <= curr.est_idx.0 as usize {
-        return nowhere(curr);
-    }
-    if views::is_blocked(ends, n, curr.est_idx) {
-        return nowhere(curr);
+    if n <= curr.est_idx.0 as usize || views::is_blocked(ends, n, curr.est_idx) {
+        return Err(Halt::Panic);
     }
     let est = codec::whole_est(img, curr.est_idx.0);
-    if est.idx_next.0 == 0 {
-        return nowhere(curr);
-    }
-    if n <= est.idx_next.0 as usize {
-        return nowhere(curr);
+    if est.idx_next.0 == 0 || n <= est.idx_next.0 as usize {
+        return Err(Halt::Panic);
     }
     if !between_divs(dn, r.diverge_count, p.div_idx_split) {
-        return nowhere(curr);
+        return Err(Halt::Panic);
     }
-    Here {
-        code: 0,
+    Ok(Here {
         idx_join_new: p.idx_split + p.new_count,
         disp_node_curr: curr,
         est_curr: est,
         est_next: codec::whole_est(img, est.idx_next.0),
-    }
+    })
 }
 
 // ---- an est is blocked by trains
 
-// The k trains of a column from a on go to the end of the pool, at most 2,048 in all.
+// The k trains of a column from a on go to the end of the pool, at most 2,048 in all. No copy of slices: past the column's end stands 0.
 fn push_trains(col: &[u32], a: usize, k: usize, pool: &mut [u32], len: usize)
     requires { (length pool.old ≡ 2048) × (len + k ≤ 2048) × (a < 2 ^ 32) }
     ensures { take (len + k) (trains pool.new) ≡ take len (trains pool.old) ++ trains_from col.now a k }
 {
-    let mut j = 0;
-    while j < k {
+    for j in 0..k {
         pool[len + j] = columns::u32_of(col, a + j);
-        j += 1;
     }
 }
 
@@ -131,13 +98,13 @@ fn block_by(
     pool: &mut [u32],
     begins: &mut [u32],
     ends: &mut [u32],
-) -> Placed
+) -> Result<Place, Halt>
     requires { Small p × Lent n (arrays pool.old begins.old ends.old) × (a < 2 ^ 32) × (k < 16384) }
     ensures { Steps n p (arrays pool.old begins.old ends.old) result (arrays pool.new begins.new ends.new) (λ s. block_by s e (trains_from col.now a k)) }
 {
     let from = p.pool_count;
     if 2048 < from + k {
-        return Placed { code: 11, place: p };
+        return Err(Halt::NoRoom);
     }
     push_trains(col, a, k, pool, from);
     let v = TrainIdxsView {
@@ -145,9 +112,10 @@ fn block_by(
         idx_end: (from + k) as u32,
     };
     views::put_view(begins, ends, n, e, v);
-    let mut q = p;
-    q.pool_count = from + k;
-    Placed { code: 0, place: q }
+    Ok(Place {
+        pool_count: from + k,
+        ..p
+    })
 }
 
 // ---- trains stored in the diverge nodes
@@ -160,37 +128,21 @@ fn stored_from(
     join: usize,
     moved: TrainIdx,
     from: usize,
-) -> Stored
+) -> Result<Stored, Halt>
     requires { from ≤ m }
-    ensures { (answer result.code (stored_of result) ≡ stored_from (divs_of m dt.now dn.now) join moved from) × (result.div_idx_split ≤ from) }
+    ensures { (answered_by stored_of result ≡ stored_from (divs_of m dt.now dn.now) join moved from) × IfOk result (λ x. x.div_idx_split ≤ from) }
 {
-    let mut k = from;
     let mut met = false;
-    while 0 < k {
-        if columns::u32_of(dn, k - 1) as usize != join {
-            return Stored {
-                code: 0,
-                div_idx_split: k,
-                met: met,
-            };
+    for k in (0..from).rev() {
+        if columns::u32_of(dn, k) as usize != join {
+            return Ok(Stored {
+                div_idx_split: k + 1,
+                met,
+            });
         }
-        met = met_or(met, columns::u32_of(dt, k - 1), moved);
-        k -= 1;
+        met = met || columns::u32_of(dt, k) == moved.0;
     }
-    Stored {
-        code: 13,
-        div_idx_split: 0,
-        met: met,
-    }
-}
-
-fn met_or(met: bool, t: u32, moved: TrainIdx) -> bool
-    ensures { result ≡ (met || same_train (tr t) moved) }
-{
-    if met {
-        return true;
-    }
-    t == moved.0
+    Err(Halt::Panic)
 }
 
 // The moved train is not among the stored trains from div on: they block the next est.
@@ -203,17 +155,19 @@ fn block_stored(
     pool: &mut [u32],
     begins: &mut [u32],
     ends: &mut [u32],
-) -> Placed
+) -> Result<Place, Halt>
     requires { Small p × Lent r.est_count (arrays pool.old begins.old ends.old) × (div ≤ p.div_idx_split) × (p.div_idx_split ≤ r.diverge_count) }
     ensures { BlocksStored dt.now r h p div (arrays pool.old begins.old ends.old) result (arrays pool.new begins.new ends.new) }
 {
     let est = h.est_curr;
     if !views::is_blocked(ends, r.est_count, est.idx_next_alt) {
-        return Placed { code: 13, place: p };
+        return Err(Halt::Panic);
     }
     let k = p.div_idx_split - div;
-    let mut q = p;
-    q.div_idx_split = div;
+    let q = Place {
+        div_idx_split: div,
+        ..p
+    };
     block_by(dt, div, k, r.est_count, est.idx_next, q, pool, begins, ends)
 }
 
@@ -227,23 +181,17 @@ fn take_stored(
     pool: &mut [u32],
     begins: &mut [u32],
     ends: &mut [u32],
-) -> Placed
+) -> Result<Place, Halt>
     requires { Small p × Lent r.est_count (arrays pool.old begins.old ends.old) }
     ensures { StepsStored take_stored dt.now dn.now on.now r h p (arrays pool.old begins.old ends.old) result
         (arrays pool.new begins.new ends.new) }
 {
     let est = h.est_curr;
-    if est.idx_next_alt.0 == 0 {
-        return Placed { code: 13, place: p };
+    if est.idx_next_alt.0 == 0 || !views::is_on_path(on, est.idx_next_alt) {
+        return Err(Halt::Panic);
     }
-    if !views::is_on_path(on, est.idx_next_alt) {
-        return Placed { code: 13, place: p };
-    }
-    if views::is_blocked(ends, r.est_count, est.idx_next) {
-        return Placed { code: 13, place: p };
-    }
-    if r.diverge_count < p.div_idx_split {
-        return Placed { code: 13, place: p };
+    if views::is_blocked(ends, r.est_count, est.idx_next) || r.diverge_count < p.div_idx_split {
+        return Err(Halt::Panic);
     }
     let x = stored_from(
         dt,
@@ -252,56 +200,35 @@ fn take_stored(
         h.idx_join_new,
         r.train_idx_moved,
         p.div_idx_split,
-    );
-    if x.code != 0 {
-        return Placed {
-            code: x.code,
-            place: p,
-        };
-    }
+    )?;
     if x.met {
-        let mut q = p;
-        q.div_idx_split = x.div_idx_split;
-        return Placed { code: 0, place: q };
+        return Ok(Place {
+            div_idx_split: x.div_idx_split,
+            ..p
+        });
     }
     block_stored(dt, r, h, p, x.div_idx_split, pool, begins, ends)
 }
 
 // disp_node_idx of div_nodes[i - 1].
-fn node_before(dn: &[u32], m: usize, i: usize) -> Index
-    ensures { (t : List ℕ) → answer result.code result.index ≡ node_before (divs_of m t dn.now) i }
+fn node_before(dn: &[u32], m: usize, i: usize) -> Result<usize, Halt>
+    ensures { (t : List ℕ) → answered result ≡ node_before (divs_of m t dn.now) i }
 {
-    if i == 0 {
-        return Index { code: 13, index: 0 };
+    if i == 0 || m < i {
+        return Err(Halt::Panic);
     }
-    if m < i {
-        return Index { code: 13, index: 0 };
-    }
-    Index {
-        code: 0,
-        index: columns::u32_of(dn, i - 1) as usize,
-    }
+    Ok(columns::u32_of(dn, i - 1) as usize)
 }
 
 // The diverge node before the place that is left stands before the join.
-fn settle(dn: &[u32], m: usize, join: usize, x: Placed) -> Placed
-    ensures { Settles dn.now m join x result }
+fn settle(dn: &[u32], m: usize, join: usize, q: Place) -> Result<Place, Halt>
+    ensures { Settles dn.now m join q result }
 {
-    if x.code != 0 {
-        return x;
+    let b = node_before(dn, m, q.div_idx_split)?;
+    if join <= b {
+        return Err(Halt::Panic);
     }
-    let q = x.place;
-    let b = node_before(dn, m, q.div_idx_split);
-    if b.code != 0 {
-        return Placed {
-            code: b.code,
-            place: q,
-        };
-    }
-    if join <= b.index {
-        return Placed { code: 13, place: q };
-    }
-    x
+    Ok(q)
 }
 
 pub(crate) fn stored_trains(
@@ -314,25 +241,19 @@ pub(crate) fn stored_trains(
     pool: &mut [u32],
     begins: &mut [u32],
     ends: &mut [u32],
-) -> Placed
+) -> Result<Place, Halt>
     requires { Small p × Lent r.est_count (arrays pool.old begins.old ends.old) }
     ensures { StepsStored stored_trains dt.now dn.now on.now r h p (arrays pool.old begins.old ends.old) result
         (arrays pool.new begins.new ends.new) }
 {
     let m = r.diverge_count;
     let join = h.idx_join_new;
-    let d = node_before(dn, m, p.div_idx_split);
-    if d.code != 0 {
-        return Placed {
-            code: d.code,
-            place: p,
-        };
+    let d = node_before(dn, m, p.div_idx_split)?;
+    if d != join {
+        return settle(dn, m, join, p);
     }
-    if d.index != join {
-        return settle(dn, m, join, Placed { code: 0, place: p });
-    }
-    let t = take_stored(dt, dn, on, r, h, p, pool, begins, ends);
-    settle(dn, m, join, t)
+    let q = take_stored(dt, dn, on, r, h, p, pool, begins, ends)?;
+    settle(dn, m, join, q)
 }
 
 // ---- the next est is occupied
@@ -340,20 +261,12 @@ pub(crate) fn stored_trains(
 fn meets_train(occ: &[u32], n: usize, h: Here, free: usize, ends: &[u32]) -> bool
     ensures { MeetsAt occ.now n h free ends.now result }
 {
-    let est = h.est_curr;
-    if views::is_blocked(ends, n, est.idx_next) {
-        return false;
-    }
-    if h.idx_join_new < free {
-        return false;
-    }
     let ahead = h.est_next;
     let event = ahead.link_event;
-    let kind = event.est_type;
-    if !events::is_arrive(kind) {
-        return false;
-    }
-    columns::is_occupied(occ, event.link_idx)
+    !views::is_blocked(ends, n, h.est_curr.idx_next)
+        && free <= h.idx_join_new
+        && events::is_arrive(event.est_type)
+        && columns::is_occupied(occ, event.link_idx)
 }
 
 pub(crate) fn occupied_next(
@@ -364,13 +277,13 @@ pub(crate) fn occupied_next(
     pool: &mut [u32],
     begins: &mut [u32],
     ends: &mut [u32],
-) -> Placed
+) -> Result<Place, Halt>
     requires { Small p × Lent r.est_count (arrays pool.old begins.old ends.old) }
     ensures { StepsNext occ.now r h p (arrays pool.old begins.old ends.old) result (arrays pool.new begins.new ends.new) }
 {
     let n = r.est_count;
     if !meets_train(occ, n, h, p.disp_node_idx_free, ends) {
-        return Placed { code: 0, place: p };
+        return Ok(p);
     }
     let est = h.est_curr;
     let ahead = h.est_next;
@@ -380,20 +293,10 @@ pub(crate) fn occupied_next(
 
 // ---- which move
 
-// A refusal's number, or 0; and the move.
-#[derive(Clone, Copy)]
-pub struct Chosen {
-    pub code: u32,
-    pub go: Move,
-}
-
 fn blocked_move(on: &[u8], n: usize, alt: EstIdx, ends: &[u32]) -> Move
     ensures { (b : List ℕ) → result ≡ blocked_move (same_est alt no_est || blocked (views_of n b ends.now) alt) (on_flag on.now alt) }
 {
-    if alt.0 == 0 {
-        return Move::Rewind;
-    }
-    if views::is_blocked(ends, n, alt) {
+    if alt.0 == 0 || views::is_blocked(ends, n, alt) {
         return Move::Rewind;
     }
     if views::is_on_path(on, alt) {
@@ -402,47 +305,34 @@ fn blocked_move(on: &[u8], n: usize, alt: EstIdx, ends: &[u32]) -> Move
     Move::Alternate
 }
 
-pub(crate) fn move_of(img: &[u8], on: &[u8], r: Round, h: Here, p: Place, ends: &[u32]) -> Chosen
+pub(crate) fn move_of(
+    img: &[u8],
+    on: &[u8],
+    r: Round,
+    h: Here,
+    p: Place,
+    ends: &[u32],
+) -> Result<Move, Halt>
     requires { Small p }
     ensures { Chooses img.now on.now r h p ends.now result }
 {
     let est = h.est_curr;
     if views::is_blocked(ends, r.est_count, est.idx_next) {
-        return Chosen {
-            code: 0,
-            go: blocked_move(on, r.est_count, est.idx_next_alt, ends),
-        };
+        return Ok(blocked_move(on, r.est_count, est.idx_next_alt, ends));
     }
     if views::is_on_path(on, est.idx_next) {
-        return Chosen {
-            code: 0,
-            go: Move::Join,
-        };
+        return Ok(Move::Join);
     }
     if r.disp_node_idx_fixed <= p.idx_save {
-        return Chosen {
-            code: 0,
-            go: Move::Advance,
-        };
+        return Ok(Move::Advance);
     }
     if r.path_count <= p.idx_save {
-        return Chosen {
-            code: 13,
-            go: Move::Join,
-        };
+        return Err(Halt::Panic);
     }
     let ahead = h.est_next;
-    if events::same_event(
-        ahead.link_event,
-        codec::node_link_event(img, p.idx_save as u32),
-    ) {
-        return Chosen {
-            code: 0,
-            go: Move::PushSaved,
-        };
+    let saved = codec::node_link_event(img, p.idx_save as u32);
+    if events::same_event(ahead.link_event, saved) {
+        return Ok(Move::PushSaved);
     }
-    Chosen {
-        code: 0,
-        go: Move::BlockEmpty,
-    }
+    Ok(Move::BlockEmpty)
 }

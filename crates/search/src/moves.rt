@@ -1,76 +1,55 @@
 // The moves of the search, all but ChangeDiverge and Join (free_path.rs 419-573).
-ghost use Rattle.std.specs.Prelude.{◌≡◌, List, ◌++◌, ℕ, ◌+◌, ◌-◌, ◌<◌, ◌≤◌, length, take};
+ghost use Rattle.std.specs.Prelude.{◌≡◌, List, ◌++◌, ℕ, ◌+◌, ◌-◌, ◌<◌, ◌≤◌, length, take, IfOk};
 ghost use Rattle.disp_structs.specs.Train.{Train};
-ghost use Rattle.disp_structs.specs.Values.{never};
-ghost use Rattle.free_path.specs.LinkOptType.{least};
-ghost use Rattle.free_path.specs.Columns.{answer, trains};
+ghost use Rattle.free_path.specs.Columns.{trains};
+ghost use Rattle.free_path.specs.Halts.{answered_by};
 ghost use Rattle.update_definition.specs.State.{diverging};
 ghost use Rattle.update_definition.specs.State as State;
 ghost use Rattle.update_definition.specs.Moves as Moves;
 ghost use Rattle.update_definition.specs.Moves.{alternate_free, alternate_node, saved_node, push_saved};
 ghost use Rattle.search.specs.Read.{divs_of, trains_from, round_of, arrays, Small};
-ghost use Rattle.search.specs.Effects.{Sized, effect_of, push_turn, deposit, MoveIs, Keeping, BlocksEmpty, Alternates};
+ghost use Rattle.search.specs.Effects.{Sized, moved_of, push_turn, deposit, MoveIs, Keeping, Keeps, BlocksEmpty, Alternates};
 
 use crate::look::Here;
 use crate::{Effect, Moved, Place, Round, fakes, views};
 use disp_structs::{DispNode, EstIdx, EstType, LinkEvent, Metres, Seconds, TrainIdxsView, floats};
-use free_path::train_idxs_view::Grown;
+use free_path::halt::Halt;
 use image::codec;
 use link_rules::link_idx::LinkIdx;
 
 // A node goes to the new path, its offset in reach.
-fn pushed(n: DispNode, p: Place) -> Moved
-    ensures { (result.place ≡ p) × ((r : State.Round) (s : State.Search) → effect_of r s result.effect ≡ push_turn s n) }
+fn pushed(n: DispNode, p: Place) -> Result<Moved, Halt>
+    ensures { IfOk result (λ x. x.place ≡ p) × ((r : State.Round) (standing : Place → State.Search) → moved_of r standing result ≡ push_turn (standing p) n) }
 {
     if !floats::in_reach(n.offset.0) {
-        return Moved {
-            effect: Effect::Refused(11),
-            place: p,
-        };
+        return Err(Halt::NoRoom);
     }
-    Moved {
+    Ok(Moved {
         effect: Effect::Push(n),
         place: p,
-    }
+    })
 }
 
 // ---- Advance
 
-fn least_of(a: usize, b: usize) -> usize
-    ensures { (result ≡ least a b) × (result ≤ a) }
-{
-    if a <= b {
-        return a;
-    }
-    b
-}
-
-fn forever() -> Seconds
-    ensures { result ≡ never }
-{
-    Seconds(floats::real_of(0x7ff0_0000_0000_0000))
-}
-
-pub(crate) fn advance(r: Round, h: Here, p: Place) -> Moved
+pub(crate) fn advance(r: Round, h: Here, p: Place) -> Result<Moved, Halt>
     requires { Small p × (h.idx_join_new ≤ p.idx_split + p.new_count) }
     ensures { Keeping r p result ((t : Train) (occ img dt dn : List ℕ) → MoveIs (λ _. Moves.advance) (round_of t occ img dt dn r) h p result) }
 {
     let est = h.est_curr;
     let ahead = h.est_next;
     let cur = h.disp_node_curr;
-    let event = ahead.link_event;
-    let e = est.idx_next;
-    let m = Metres(cur.offset.0 + est.dist_to_next.0);
-    let t = forever();
     let n = DispNode {
-        offset: m,
-        time_pass: t,
-        link_event: event,
-        est_idx: e,
+        offset: Metres(cur.offset.0 + est.dist_to_next.0),
+        time_pass: Seconds(f64::INFINITY),
+        link_event: ahead.link_event,
+        est_idx: est.idx_next,
         disp_auth_idx_entry: 0,
     };
-    let mut q = p;
-    q.disp_node_idx_free = least_of(p.disp_node_idx_free, h.idx_join_new);
+    let q = Place {
+        disp_node_idx_free: p.disp_node_idx_free.min(h.idx_join_new),
+        ..p
+    };
     pushed(n, q)
 }
 
@@ -81,10 +60,7 @@ fn saved_free(fixed: usize, save: usize, join: usize) -> usize
     requires { (fixed ≤ 512) × (join < 32768) }
     ensures { result ≡ fixed - save + join }
 {
-    if fixed <= save {
-        return join;
-    }
-    fixed - save + join
+    fixed.saturating_sub(save) + join
 }
 
 pub(crate) fn block_empty(
@@ -95,7 +71,7 @@ pub(crate) fn block_empty(
     ends: &mut [u32],
 ) -> Moved
     requires { Small p × Sized r × (h.idx_join_new ≤ p.idx_split + p.new_count) × (r.est_count ≤ length begins.old) × (r.est_count ≤ length ends.old) }
-    ensures { Keeping r p result (BlocksEmpty r h p begins.old ends.old result begins.new ends.new) }
+    ensures { BlocksEmpty r h p begins.old ends.old result begins.new ends.new × Keeps r p result }
 {
     let est = h.est_curr;
     let v = TrainIdxsView {
@@ -103,70 +79,43 @@ pub(crate) fn block_empty(
         idx_end: 1,
     };
     views::put_view(begins, ends, r.est_count, est.idx_next, v);
-    let mut q = p;
-    q.disp_node_idx_free = saved_free(r.disp_node_idx_fixed, p.idx_save, h.idx_join_new);
     Moved {
         effect: Effect::Stay,
-        place: q,
+        place: Place {
+            disp_node_idx_free: saved_free(r.disp_node_idx_fixed, p.idx_save, h.idx_join_new),
+            ..p
+        },
     }
 }
 
-// The saved node, its est the next one.
-fn saved_node(n: DispNode, e: EstIdx) -> DispNode
-    ensures { result ≡ saved_node n e }
-{
-    let o = n.offset;
-    let t = n.time_pass;
-    let l = n.link_event;
-    DispNode {
-        offset: o,
-        time_pass: t,
-        link_event: l,
-        est_idx: e,
-        disp_auth_idx_entry: n.disp_auth_idx_entry,
-    }
-}
-
-pub(crate) fn push_saved(img: &[u8], r: Round, h: Here, p: Place) -> Moved
+pub(crate) fn push_saved(img: &[u8], r: Round, h: Here, p: Place) -> Result<Moved, Halt>
     requires { Small p × Sized r × (h.idx_join_new ≤ p.idx_split + p.new_count) }
     ensures { Keeping r p result ((t : Train) (occ dt dn : List ℕ) → MoveIs push_saved (round_of t occ img.now dt dn r) h p result) }
 {
     if r.path_count <= p.idx_save {
-        return Moved {
-            effect: Effect::Refused(13),
-            place: p,
-        };
+        return Err(Halt::Panic);
     }
     let n = codec::node_at(img, p.idx_save as u32);
     let est = h.est_curr;
     let cur = h.disp_node_curr;
     if !floats::near(n.offset.0, cur.offset.0 + est.dist_to_next.0) {
-        return Moved {
-            effect: Effect::Refused(13),
-            place: p,
-        };
+        return Err(Halt::Panic);
     }
     if !floats::in_reach(n.offset.0) {
-        return Moved {
-            effect: Effect::Refused(11),
-            place: p,
-        };
+        return Err(Halt::NoRoom);
     }
-    let k = fakes::walk_fakes(img, r.path_count as u32, p.idx_save + 1);
-    if k.code != 0 {
-        return Moved {
-            effect: Effect::Refused(k.code),
-            place: p,
-        };
-    }
-    let mut q = p;
-    q.disp_node_idx_free = saved_free(r.disp_node_idx_fixed, p.idx_save, h.idx_join_new);
-    q.idx_save = k.index;
-    let m = saved_node(n, est.idx_next);
-    Moved {
-        effect: Effect::Push(m),
-        place: q,
-    }
+    let k = fakes::walk_fakes(img, r.path_count as u32, p.idx_save + 1)?;
+    Ok(Moved {
+        effect: Effect::Push(DispNode {
+            est_idx: est.idx_next,
+            ..n
+        }),
+        place: Place {
+            disp_node_idx_free: saved_free(r.disp_node_idx_fixed, p.idx_save, h.idx_join_new),
+            idx_save: k,
+            ..p
+        },
+    })
 }
 
 // ---- Alternate
@@ -174,17 +123,14 @@ pub(crate) fn push_saved(img: &[u8], r: Round, h: Here, p: Place) -> Moved
 fn alternate_node(n: DispNode, e: EstIdx) -> DispNode
     ensures { result ≡ alternate_node n e }
 {
-    let o = n.offset;
-    let t = n.time_pass;
     DispNode {
-        offset: o,
-        time_pass: t,
         link_event: LinkEvent {
             link_idx: LinkIdx(0),
             est_type: EstType::Fake,
         },
         est_idx: e,
         disp_auth_idx_entry: 0,
+        ..n
     }
 }
 
@@ -192,13 +138,11 @@ fn alternate_free(join: usize, free: usize) -> usize
     requires { free < 16384 }
     ensures { (result ≡ alternate_free join free) × (result ≤ free + 1) }
 {
-    if join <= free {
-        return free + 1;
-    }
-    free
+    if join <= free { free + 1 } else { free }
 }
 
 // The k trains of the pool from b on go behind the count diverge nodes, at a node.
+// k is mostly 1 to 3, for which copies of slices take 1 ns more than the loop.
 fn store_divs(
     pool: &[u32],
     b: usize,
@@ -211,11 +155,9 @@ fn store_divs(
     requires { (b + k ≤ length pool.now) × (count + k ≤ length nt.old) × (count + k ≤ length nn.old) × (node < 65536) × (length pool.now ≡ 2048) × (count + k < 65536) }
     ensures { divs_of (count + k) nt.new nn.new ≡ divs_of count nt.old nn.old ++ diverging node (trains_from pool.now b k) }
 {
-    let mut j = 0;
-    while j < k {
+    for j in 0..k {
         nt[count + j] = pool[b + j];
         nn[count + j] = node as u32;
-        j += 1;
     }
 }
 
@@ -229,27 +171,21 @@ fn push_divs(
     nt: &mut [u32],
     nn: &mut [u32],
     count: usize,
-) -> Grown
+) -> Result<usize, Halt>
     requires { (length pool.now ≡ 2048) × (len ≤ 2048) × (node < 65536) × (room ≤ 1024) × (count ≤ 1024) × (room ≤ length nt.old) × (room ≤ length nn.old) }
-    ensures { (answer result.code (divs_of result.len nt.new nn.new) ≡ deposit (take len (trains pool.now)) v room (divs_of count nt.old nn.old) node) × (result.len ≤ 1024) }
+    ensures { (answered_by (λ n. divs_of n nt.new nn.new) result ≡ deposit (take len (trains pool.now)) v room (divs_of count nt.old nn.old) node) × IfOk result (λ n. n ≤ 1024) }
 {
     let b = v.idx_begin as usize;
     let e = v.idx_end as usize;
-    if e < b {
-        return Grown { code: 13, len: 0 };
-    }
-    if len < e {
-        return Grown { code: 13, len: 0 };
+    if e < b || len < e {
+        return Err(Halt::Panic);
     }
     let k = e - b;
     if room < count + k {
-        return Grown { code: 11, len: 0 };
+        return Err(Halt::NoRoom);
     }
     store_divs(pool, b, k, node, nt, nn, count);
-    Grown {
-        code: 0,
-        len: count + k,
-    }
+    Ok(count + k)
 }
 
 pub(crate) fn alternate(
@@ -261,7 +197,7 @@ pub(crate) fn alternate(
     ends: &[u32],
     nt: &mut [u32],
     nn: &mut [u32],
-) -> Moved
+) -> Result<Moved, Halt>
     requires { Small p × Sized r × (h.idx_join_new ≤ p.idx_split + p.new_count) × (length pool.now ≡ 2048) × (r.diverge_room ≤ length nt.old) × (r.diverge_room ≤ length nn.old) }
     ensures { Alternates r h p (arrays pool.now begins.now ends.now) nt.old nn.old result nt.new nn.new }
 {
@@ -276,17 +212,12 @@ pub(crate) fn alternate(
         nt,
         nn,
         p.div_count,
-    );
-    if d.code != 0 {
-        return Moved {
-            effect: Effect::Refused(d.code),
-            place: p,
-        };
-    }
-    let mut q = p;
-    q.div_count = d.len;
-    q.disp_node_idx_free = alternate_free(h.idx_join_new, p.disp_node_idx_free);
-    let cur = h.disp_node_curr;
-    let n = alternate_node(cur, est.idx_next_alt);
+    )?;
+    let q = Place {
+        div_count: d,
+        disp_node_idx_free: alternate_free(h.idx_join_new, p.disp_node_idx_free),
+        ..p
+    };
+    let n = alternate_node(h.disp_node_curr, est.idx_next_alt);
     pushed(n, q)
 }

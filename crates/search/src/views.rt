@@ -28,10 +28,7 @@ pub(crate) fn is_blocked(ends: &[u32], n: usize, e: EstIdx) -> bool
     ensures { (b : List ℕ) → result ≡ blocked (views_of n b ends.now) e }
 {
     let i = e.0 as usize;
-    if n <= i {
-        return false;
-    }
-    columns::u32_of(ends, i) != 0
+    i < n && columns::u32_of(ends, i) != 0
 }
 
 pub(crate) fn put_view(begins: &mut [u32], ends: &mut [u32], n: usize, e: EstIdx, v: TrainIdxsView)
@@ -50,8 +47,5 @@ pub(crate) fn is_on_path(on: &[u8], e: EstIdx) -> bool
     ensures { result ≡ on_flag on.now e }
 {
     let i = e.0 as usize;
-    if on.len() <= i {
-        return false;
-    }
-    on[i] != 0
+    i < on.len() && on[i] != 0
 }

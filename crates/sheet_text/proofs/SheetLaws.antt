@@ -30,14 +30,14 @@ word-refused c n0 n1 n2 n3 n4 n5 = rw (ne_eqb c 0 n0, ne_eqb c 1 n1, ne_eqb c 2 
 
 -- ---- free, 0 for a bad image
 
-module _ (img : List ℕ) (links : ℕ) (f : Refusal) (is : f ≡ image_fault img links) where
-  pub free-good : f.number ≡ 0 → free_column img links ≡ free_of img
+module _ (img : List ℕ) (links : ℕ) where
+  pub free-good : (image_fault img links).number ≡ 0 → free_column img links ≡ free_of img
   unfolding free_column
-  free-good h = rw (← is, eq-eqb f.number 0 h)
+  free-good h = rw (eq-eqb (image_fault img links).number 0 h)
 
-  pub free_bad : (f.number ≡ 0 → ⊥) → free_column img links ≡ 0
+  pub free_bad : ((image_fault img links).number ≡ 0 → ⊥) → free_column img links ≡ 0
   unfolding free_column
-  free_bad h = rw (← is, ne_eqb f.number 0 h)
+  free_bad h = rw (ne_eqb (image_fault img links).number 0 h)
 
 -- ---- the lines, slot by slot
 

@@ -16,31 +16,19 @@ fn parts_fit(bundle: &[u8]) -> bool
     let occupancy = octets::u32_at(bundle, 4) as usize;
     let blocking = octets::u32_at(bundle, 12) as usize;
     let yard = octets::u32_at(bundle, 20) as usize;
-    if occupancy != 32 {
-        return false;
-    }
-    if blocking != 32 + 2 * (octets::u32_at(bundle, 8) as usize) {
-        return false;
-    }
-    if yard != blocking + 4 * (octets::u32_at(bundle, 16) as usize) {
-        return false;
-    }
-    yard <= bundle.len()
+    occupancy == 32
+        && blocking == 32 + 2 * (octets::u32_at(bundle, 8) as usize)
+        && yard == blocking + 4 * (octets::u32_at(bundle, 16) as usize)
+        && yard <= bundle.len()
 }
 
 pub fn bundle_fits(bundle: &[u8]) -> bool
     ensures { result ≡ bundle_fits bundle.now }
 {
-    if 65536 < bundle.len() {
-        return false;
-    }
-    if octets::u32_at(bundle, 0) as usize != bundle.len() {
-        return false;
-    }
-    if 1 < octets::u16_at(bundle, 30) {
-        return false;
-    }
-    parts_fit(bundle)
+    bundle.len() <= 65536
+        && octets::u32_at(bundle, 0) as usize == bundle.len()
+        && octets::u16_at(bundle, 30) <= 1
+        && parts_fit(bundle)
 }
 
 // ---- the parts
@@ -49,10 +37,8 @@ pub fn bundle_fits(bundle: &[u8]) -> bool
 pub fn read_occupancy(occ: &mut [u16], bundle: &[u8])
     ensures { occ.new ≡ listed (length occ.old) (λ i. le_at 2 bundle.now (32 + 2 * i)) }
 {
-    let mut i = 0;
-    while i < occ.len() {
-        occ[i] = octets::u16_at(bundle, 32 + 2 * i);
-        i += 1;
+    for (i, x) in occ.iter_mut().enumerate() {
+        *x = octets::u16_at(bundle, 32 + 2 * i);
     }
 }
 
@@ -60,10 +46,8 @@ pub fn read_blocking(blocking: &mut [u32], bundle: &[u8])
     ensures { blocking.new ≡ listed (length blocking.old) (λ i. le_at 4 bundle.now (blocking_offset bundle.now + 4 * i)) }
 {
     let offset = octets::u32_at(bundle, 12) as usize;
-    let mut i = 0;
-    while i < blocking.len() {
-        blocking[i] = octets::u32_at(bundle, offset + 4 * i);
-        i += 1;
+    for (i, x) in blocking.iter_mut().enumerate() {
+        *x = octets::u32_at(bundle, offset + 4 * i);
     }
 }
 
@@ -80,12 +64,15 @@ pub fn report_slots(yard: &[u8]) -> u32
     ensures { result ≡ report_slots yard.now }
 {
     if yard::yard_fits(yard) {
-        return yard::slot_count(yard);
+        yard::slot_count(yard)
+    } else {
+        0
     }
-    0
 }
 
 // ---- room for the parts: as many as a bundle of 65,536 bytes can have behind its header
+
+// Each room has a function of its own, which has its type and its size, and makes it so that no proof holds its elements.
 
 pub fn occupancy_room() -> [u16; 32752]
     ensures { 32752 ≡ length result }

@@ -17,16 +17,6 @@ use yard_check::{check, yard};
 
 // ---- the line of a slot
 
-// A refused slot's number; 16 + n stands for n.
-fn refusal_of(code: u16) -> u16
-    ensures { result ≡ code - 16 }
-{
-    if code < 16 {
-        return 0;
-    }
-    code - 16
-}
-
 fn put_refused_word(text: &mut [u8], count: usize, number: u16) -> usize
     ensures { Put (refused_word number) (text_of count text.old) (text_of result text.new) }
 {
@@ -34,39 +24,29 @@ fn put_refused_word(text: &mut [u8], count: usize, number: u16) -> usize
     text::put_decimal(text, n, number as u32)
 }
 
+// By the report's code; 16 + n stands for refusal n.
 fn put_code_word(text: &mut [u8], count: usize, code: u16) -> usize
     ensures { Put (code_word code) (text_of count text.old) (text_of result text.new) }
 {
-    if code == 0 {
-        return text::put_bytes(text, count, b"unvisited");
+    match code {
+        0 => text::put_bytes(text, count, b"unvisited"),
+        1 => text::put_bytes(text, count, b"finished"),
+        2 => text::put_bytes(text, count, b"moved"),
+        3 => text::put_bytes(text, count, b"success"),
+        4 => text::put_bytes(text, count, b"blocked"),
+        5 => text::put_bytes(text, count, b"faulty"),
+        _ => put_refused_word(text, count, code.saturating_sub(16)),
     }
-    if code == 1 {
-        return text::put_bytes(text, count, b"finished");
-    }
-    if code == 2 {
-        return text::put_bytes(text, count, b"moved");
-    }
-    if code == 3 {
-        return text::put_bytes(text, count, b"success");
-    }
-    if code == 4 {
-        return text::put_bytes(text, count, b"blocked");
-    }
-    if code == 5 {
-        return text::put_bytes(text, count, b"faulty");
-    }
-    put_refused_word(text, count, refusal_of(code))
 }
 
 // Free of an image, 0 for a bad one.
 fn free_column(image: &[u8], links: u32) -> u16
     ensures { result ≡ free_column image.now links }
 {
-    let fault = image_fault::image_fault(image, links);
-    if fault.number == 0 {
-        return image_reader::free_of(image);
+    match image_fault::image_fault(image, links) {
+        Ok(()) => image_reader::free_of(image),
+        Err(_) => 0,
     }
-    0
 }
 
 // The columns behind the code word: rounds, holder, strays, faults of the report's row, free, and met of that row.
@@ -106,11 +86,9 @@ fn put_slot_lines(
     ensures { Put (slot_lines yard.now report.now links slots) (text_of count text.old) (text_of result text.new) }
 {
     let mut n = count;
-    let mut i: u16 = 0;
-    while i < slots {
+    for i in 0..slots {
         let free = free_column(yard::part(yard, TrainIdx((i + 1) as u32)), links);
         n = put_slot_line(text, n, i, report, free);
-        i += 1;
     }
     n
 }
@@ -139,9 +117,10 @@ fn put_yes_or_no(text: &mut [u8], count: usize, flag: bool) -> usize
     ensures { Put (yes_or_no flag) (text_of count text.old) (text_of result text.new) }
 {
     if flag {
-        return text::put_bytes(text, count, b"yes");
+        text::put_bytes(text, count, b"yes")
+    } else {
+        text::put_bytes(text, count, b"no")
     }
-    text::put_bytes(text, count, b"no")
 }
 
 fn put_done(text: &mut [u8], count: usize, slots: u32, deadlock: bool, next: u16) -> usize

@@ -12,7 +12,7 @@ use Rattle.link_rules.specs.AdvanceRewind.{is_link, mark_refusal, update_links_b
 use Rattle.link_rules.specs.Refusals.{no_refusal, refused, or_else}
 use Rattle.link_rules.specs.declared.link_idx.LinkIdx.{LinkIdx}
 use Rattle.link_rules.specs.declared.link_idx.TrainIdx.{TrainIdx}
-use Rattle.link_rules.specs.declared.refusal.Answer.TheVariants as Marks
+use Rattle.link_rules.specs.Refusals as Marks
 use Rattle.link_rules.specs.declared.refusal.Refusal.{Refusal}
 use Rattle.link_rules.proofs.MarkLaws.{number_by, by_tests}
 use Rattle.disp_structs.specs.Listed.{listed}

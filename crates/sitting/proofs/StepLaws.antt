@@ -12,8 +12,7 @@ use borrow.Author.Tests.{leb-true, leb-false, eq-eqb, ne_eqb, lt-leb}
 use Rattle.link_rules.specs.Octets.{le_at}
 use Rattle.link_rules.specs.Refusals.{or_else, refused, refused_unless}
 use Rattle.link_rules.specs.AdvanceRewind.{Marked, marked, mark_of}
-use Rattle.link_rules.specs.declared.refusal.Answer as Mark
-use Rattle.link_rules.specs.declared.refusal.Answer.TheVariants as Marks
+use Rattle.link_rules.specs.Refusals as Mark
 use Rattle.link_rules.specs.declared.refusal.Refusal.{Refusal}
 use Rattle.disp_structs.specs.Listed.{listed}
 use Rattle.disp_structs.proofs.ListedLaws.{listed-length}
@@ -22,7 +21,7 @@ use Rattle.image_fault.proofs.AcceptLaws.{or_else_clean}
 use Rattle.update_definition.specs.UpdateImage.{links_below, blocking_fault, order_fault, call_fault}
 use Rattle.image_fault.specs.declared.Widths.TheVariants.{Narrow}
 use Rattle.yard_check.specs.Yard.{slot_count, yard_fault}
-use Rattle.yard_check.specs.Check.{CheckArgs, wide_rows, held_fault, slots_fault, report_fault, check_fault, Answer, Refused, Checked, check, check_done, checked_by, checked_with}
+use Rattle.yard_check.specs.Check.{CheckArgs, wide_rows, held_fault, slots_fault, report_fault, check_fault, Refused, Checked, check, check_done, checked_by, checked_with}
 use Rattle.yard_check.specs.Checks.{answered_of, checked_of}
 use Rattle.yard_check.specs.declared.check.Answer as Code
 use Rattle.yard_check.specs.Calls.{World, Call, Outcome, run, run_all}
@@ -193,31 +192,27 @@ all_made r rows table occ yard list occ' yard' list' i e l u n =
 -- ---- the replay
 
 module _ (r table yard occ list : List ℕ) where
-  replay_by : (t : Bool) → replay_fits r (length list) ≡ t → replay_of r table yard occ list ≡ elim t [ true ↦ played (world_of table occ yard) (outcomes_of r (world_of table occ yard)) | false ↦ replayed_of (Marks.Refused (refused 19 0)) yard occ list ]
+  replay_by : (t : Bool) → replay_fits r (length list) ≡ t → replay_of r table yard occ list ≡ elim t [ true ↦ played (world_of table occ yard) (outcomes_of r (world_of table occ yard)) | false ↦ replayed_of (Mark.Refused (refused 19 0)) yard occ list ]
   unfolding replay_of
-  replay_by t e = ap (λ (b : Bool). elim b [ true ↦ played (world_of table occ yard) (outcomes_of r (world_of table occ yard)) | false ↦ replayed_of (Marks.Refused (refused 19 0)) yard occ list ]) e
+  replay_by t e = ap (λ (b : Bool). elim b [ true ↦ played (world_of table occ yard) (outcomes_of r (world_of table occ yard)) | false ↦ replayed_of (Mark.Refused (refused 19 0)) yard occ list ]) e
 
-  pub replay_refused : replay_fits r (length list) ≡ false → replay_of r table yard occ list ≡ replayed_of (Marks.Refused (refused 19 0)) yard occ list
+  pub replay_refused : replay_fits r (length list) ≡ false → replay_of r table yard occ list ≡ replayed_of (Mark.Refused (refused 19 0)) yard occ list
   replay_refused e = replay_by false e
 
   pub replay_played : replay_fits r (length list) ≡ true → replay_of r table yard occ list ≡ played (world_of table occ yard) (outcomes_of r (world_of table occ yard))
   replay_played e = replay_by true e
 
   -- by the tests of the code
-  pub list_unfit : (step_count r ≡ length list → ⊥) → replay_fits r (length list) ≡ false
-  unfolding replay_fits
-  list_unfit h = ap (λ (t : Bool). t && recording_fits r) (ne_eqb (length list) (step_count r) (λ e. h (sym e)))
-
   pub list_fit : (t : Bool) → step_count r ≡ length list → recording_fits r ≡ t → replay_fits r (length list) ≡ t
   unfolding replay_fits
   list_fit t h e = ap (λ (b : Bool). b && recording_fits r) (eq-eqb (length list) (step_count r) (sym h)) ∙ e
 
   pub replay_made : (rows : ℕ) (occ' yard' list' : List ℕ) → replay_fits r (length list) ≡ true → step_count r ≡ length list → rows ≡ report_length yard → AllMade r rows table occ yard list occ' yard' list'
-      → replayed_of Marks.Done yard' occ' list' ≡ replay_of r table yard occ list
+      → replayed_of Mark.Done yard' occ' list' ≡ replay_of r table yard occ list
   replay_made rows occ' yard' list' h n e m =
       let w = world_of table occ yard in
       let same : first_outcomes r rows w (length list) ≡ outcomes_of r w = rw (← n, e) in
       let u : world_of table occ' yard' ≡ last_world w (outcomes_of r w) = m.world ∙ ap (last_world w) same in
       let l : list' ≡ map step_number (outcomes_of r w) = m.numbers ∙ ap (map step_number) same in
-      ap (λ (v : World). replayed_of Marks.Done v.yard v.occupancy list') u
-      ∙ (ap (λ (ns : List ℕ). replayed_of Marks.Done (last_world w (outcomes_of r w)).yard (last_world w (outcomes_of r w)).occupancy ns) l ∙ sym (replay_played h))
+      ap (λ (v : World). replayed_of Mark.Done v.yard v.occupancy list') u
+      ∙ (ap (λ (ns : List ℕ). replayed_of Mark.Done (last_world w (outcomes_of r w)).yard (last_world w (outcomes_of r w)).occupancy ns) l ∙ sym (replay_played h))

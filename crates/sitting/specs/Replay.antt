@@ -3,8 +3,7 @@ use Rattle.std.specs.Prelude.{ℕ, ◌+◌, ◌*◌, Bool, true, false, cond, �
 use Rattle.link_rules.specs.Octets.{le_at}
 use Rattle.link_rules.specs.Network.{all_below}
 use Rattle.link_rules.specs.Refusals.{refused}
-use Rattle.link_rules.specs.declared.refusal.Answer as Mark
-use Rattle.link_rules.specs.declared.refusal.Answer.TheVariants as Marks
+use Rattle.link_rules.specs.Refusals as Mark
 use Rattle.disp_structs.specs.Listed.{listed}
 use Rattle.image_fault.specs.declared.Widths.TheVariants.{Narrow}
 use Rattle.yard_check.specs.Check.{CheckArgs, row_size, Answer, Refused, Erred, Done}
@@ -87,8 +86,8 @@ report_length yard = row_size false * report_slots yard
 -- ---- what is left
 
 abbrev pub mark_number : Mark.Answer → ℕ
-mark_number Marks.Done = 0
-mark_number (Marks.Refused r) = r.number
+mark_number Mark.Done = 0
+mark_number (Mark.Refused r) = r.number
 
 abbrev pub check_number : Answer → ℕ
 check_number (Refused r) = r.number
@@ -116,7 +115,7 @@ pub record Replayed : Type 0 where
 
 -- from the outcome of each call; the list gets each step's refusal
 abbrev pub played : World → List Outcome → Replayed
-played w os = record { answer = Marks.Done; yard = (last_world w os).yard; occupancy = (last_world w os).occupancy; list = map step_number os }
+played w os = record { answer = Mark.Done; yard = (last_world w os).yard; occupancy = (last_world w os).occupancy; list = map step_number os }
 
 abbrev pub world_of : (table occ yard : List ℕ) → World
 world_of table occ yard = record { table = table; occupancy = occ; yard = yard }
@@ -129,4 +128,4 @@ outcomes_of r w = run_all w (calls_of r (report_length w.yard))
 unfoldable pub replay_of : (r table yard occ list : List ℕ) → Replayed
 replay_of r table yard occ list =
     let done = played (world_of table occ yard) (outcomes_of r (world_of table occ yard)) in
-    elim (replay_fits r (length list)) [ true ↦ done | false ↦ record { answer = Marks.Refused (refused 19 0); yard = yard; occupancy = occ; list = list } ]
+    elim (replay_fits r (length list)) [ true ↦ done | false ↦ record { answer = Mark.Refused (refused 19 0); yard = yard; occupancy = occ; list = list } ]

@@ -2,7 +2,7 @@
 use Rattle.std.specs.Prelude.{ℕ, ◌≤◌, ◌≡◌, List, map, length, replicate}
 use Rattle.link_rules.specs.Network.{table_fits}
 use Rattle.link_rules.specs.AdvanceRewind.{mark_of}
-use Rattle.link_rules.specs.declared.refusal.Answer as Mark
+use Rattle.link_rules.specs.Refusals as Mark
 use Rattle.yard_check.specs.Check.{checked_with}
 use Rattle.yard_check.specs.Calls.{World, Outcome, run, run_all}
 use Rattle.sitting.specs.Replay.{check_args, call_of, first_calls, mark_number, check_number, step_number, last_world, world_of, Replayed}

@@ -2,21 +2,19 @@
 // Every function here is proved, the crate assumes nothing of its own, and no public function has a `requires`.
 #![tactic(auto)]
 
-ghost use Rattle.std.specs.Prelude.{◌≡◌, ◌≤◌, ◌<◌, min, length};
+ghost use Rattle.std.specs.Prelude.{◌≡◌, ◌≤◌, ◌<◌, length};
 ghost use Rattle.link_rules.specs.Network.{all_below, table_fits};
-ghost use Rattle.link_rules.specs.Refusals.{refused};
-ghost use Rattle.link_rules.specs.declared.refusal.Answer.TheVariants as Marks;
 ghost use Rattle.yard_check.specs.Checks.{answered_of};
 ghost use Rattle.sitting.specs.Replay.{step_at, mark_fits, check_fits, step_fits, recording_fits, mark_number, check_number, links_from, report_length, replay_of};
 ghost use Rattle.sitting.specs.Steps.{Judges, CheckMade, MarkMade, StepMade, AllMade, replayed_of};
 
 use link_rules::link_idx::{LinkIdx, NarrowTrainIdx};
-use link_rules::refusal::{Answer, Refusal};
+use link_rules::refusal::Refusal;
 use link_rules::{advance_rewind, network, octets};
 use sheet_text::bundle;
 use yard_check::check;
 
-// A record of the recording: kind 0 is a mark or release of link `first` for `train`, kind 1 a check with `count` blocking links from index `first` on, moved train `train`.
+// A record of the recording, its numbers as document 02 lays them out: kind 0 is a mark or release of link `first` for `train`, kind 1 a check with `count` blocking links from index `first` on, moved train `train`.
 #[derive(Clone, Copy)]
 pub struct Step {
     pub kind: u32,
@@ -56,52 +54,30 @@ fn step_at(recording: &[u8], i: u32) -> Step
 fn mark_fits(s: Step) -> bool
     ensures { result ≡ mark_fits s }
 {
-    if s.count != 0 {
-        return false;
-    }
-    if s.begin != 0 {
-        return false;
-    }
-    if s.limit != 0 {
-        return false;
-    }
-    s.local == 0
+    s.count == 0 && s.begin == 0 && s.limit == 0 && s.local == 0
 }
 
 // The sum is taken in 64 bits, where it cannot wrap.
 fn check_fits(s: Step, links: u32) -> bool
     ensures { result ≡ check_fits links s }
 {
-    if s.kind != 1 {
-        return false;
-    }
-    if 1 < s.local {
-        return false;
-    }
-    (s.first as u64) + (s.count as u64) <= links as u64
+    s.kind == 1 && s.local <= 1 && (s.first as u64) + (s.count as u64) <= links as u64
 }
 
 fn step_fits(s: Step, links: u32) -> bool
     ensures { result ≡ step_fits links s }
 {
     if s.kind == 0 {
-        return mark_fits(s);
+        mark_fits(s)
+    } else {
+        check_fits(s, links)
     }
-    check_fits(s, links)
 }
 
 fn steps_fit(recording: &[u8], n: u32, links: u32) -> bool
     ensures { result ≡ all_below n (λ i. step_fits links (step_at recording.now i)) }
 {
-    let mut i: u32 = 0;
-    while i < n {
-        if step_fits(step_at(recording, i), links) {
-            i += 1;
-        } else {
-            return false;
-        }
-    }
-    true
+    (0..n).all(|i| step_fits(step_at(recording, i), links))
 }
 
 // Whether the recording is as document 02 lays it out.
@@ -110,32 +86,19 @@ fn recording_fits(recording: &[u8]) -> bool
 {
     let n = octets::u32_at(recording, 4);
     let links = octets::u32_at(recording, 8);
-    if octets::u32_at(recording, 0) as usize != recording.len() {
-        return false;
-    }
-    if recording.len() != 12 + 20 * (n as usize) + 4 * (links as usize) {
-        return false;
-    }
-    steps_fit(recording, n, links)
+    octets::u32_at(recording, 0) as usize == recording.len()
+        && recording.len() == 12 + 20 * (n as usize) + 4 * (links as usize)
+        && steps_fit(recording, n, links)
 }
 
-fn malformed() -> Answer
-    ensures { result ≡ Marks.Refused (refused 19 0) }
-{
-    Answer::Refused(Refusal {
-        number: 19,
-        place: 0,
-    })
-}
+// ---- the refusal of a step, 0 if there is none: numbers, as the list of document 02 has them
 
-// ---- the refusal of a step, 0 if there is none
-
-fn mark_number(answer: Answer) -> u16
+fn mark_number(answer: Result<(), Refusal>) -> u16
     ensures { result ≡ mark_number answer }
 {
     match answer {
-        Answer::Done => 0,
-        Answer::Refused(r) => r.number,
+        Ok(()) => 0,
+        Err(r) => r.number,
     }
 }
 
@@ -144,8 +107,7 @@ fn check_number(answer: check::Answer) -> u16
 {
     match answer {
         check::Answer::Refused(r) => r.number,
-        check::Answer::Erred(n) => 0,
-        check::Answer::Done { deadlock, next } => 0,
+        _ => 0,
     }
 }
 
@@ -156,10 +118,8 @@ fn read_links(blocking: &mut [u32], recording: &[u8], first: u32)
     ensures { blocking.new ≡ links_from recording.now first (length blocking.old) }
 {
     let at = 12 + 20 * (octets::u32_at(recording, 4) as usize) + 4 * (first as usize);
-    let mut i = 0;
-    while i < blocking.len() {
-        blocking[i] = octets::u32_at(recording, at + 4 * i);
-        i += 1;
+    for (i, x) in blocking.iter_mut().enumerate() {
+        *x = octets::u32_at(recording, at + 4 * i);
     }
 }
 
@@ -187,16 +147,6 @@ fn check_read(
     ))
 }
 
-// One link more than a check takes: a longer list is refused as one of 4,001 is.
-fn links_read(count: u32) -> usize
-    ensures { result ≡ min count 4001 }
-{
-    if count < 4001 {
-        return count as usize;
-    }
-    4001
-}
-
 fn links_room() -> [u32; 4001]
     ensures { 4001 ≡ length result }
 {
@@ -210,13 +160,14 @@ fn report_room() -> [u8; 1260]
     [0u8; 1260]
 }
 
+// One link more than a check takes is read: a longer list is refused as one of 4,001 is.
 fn check_step(recording: &[u8], s: Step, rows: usize, yard: &mut [u8], occupancy: &[u16]) -> u16
     requires { rows ≤ 1260 }
     ensures { CheckMade recording.now s s.count rows yard.old occupancy.now result yard.new }
 {
     let mut blocking = links_room();
     let mut report = report_room();
-    let n = links_read(s.count);
+    let n = s.count.min(4001) as usize;
     check_read(
         recording,
         s,
@@ -256,9 +207,10 @@ fn make_step(
     ensures { StepMade recording.now j.report s table.now occupancy.old yard.old result occupancy.new yard.new }
 {
     if s.kind == 0 {
-        return mark_step(table, j.table, occupancy, s);
+        mark_step(table, j.table, occupancy, s)
+    } else {
+        check_step(recording, s, j.report, yard, occupancy)
     }
-    check_step(recording, s, j.report, yard, occupancy)
 }
 
 // A refused step changes nothing, and the replay goes on.
@@ -273,12 +225,9 @@ fn make_steps(
     requires { Judges table.now j × (length list.old < 4294967296) }
     ensures { AllMade recording.now j.report table.now occupancy.old yard.old list.old occupancy.new yard.new list.new }
 {
-    let mut i: usize = 0;
-    while i < list.len() {
+    for (i, number) in list.iter_mut().enumerate() {
         let s = step_at(recording, i as u32);
-        let number = make_step(recording, s, table, j, yard, occupancy);
-        list[i] = number;
-        i += 1;
+        *number = make_step(recording, s, table, j, yard, occupancy);
     }
 }
 
@@ -298,20 +247,17 @@ pub fn replay(
     yard: &mut [u8],
     occupancy: &mut [u16],
     list: &mut [u16],
-) -> Answer
+) -> Result<(), Refusal>
     ensures { replayed_of result yard.new occupancy.new list.new
         ≡ replay_of recording.now table.now yard.old occupancy.old list.old }
 {
-    if octets::u32_at(recording, 4) as usize != list.len() {
-        return malformed();
+    if octets::u32_at(recording, 4) as usize != list.len() || !recording_fits(recording) {
+        return Err(Refusal::new(19));
     }
-    if recording_fits(recording) {
-        let j = Judged {
-            table: network::table_fits(table),
-            report: report_length(yard),
-        };
-        make_steps(recording, table, j, yard, occupancy, list);
-        return Answer::Done;
-    }
-    malformed()
+    let j = Judged {
+        table: network::table_fits(table),
+        report: report_length(yard),
+    };
+    make_steps(recording, table, j, yard, occupancy, list);
+    Ok(())
 }

@@ -5,9 +5,11 @@ use mathlib.Core.List.{List, [], ◌∷◌, ◌++◌, map}
 use Prim.Native.Nat.{ℕ, zero, suc, ◌+◌, ◌-◌, ◌≤◌, ◌<◌}
 use native.Mathlib.Omega.{arith}
 use lib.Dec.{ltb, leb, eqb}
-use lib.ListN.{length, get_or, set, take, drop, length-map, length-set, length-append, length-drop, get_or-map}
-use lib.Seq.{take-suc, get_or-drop, get_or-set_same, get_or-set_other, length-take-le, paste}
-use borrow.Author.Tests.{ltb-true, ltb-false, le-leb, lt-leb, eq-eqb, ne_eqb}
+use Rattle.std.proofs.Common.{replicate}
+use Rattle.std.proofs.lemmas.List.{length-replicate, get_or-replicate}
+use lib.ListN.{length, get_or, take, drop, length-map, length-append, length-drop, get_or-map}
+use lib.Seq.{take-suc, get_or-drop, length-take-le, paste}
+use borrow.Author.Tests.{le-leb, lt-leb, eq-eqb, ne_eqb}
 use Rattle.link_rules.specs.declared.link_idx.TrainIdx.{TrainIdx}
 use Rattle.disp_structs.specs.Train.{Train}
 use Rattle.disp_structs.specs.Values.{same_est}
@@ -18,37 +20,19 @@ use Rattle.disp_structs.specs.declared.TrainIdxsView.{TrainIdxsView}
 use Rattle.image.specs.Image.{diverge_room, node_at}
 use Rattle.image.specs.declared.codec.PathHeader.{PathHeader}
 use Rattle.free_path.specs.Base.{Res, ok, no, ◌>>=◌, ◌>>◌, need, room, at, part, slice, is_empty, walk_from}
-use Rattle.free_path.specs.Columns.{answer, div_at, tr, trains}
+use Rattle.free_path.specs.Columns.{div_at, tr, trains}
 use Rattle.disp_structs.specs.Listed.{listed}
 use Rattle.disp_structs.proofs.ListedLaws.{listed-length, listed-map, listed_same}
-use Rattle.free_path.proofs.CountLaws.{bind_stop, bind_go, part-take, length_part}
+use Rattle.free_path.proofs.CountLaws.{part-take, length_part}
 use Rattle.update_definition.specs.State.{Round, Search, Turn, ends, again, with_div_nodes, with_free, view_of, diverging}
 use Rattle.update_definition.specs.Look.{Here}
 use Rattle.update_definition.specs.Moves.{trains_of, change_diverge}
 use Rattle.splice.specs.Read.{Stands, Changes, at_split, base_end, change_at}
 use Rattle.update_definition.specs.ImageTrain.{train_of}
-use Rattle.splice.specs.Parts.{filled}
 use Rattle.splice.specs.declared.Reached.{Reached}
 use Rattle.splice.proofs.ListLaws.{need_and, at-need, paste_in, walk_found}
 
 -- ---- the new diverge nodes
-
-pub filled-length : (k x a : ℕ) (xs : List ℕ) → length (filled k x a xs) ≡ length xs
-unfolding filled
-filled-length zero x a xs = refl
-filled-length (suc k) x a xs = length-set (filled k x a xs) (a + k) x ∙ filled-length k x a xs
-
-filled_at : (k x a : ℕ) (xs : List ℕ) (i : ℕ) → a + k ≤ length xs → i < k → get_or (filled k x a xs) (a + i) 0 ≡ x
-unfolding filled
-filled_at zero x a xs i h l = absurd (omega arith)
-filled_at (suc k) x a xs i h l = go (ltb i k) refl (filled_at k x a xs i (omega arith))
-  where
-    go : (t : Bool) → ltb i k ≡ t → (i < k → get_or (filled k x a xs) (a + i) 0 ≡ x) → get_or (set (filled k x a xs) (a + k) x) (a + i) 0 ≡ x
-    go true e r = let z = ltb-true i k e in get_or-set_other (filled k x a xs) (a + k) (a + i) x 0 (λ q. omega arith) ∙ r z
-    go false e r =
-        let z = ltb-false i k e in
-        let w : i ≡ k = omega arith in
-        rw w (get_or-set_same (filled k x a xs) (a + k) x 0 (omega (arith, filled-length k x a xs)))
 
 listed_array : {A : Type 0} (n : ℕ) (xs : List A) (d : A) → n ≤ length xs → take n xs ≡ listed n (λ i. get_or xs i d)
 unfolding listed
@@ -56,12 +40,12 @@ listed_array zero xs d h = refl
 listed_array (suc n) xs d h = take-suc xs n d (omega arith) ∙ ap (λ (l : List _). l ++ (get_or xs n d ∷ [])) (listed_array n xs d (omega arith))
 
 module _ (pool nt nn nt1 nn1 : List ℕ) (count b e node : ℕ) (h : b ≤ e) (l : e ≤ count) (m : count ≤ length pool) (t : 1 + (e - b) ≤ length nt) (n : 1 + (e - b) ≤ length nn)
-    (p : nt1 ≡ paste nt 1 (drop b pool) (e - b)) (q : nn1 ≡ filled (e - b) node 1 nn) where
+    (p : nt1 ≡ paste nt 1 (drop b pool) (e - b)) (q : nn1 ≡ paste nn 1 (replicate (e - b) node) (e - b)) where
   one : (i : ℕ) → i < e - b → div_at nt1 nn1 (1 + i) ≡ record { train_idx = tr (get_or pool (b + i) 0); disp_node_idx = node }
   one i k =
       ap₂ (λ (x y : ℕ). record { train_idx = tr x; disp_node_idx = y })
       (ap (λ (x : List ℕ). get_or x (1 + i) 0) p ∙ paste_in nt 1 (drop b pool) (e - b) t (simp length-drop (omega arith)) i k ∙ get_or-drop b pool i 0)
-      (ap (λ (x : List ℕ). get_or x (1 + i) 0) q ∙ filled_at (e - b) node 1 nn i n k)
+      (ap (λ (x : List ℕ). get_or x (1 + i) 0) q ∙ paste_in nn 1 (replicate (e - b) node) (e - b) n (omega (arith, length-replicate (e - b) node)) i k ∙ get_or-replicate (e - b) i node 0 k)
 
   trains_are : part b e (take count (trains pool)) ≡ listed (e - b) (λ i. tr (get_or pool (b + i) 0))
   trains_are =
@@ -159,9 +143,9 @@ module _ (b e : ℕ) (xs : List TrainIdx) where
   unfolding slice
   both h l = rw (le-leb b e h, le-leb e (length xs) l)
 
-pub base_found : (img : List ℕ) (n : ℕ) (p : Reached) (alt : EstIdx) (dt dn : List ℕ) (m c k : ℕ) → answer c k ≡ base_end img n p alt dt dn m → c ≡ 0 → (p.div_split + 1 ≤ k) × (k < m)
+pub base_found : (img : List ℕ) (n : ℕ) (p : Reached) (alt : EstIdx) (dt dn : List ℕ) (m k : ℕ) → ok k ≡ base_end img n p alt dt dn m → (p.div_split + 1 ≤ k) × (k < m)
 unfolding base_end
-base_found img n p alt dt dn m c k w z = go (at_split img n p alt dn m) (ap (λ (x : ℕ). answer x k) (sym z) ∙ w)
+base_found img n p alt dt dn m k w = go (at_split img n p alt dn m) w
   where
     go : (t : Bool) → ok k ≡ (need t >> walk_from (λ d. not (eqb d.disp_node_idx p.split)) (listed m (div_at dt dn)) (p.div_split + 1)) → (p.div_split + 1 ≤ k) × (k < m)
     go true e = walk_found (λ d. not (eqb d.disp_node_idx p.split)) m (div_at dt dn) (p.div_split + 1) k (sym e)
@@ -174,12 +158,11 @@ module _ (img dt dn pool : List ℕ) (h : PathHeader) (p : Reached) (alt : EstId
   from : whole img dt dn h p alt taken ≡ change_diverge r here s
   from = sym (change-is r here s ∙ rw (st.train, empty-is s.disp_path_new, ch.path, ch.divs, st.join, st.split, st.div_split_of, ch.alt, ch.train_idxs, ch.view))
 
-  module _ (c k : ℕ) (w : answer c k ≡ base_end img h.path_count p alt dt dn h.diverge_count) where
-    pub change_base : (c ≡ 0 → ⊥) → (x : Turn) → answer c x ≡ change_diverge r here s
-    change_base q x = bind_stop c k (change_at (train_of img dt dn h) p taken) w q x ∙ sym (opened img dt dn h p alt taken) ∙ from
+  pub change_base : (n : ℕ) → no n ≡ base_end img h.path_count p alt dt dn h.diverge_count → no n ≡ change_diverge r here s
+  change_base n w = ap (λ m. m >>= change_at (train_of img dt dn h) p taken) w ∙ sym (opened img dt dn h p alt taken) ∙ from
 
-    pub change_found : c ≡ 0 → change_at (train_of img dt dn h) p taken k ≡ change_diverge r here s
-    change_found z = bind_go c k (change_at (train_of img dt dn h) p taken) w z ∙ sym (opened img dt dn h p alt taken) ∙ from
+  pub change_found : (k : ℕ) → ok k ≡ base_end img h.path_count p alt dt dn h.diverge_count → change_at (train_of img dt dn h) p taken k ≡ change_diverge r here s
+  change_found k w = ap (λ m. m >>= change_at (train_of img dt dn h) p taken) w ∙ sym (opened img dt dn h p alt taken) ∙ from
 
 -- ---- the trains of the view in place of the diverge nodes up to k
 

@@ -10,13 +10,12 @@ use lib.Seq.{get_or-set_same, get_or-set_other, length-take-le, take-take}
 use borrow.Author.Tests.{le-leb, lt-leb}
 use Rattle.disp_structs.specs.declared.DivergeNode.{DivergeNode}
 use Rattle.free_path.specs.Base.{Res, ok, no, ◌>>=◌, ◌>>◌, need, room, walk_from}
-use Rattle.free_path.specs.Columns.{answer, div_at, tr}
+use Rattle.free_path.specs.Columns.{div_at, tr}
 use Rattle.disp_structs.specs.Listed.{listed}
-use Rattle.free_path.proofs.CountLaws.{bind_stop, answer-no}
 use Rattle.disp_structs.proofs.ListedLaws.{listed-length, listed_at, listed-set}
 use Rattle.update_definition.specs.Join.{Divs, shift_divs, update_div_nodes}
 use Rattle.splice.specs.Parts.{from_on, Splices}
-use Rattle.splice.proofs.ListLaws.{listed_splice, listed-drop, found_at, from_stopped, from_went, from-turn, from-no, from_end}
+use Rattle.splice.proofs.ListLaws.{listed_splice, listed-drop, walk_found, from_stopped, from_went, from-turn, from-no, from_end}
 
 -- ---- a shift
 
@@ -77,7 +76,7 @@ module _ (dt dn dt1 dn1 nt nn : List ℕ) (at c k m : ℕ) where
 
 -- ---- update_div_nodes
 
-module _ (Q : ℕ) (divs new : List DivergeNode) (split base join k : ℕ) where
+module _ (Q : ℕ) (divs new : List DivergeNode) (split base join : ℕ) where
   abbrev shifted : List DivergeNode → Res (List DivergeNode)
   shifted ds = cond (eqb base join) (ok ds) (shift_divs join base ds)
 
@@ -87,11 +86,11 @@ module _ (Q : ℕ) (divs new : List DivergeNode) (split base join k : ℕ) where
       (room (leb (length (take split divs ++ drop 1 new ++ rest)) Q) >>
       ok (record { div_nodes = take split divs ++ drop 1 new ++ rest; div_idx_split = split + length new - 1 }))
 
-  update_walk : (c : ℕ) → answer c k ≡ walk_from (λ d. ltb base d.disp_node_idx) divs split → (c ≡ 0 → ⊥) → (x : Divs) → answer c x ≡ update_div_nodes Q divs new split base join
+  update_walk : (n : ℕ) → no n ≡ walk_from (λ d. ltb base d.disp_node_idx) divs split → no n ≡ update_div_nodes Q divs new split base join
   unfolding update_div_nodes spliced
-  update_walk c w h x = bind_stop c k (λ k. shifted (drop k divs) >>= spliced) w h x
+  update_walk n w = ap (λ m. m >>= λ k. shifted (drop k divs) >>= spliced) w
 
-  module _ (w : walk_from (λ d. ltb base d.disp_node_idx) divs split ≡ ok k) where
+  module _ (k : ℕ) (w : walk_from (λ d. ltb base d.disp_node_idx) divs split ≡ ok k) where
     onward : update_div_nodes Q divs new split base join ≡ (shifted (drop k divs) >>= spliced)
     unfolding update_div_nodes spliced
     onward = rw w
@@ -122,29 +121,24 @@ module _ (Q : ℕ) (divs new : List DivergeNode) (split base join k : ℕ) where
             let y : s ≡ split + suc c - 1 = omega arith in
             rw (ending, spliced, l, z, total, le-leb (split + c + length rest) Q h, p, y)
 
--- the same over columns, as a code, an index and the shifted nodes say
-module _ (Q m c : ℕ) (f f1 g : ℕ → DivergeNode) (split base join cw k : ℕ) (w : answer cw k ≡ walk_from (λ d. ltb base d.disp_node_idx) (listed m f) split) where
-  pub div_walk : (cw ≡ 0 → ⊥) → (x : Divs) → answer cw x ≡ update_div_nodes Q (listed m f) (listed c g) split base join
-  div_walk h x = update_walk Q (listed m f) (listed c g) split base join k cw w h x
+-- the same over columns
+module _ (Q m c : ℕ) (f g : ℕ → DivergeNode) (split base join : ℕ) where
+  pub div_walk : (n : ℕ) → no n ≡ walk_from (λ d. ltb base d.disp_node_idx) (listed m f) split → no n ≡ update_div_nodes Q (listed m f) (listed c g) split base join
+  div_walk n w = update_walk Q (listed m f) (listed c g) split base join n w
 
-  module _ (z : cw ≡ 0) (s : ℕ) (e : answer s (listed m f1) ≡ from_on (λ ds. cond (eqb base join) (ok ds) (shift_divs join base ds)) k (listed m f)) where
-    at_k : walk_from (λ d. ltb base d.disp_node_idx) (listed m f) split ≡ ok k
-    at_k = sym w ∙ ap (λ (x : ℕ). answer x k) z
-
+  module _ (k : ℕ) (w : ok k ≡ walk_from (λ d. ltb base d.disp_node_idx) (listed m f) split) where
     bounds : (split ≤ k) × (k < m)
-    bounds = found_at (λ d. ltb base d.disp_node_idx) m f split cw k w z
+    bounds = walk_found (λ d. ltb base d.disp_node_idx) m f split k (sym w)
 
-    pub div_shift : (s ≡ 0 → ⊥) → (x : Divs) → answer s x ≡ update_div_nodes Q (listed m f) (listed c g) split base join
-    div_shift q x =
-        answer-no s x q
-        ∙ update_shift Q (listed m f) (listed c g) split base join k at_k s (from_stopped (λ ds. cond (eqb base join) (ok ds) (shift_divs join base ds)) (listed m f) (listed m f1) k s e q)
+    pub div_shift : (s : ℕ) → no s ≡ from_on (λ ds. cond (eqb base join) (ok ds) (shift_divs join base ds)) k (listed m f) → no s ≡ update_div_nodes Q (listed m f) (listed c g) split base join
+    div_shift s e = update_shift Q (listed m f) (listed c g) split base join k (sym w) s (from_stopped (λ ds. cond (eqb base join) (ok ds) (shift_divs join base ds)) (listed m f) k s e)
 
-    module _ (o : s ≡ 0) where
+    module _ (f1 : ℕ → DivergeNode) (e : ok (listed m f1) ≡ from_on (λ ds. cond (eqb base join) (ok ds) (shift_divs join base ds)) k (listed m f)) where
       went : (cond (eqb base join) (ok (drop k (listed m f))) (shift_divs join base (drop k (listed m f))) ≡ ok (drop k (listed m f1))) × (take k (listed m f1) ≡ take k (listed m f))
-      went = from_went (λ ds. cond (eqb base join) (ok ds) (shift_divs join base ds)) (listed m f) (listed m f1) k s e o (omega (arith, bounds.1, listed-length m f))
+      went = from_went (λ ds. cond (eqb base join) (ok ds) (shift_divs join base ds)) (listed m f) k (listed m f1) e (omega (arith, bounds.1, listed-length m f))
 
       pub div_none : c ≡ 0 → no 13 ≡ update_div_nodes Q (listed m f) (listed c g) split base join
-      div_none q = update_none Q (listed m f) (listed c g) split base join k at_k (drop k (listed m f1)) went.0 (listed-length c g ∙ q)
+      div_none q = update_none Q (listed m f) (listed c g) split base join k (sym w) (drop k (listed m f1)) went.0 (listed-length c g ∙ q)
 
       module _ (q : c ≡ 0 → ⊥) where
         some : length (listed c g) ≡ suc (c - 1)
@@ -161,12 +155,12 @@ module _ (Q m c : ℕ) (f f1 g : ℕ → DivergeNode) (split base join cw k : �
         size = rw (length-drop, listed-length m f1)
 
         pub div_full : Q < split + (c - 1) + (m - k) → no 11 ≡ update_div_nodes Q (listed m f) (listed c g) split base join
-        div_full h = update_full Q (listed m f) (listed c g) split base join k at_k (drop k (listed m f1)) went.0 (c - 1) some left (rw size h)
+        div_full h = update_full Q (listed m f) (listed c g) split base join k (sym w) (drop k (listed m f1)) went.0 (c - 1) some left (rw size h)
 
         pub div_done : split + (c - 1) + (m - k) ≤ Q → (ds : List DivergeNode) → ds ≡ take split (listed m f1) ++ listed (c - 1) (λ i. g (1 + i)) ++ drop k (listed m f1)
             → ok (record { div_nodes = ds; div_idx_split = split + (c - 1) }) ≡ update_div_nodes Q (listed m f) (listed c g) split base join
         div_done h ds d =
             let first : take split (listed m f1) ≡ take split (listed m f) = sym (take-take split k (listed m f1) bounds.0) ∙ ap (take split) went.1 ∙ take-take split k (listed m f) bounds.0 in
             let new : listed (c - 1) (λ i. g (1 + i)) ≡ drop 1 (listed c g) = sym (listed-drop c 1 g (omega (arith, some, listed-length c g))) in
-            update_done Q (listed m f) (listed c g) split base join k at_k (drop k (listed m f1)) went.0 (c - 1) some left (rw size h) ds (split + (c - 1))
+            update_done Q (listed m f) (listed c g) split base join k (sym w) (drop k (listed m f1)) went.0 (c - 1) some left (rw size h) ds (split + (c - 1))
             (d ∙ ap₂ (λ (x y : List DivergeNode). x ++ y ++ drop k (listed m f1)) first new) refl

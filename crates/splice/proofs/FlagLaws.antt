@@ -7,6 +7,7 @@ use Prim.Native.Nat.{ℕ, zero, suc, ◌+◌, ◌-◌, ◌≤◌, ◌<◌}
 use native.Mathlib.Omega.{arith}
 use native.Mathlib.Numerals.{add-one}
 use lib.Dec.{eqb, leb}
+use mir.Val.{bool_byte}
 use lib.ListN.{length, replicate, get_or, set, take, drop, length-set}
 use lib.Seq.{get_or-set_same, get_or-set_other, take_all}
 use borrow.Author.Tests.{eqb-true, eqb-false, ne_eqb, le-leb, lt-leb}
@@ -17,12 +18,23 @@ use Rattle.disp_structs.specs.declared.DispNode.{DispNode}
 use Rattle.disp_structs.specs.declared.LinkEvent.{LinkEvent}
 use Rattle.free_path.specs.Base.{Res, ok, no, ◌>>=◌, ◌>>◌, need, any, part, slice}
 use Rattle.free_path.specs.LinkOptType.{links_on_path, contains}
-use Rattle.free_path.specs.Columns.{answer, link}
+use Rattle.std.specs.Prelude.{Result, Ok, Err}
+use Rattle.free_path.specs.Columns.{link}
+use Rattle.free_path.specs.Halts.{number_of, answered}
+use Rattle.free_path.specs.declared.halt.Halt.{Halt}
+use Rattle.free_path.specs.declared.halt.Halt.TheVariants.{Panic}
 use Rattle.disp_structs.specs.Listed.{listed}
 use Rattle.free_path.proofs.ColumnLaws.{listed-from}
 use Rattle.disp_structs.proofs.ListedLaws.{listed-length}
 use Rattle.update_definition.specs.Join.{without, remove_links, insert_links}
 use Rattle.splice.specs.Flags.{bit, Holds, Below, links_of, flag_event, put, is_put, exchanged, exchange_links, Gives}
+
+pub byte_bit : (b : Bool) → bool_byte b ≡ bit b
+byte_bit true = refl
+byte_bit false = refl
+
+not_halted : (h : Halt) → ◌≡◌ {A = Result (Unit {0}) Halt} (Ok tt) (Err h) → ⊥
+not_halted h e = let z : ◌≡◌ {A = ℕ} 0 1 = cc in absurd (omega arith)
 
 none : (l : List LinkIdx) → l ++ links_on_path [] ≡ links_on_path [] ++ l
 unfolding links_on_path
@@ -147,18 +159,18 @@ other-bit false true q = refl
 other-bit false false q = absurd (q refl)
 
 module _ (b : Bool) (flags : List ℕ) (on : List LinkIdx) (e : LinkEvent) (h : Holds flags on) where
-  pub event-none : is_arrive e.est_type ≡ false → Gives 0 flags (exchanged b (links_of e) on)
+  pub event-none : is_arrive e.est_type ≡ false → Gives (Ok tt) flags (exchanged b (links_of e) on)
   unfolding exchanged
   event-none a = rw a (refl, h)
 
   module _ (a : is_arrive e.est_type ≡ true) (l : e.link_idx.0 < 4000) where
-    pub event-no : (out : List ℕ) → get_or flags e.link_idx.0 0 ≡ bit b → Gives 13 out (exchanged b (links_of e) on)
+    pub event-no : (out : List ℕ) → get_or flags e.link_idx.0 0 ≡ bit b → Gives (Err Panic) out (exchanged b (links_of e) on)
     unfolding exchanged
     event-no out q =
         let s : is_put b (contains on e.link_idx) ≡ true = same_bit b (contains on e.link_idx) (sym (h.each e.link_idx.0 l) ∙ q) in
         rw (a, s) (refl, refl)
 
-    pub event-put : (get_or flags e.link_idx.0 0 ≡ bit b → ⊥) → Gives 0 (set flags e.link_idx.0 (bit b)) (exchanged b (links_of e) on)
+    pub event-put : (get_or flags e.link_idx.0 0 ≡ bit b → ⊥) → Gives (Ok tt) (set flags e.link_idx.0 (bit b)) (exchanged b (links_of e) on)
     unfolding exchanged
     event-put q =
         let s : is_put b (contains on e.link_idx) ≡ false = other-bit b (contains on e.link_idx) (λ z. q (h.each e.link_idx.0 l ∙ z)) in
@@ -172,23 +184,23 @@ module _ (b : Bool) (f : ℕ → DispNode) (n i e : ℕ) where
     steps : exchanged b (links_on_path (part i e (listed n f))) on ≡ (exchanged b (links_of (f i).link_event) on >>= λ x. exchanged b (links_on_path (part (i + 1) e (listed n f))) x)
     steps = ap (λ l. exchanged b l on) (links-part h m) ∙ exchanged-append b (links_of (f i).link_event) (links_on_path (part (i + 1) e (listed n f))) on
 
-    pub range_next : (flags out : List ℕ) (code c : ℕ) → c ≡ 0 → Gives c flags (exchanged b (links_of (f i).link_event) on)
-        → ((x : List LinkIdx) → Holds flags x → Gives code out (exchanged b (links_on_path (part (i + 1) e (listed n f))) x))
-        → Gives code out (exchanged b (links_on_path (part i e (listed n f))) on)
-    range_next flags out code c z g k = rw steps (go (exchanged b (links_of (f i).link_event) on) g)
+    pub range_next : (flags out : List ℕ) (r : Result (Unit {0}) Halt) → Gives (Ok tt) flags (exchanged b (links_of (f i).link_event) on)
+        → ((x : List LinkIdx) → Holds flags x → Gives r out (exchanged b (links_on_path (part (i + 1) e (listed n f))) x))
+        → Gives r out (exchanged b (links_on_path (part i e (listed n f))) on)
+    range_next flags out r g k = rw steps (go (exchanged b (links_of (f i).link_event) on) g)
       where
-        go : (r : Res (List LinkIdx)) → Gives c flags r → Gives code out (r >>= λ x. exchanged b (links_on_path (part (i + 1) e (listed n f))) x)
+        go : (m : Res (List LinkIdx)) → Gives (Ok tt) flags m → Gives r out (m >>= λ x. exchanged b (links_on_path (part (i + 1) e (listed n f))) x)
         go (ok x) g = k x g.1
-        go (no j) g = absurd (omega (arith, g.0))
+        go (no j) g = absurd (not_halted Panic g.0)
 
-    pub range_stop : (flags out : List ℕ) (c : ℕ) → (c ≡ 0 → ⊥) → Gives c flags (exchanged b (links_of (f i).link_event) on) → Gives c out (exchanged b (links_on_path (part i e (listed n f))) on)
-    range_stop flags out c z g = rw steps (go (exchanged b (links_of (f i).link_event) on) g)
+    pub range_stop : (flags out : List ℕ) (h : Halt) → Gives (Err h) flags (exchanged b (links_of (f i).link_event) on) → Gives (Err h) out (exchanged b (links_on_path (part i e (listed n f))) on)
+    range_stop flags out h g = rw steps (go (exchanged b (links_of (f i).link_event) on) g)
       where
-        go : (r : Res (List LinkIdx)) → Gives c flags r → Gives c out (r >>= λ x. exchanged b (links_on_path (part (i + 1) e (listed n f))) x)
-        go (ok x) g = absurd (z g.0)
+        go : (m : Res (List LinkIdx)) → Gives (Err h) flags m → Gives (Err h) out (m >>= λ x. exchanged b (links_on_path (part (i + 1) e (listed n f))) x)
+        go (ok x) g = absurd (not_halted h (sym g.0))
         go (no j) g = g
 
-  pub range_end : (flags : List ℕ) (on : List LinkIdx) → e ≤ i → Holds flags on → Gives 0 flags (exchanged b (links_on_path (part i e (listed n f))) on)
+  pub range_end : (flags : List ℕ) (on : List LinkIdx) → e ≤ i → Holds flags on → Gives (Ok tt) flags (exchanged b (links_on_path (part i e (listed n f))) on)
   unfolding exchanged links_on_path
   range_end flags on h g = let k : e - i ≡ 0 = omega arith in rw k (refl, g)
 
@@ -236,35 +248,35 @@ module _ (f g : ℕ → DispNode) (n k split base : ℕ) where
     unfolding exchange_links slice
     both = rw (listed-length n f, le-leb split base a, le-leb base n b, remove_is) (ap (λ (h : List LinkIdx → Res (Unit {0})). exchanged false (links_on_path (part split base (listed n f))) (links_on_path (listed n f)) >>= h) (fun_ext (λ on. ap (λ r. r >>= λ _. ok (tt {0})) (insert_is (links_on_path (listed k g)) on))))
 
-    pub exchange_no : (c : ℕ) (flags : List ℕ) → (c ≡ 0 → ⊥) → Gives c flags (exchanged false (links_on_path (part split base (listed n f))) (links_on_path (listed n f))) → answer c (tt {0}) ≡ exchange_links (listed n f) (listed k g) split base
-    exchange_no c flags z q = rw both (go (exchanged false (links_on_path (part split base (listed n f))) (links_on_path (listed n f))) q)
+    pub exchange_no : (h : Halt) (flags : List ℕ) → Gives (Err h) flags (exchanged false (links_on_path (part split base (listed n f))) (links_on_path (listed n f))) → no (number_of h) ≡ exchange_links (listed n f) (listed k g) split base
+    exchange_no h flags q = rw both (go (exchanged false (links_on_path (part split base (listed n f))) (links_on_path (listed n f))) q)
       where
-        go : (r : Res (List LinkIdx)) → Gives c flags r → answer c (tt {0}) ≡ (r >>= λ on. exchanged true (links_on_path (listed k g)) on >>= λ _. ok (tt {0}))
-        go (ok on) q = absurd (z q.0)
-        go (no j) q = rw (q.0, q.1)
+        go : (r : Res (List LinkIdx)) → Gives (Err h) flags r → no (number_of h) ≡ (r >>= λ on. exchanged true (links_on_path (listed k g)) on >>= λ _. ok (tt {0}))
+        go (ok on) q = absurd (not_halted h (sym q.0))
+        go (no j) q = ap (answered {A = Unit {0}}) q.0 ∙ ap no (sym q.1)
 
-    pub exchange_yes : (c d : ℕ) (flags out : List ℕ) → c ≡ 0 → Gives c flags (exchanged false (links_on_path (part split base (listed n f))) (links_on_path (listed n f)))
-        → ((on : List LinkIdx) → Holds flags on → Gives d out (exchanged true (links_on_path (part 0 k (listed k g))) on)) → answer d (tt {0}) ≡ exchange_links (listed n f) (listed k g) split base
-    exchange_yes c d flags out z q r = rw both (go (exchanged false (links_on_path (part split base (listed n f))) (links_on_path (listed n f))) q)
+    pub exchange_yes : (d : Result (Unit {0}) Halt) (flags out : List ℕ) → Gives (Ok tt) flags (exchanged false (links_on_path (part split base (listed n f))) (links_on_path (listed n f)))
+        → ((on : List LinkIdx) → Holds flags on → Gives d out (exchanged true (links_on_path (part 0 k (listed k g))) on)) → answered d ≡ exchange_links (listed n f) (listed k g) split base
+    exchange_yes d flags out q r = rw both (go (exchanged false (links_on_path (part split base (listed n f))) (links_on_path (listed n f))) q)
       where
         whole : part 0 k (listed k g) ≡ listed k g
         whole = take_all (k - 0) (listed k g) (omega (arith, listed-length k g))
 
-        last : (m : Res (List LinkIdx)) → Gives d out m → answer d (tt {0}) ≡ (m >>= λ _. ok (tt {0}))
-        last (ok on) q = rw q.0
-        last (no j) q = rw (q.0, q.1)
+        last : (m : Res (List LinkIdx)) → Gives d out m → answered d ≡ (m >>= λ _. ok (tt {0}))
+        last (ok on) q = ap answered q.0
+        last (no j) q = ap answered q.0 ∙ ap no (sym q.1)
 
-        go : (m : Res (List LinkIdx)) → Gives c flags m → answer d (tt {0}) ≡ (m >>= λ on. exchanged true (links_on_path (listed k g)) on >>= λ _. ok (tt {0}))
+        go : (m : Res (List LinkIdx)) → Gives (Ok tt) flags m → answered d ≡ (m >>= λ on. exchanged true (links_on_path (listed k g)) on >>= λ _. ok (tt {0}))
         go (ok on) q = last (exchanged true (links_on_path (listed k g)) on) (rw whole at (r on q.1))
-        go (no j) q = absurd (omega (arith, q.0))
+        go (no j) q = absurd (not_halted Panic q.0)
 
 -- ---- what a callee says of equal values
 
 pub holds_eq : (a b : List ℕ) (on : List LinkIdx) → a ≡ b → Holds b on → Holds a on
 holds_eq a b on e h = rw e h
 
-pub gives_eq : (c : ℕ) (a b : List ℕ) (r : Res (List LinkIdx)) → a ≡ b → Gives c b r → Gives c a r
+pub gives_eq : (c : Result (Unit {0}) Halt) (a b : List ℕ) (r : Res (List LinkIdx)) → a ≡ b → Gives c b r → Gives c a r
 gives_eq c a b r e g = rw e g
 
-pub event_eq : (b : Bool) (c : ℕ) (flags : List ℕ) (on : List LinkIdx) (v w : LinkEvent) → v ≡ w → Below w → (Below v → Gives c flags (exchanged b (links_of v) on)) → Gives c flags (exchanged b (links_of w) on)
+pub event_eq : (b : Bool) (c : Result (Unit {0}) Halt) (flags : List ℕ) (on : List LinkIdx) (v w : LinkEvent) → v ≡ w → Below w → (Below v → Gives c flags (exchanged b (links_of v) on)) → Gives c flags (exchanged b (links_of w) on)
 event_eq b c flags on v w e l g = subst (λ (y : LinkEvent). Gives c flags (exchanged b (links_of y) on)) e (g (subst (λ (y : LinkEvent). Below y) (sym e) l))

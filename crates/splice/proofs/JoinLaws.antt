@@ -1,12 +1,10 @@
 -- A join, step by step: what stops it, and the train that it leaves. Assumes nothing.
-use mathlib.Core.Path.{◌≡◌, refl, sym, ap, ap₂, ◌∙◌}
-use mathlib.Core.Bool.{Bool, cond}
+use mathlib.Core.Path.{◌≡◌, refl, sym, ap, ◌∙◌}
+use mathlib.Core.Bool.{cond}
 use mathlib.Core.List.{List, ◌++◌}
-use Prim.Native.Nat.{ℕ, zero, suc, ◌≤◌, ◌<◌}
+use Prim.Native.Nat.{ℕ, ◌<◌}
 use native.Mathlib.Omega.{arith}
-use lib.Dec.{ltb}
 use lib.ListN.{take, drop}
-use borrow.Author.Tests.{lt-ltb, le-ltb}
 use Rattle.disp_structs.specs.Train.{Train}
 use Rattle.disp_structs.specs.Values.{same_est, plus, minus, near, zero_metres}
 use Rattle.disp_structs.specs.declared.Metres.{Metres}
@@ -17,74 +15,19 @@ use Rattle.image.specs.Image.{est_count, diverge_room, est_at, node_at}
 use Rattle.image.specs.declared.codec.PathHeader.{PathHeader}
 use Rattle.free_path.specs.Base.{Res, ok, no, ◌>>=◌, ◌>>◌, walk_from, at, slice}
 use Rattle.free_path.specs.LinkOptType.{links_on_path}
-use Rattle.free_path.specs.Columns.{answer, div_at}
+use Rattle.free_path.specs.Columns.{div_at}
 use Rattle.disp_structs.specs.Listed.{listed}
-use Rattle.free_path.proofs.CountLaws.{bind_stop, bind_go, answer-no}
 use Rattle.update_definition.specs.State.{Round, Search, Turn, ends, again, with_path, with_div_nodes, with_front_back, with_fixed, with_free}
 use Rattle.update_definition.specs.Look.{Here}
-use Rattle.update_definition.specs.Join.{Ends, Divs, remove_links, insert_links, shift_offsets, new_ends, move_front_back, update_free_path_helpers, update_div_nodes, free_is_correct, splice_at, join}
+use Rattle.update_definition.specs.Join.{Divs, remove_links, insert_links, shift_offsets, move_front_back, update_free_path_helpers, update_div_nodes, free_is_correct, splice_at, join}
 use Rattle.splice.specs.Read.{Kept, Stands, Joins, finish_at}
 use Rattle.update_definition.specs.ImageTrain.{train_of}
-use Rattle.splice.specs.Parts.{from_on, moves_of}
+use Rattle.splice.specs.Parts.{from_on}
 use Rattle.splice.specs.Flags.{exchange_links}
 use Rattle.splice.specs.declared.Reached.{Reached}
 use Rattle.disp_structs.proofs.ListedLaws.{listed_same}
 use Rattle.splice.proofs.ListLaws.{read_in}
 use Rattle.splice.proofs.NodeLaws.{kept-le, kept-count, kept-est}
-
--- ---- answers handed on
-
-pub handed : {A B : Type 0} (c : ℕ) (a : A) (g : A → B) (m : Res A) → answer c a ≡ m → answer c (g a) ≡ (m >>= λ x. ok (g x))
-handed c a g m e = go c ∙ ap (λ r. r >>= λ x. ok (g x)) e
-  where
-    go : (c : ℕ) → answer c (g a) ≡ (answer c a >>= λ x. ok (g x))
-    go zero = refl
-    go (suc n) = refl
-
-pub told : {A : Type 0} {m : Res A} (c d : ℕ) (x : A) → c ≡ d → answer d x ≡ m → answer c x ≡ m
-told c d x e r = ap (λ (n : ℕ). answer n x) e ∙ r
-
--- a refused answer counts no moves
-pub moves_none : (c j n : ℕ) (b : Res ℕ) → (c ≡ 0 → ⊥) → 0 ≡ moves_of c j n b
-moves_none zero j n b q = absurd (q refl)
-moves_none (suc c) j n b q = refl
-
-module _ {A B : Type 0} (c : ℕ) (a : A) {m : Res A} (k : Res B) (e : answer c a ≡ m) where
-  then_stop : (c ≡ 0 → ⊥) → (b : B) → answer c b ≡ (m >> k)
-  then_stop h b = answer-no c b h ∙ ap (λ (x : Res A). x >> k) (sym (answer-no c a h) ∙ e)
-
-  then_go : c ≡ 0 → k ≡ (m >> k)
-  then_go h = ap (λ (x : Res A). x >> k) (ap (λ (n : ℕ). answer n a) (sym h) ∙ e)
-
--- ---- front and back
-
-sides : Train → List DispNode → List DispNode → ℕ → ℕ → ℕ → ℕ → Res Train
-sides t path new split base front back =
-    cond (ltb back front)
-    (new_ends path new split base back front >>= λ x. ok (with_front_back t x.high x.low))
-    (new_ends path new split base front back >>= λ x. ok (with_front_back t x.low x.high))
-
-module _ (t : Train) (path new : List DispNode) (split base front back : ℕ) (p : t.disp_path ≡ path) (f : t.disp_node_idx_front ≡ front) (b : t.disp_node_idx_back ≡ back) where
-  sides_is : move_front_back t new split base ≡ sides t path new split base front back
-  unfolding sides
-  sides_is =
-      ap (λ (x : List DispNode). sides t x new split base t.disp_node_idx_front t.disp_node_idx_back) p
-      ∙ ap₂ (λ (x y : ℕ). sides t path new split base x y) f b
-
-  module _ (c low high : ℕ) where
-    pub back-first : back < front → answer c (record { low = low; high = high }) ≡ new_ends path new split base back front → answer c (with_front_back t high low) ≡ move_front_back t new split base
-    unfolding sides
-    back-first h e =
-        handed c (record { low = low; high = high }) (λ (x : Ends). with_front_back t x.high x.low) (new_ends path new split base back front) e
-        ∙ ap (λ (q : Bool). cond q (new_ends path new split base back front >>= λ x. ok (with_front_back t x.high x.low)) (new_ends path new split base front back >>= λ x. ok (with_front_back t x.low x.high))) (sym (lt-ltb back front h))
-        ∙ sym sides_is
-
-    pub front-first : front ≤ back → answer c (record { low = low; high = high }) ≡ new_ends path new split base front back → answer c (with_front_back t low high) ≡ move_front_back t new split base
-    unfolding sides
-    front-first h e =
-        handed c (record { low = low; high = high }) (λ (x : Ends). with_front_back t x.low x.high) (new_ends path new split base front back) e
-        ∙ ap (λ (q : Bool). cond q (new_ends path new split base back front >>= λ x. ok (with_front_back t x.high x.low)) (new_ends path new split base front back >>= λ x. ok (with_front_back t x.low x.high))) (sym (le-ltb back front h))
-        ∙ sym sides_is
 
 -- ---- update_free_path_helpers
 
@@ -120,24 +63,21 @@ module _ (t : Train) (new : List DispNode) (split base : ℕ) (change : Metres) 
       then_three (shifted change (drop base t.disp_path) >>= λ rest. sided (take base t.disp_path ++ rest)) (slice t.disp_path split base) (λ old. remove_links (links_on_path old) (links_on_path t.disp_path)) (λ on. insert_links (links_on_path new) on)
       ∙ ap (λ r. exchange_links t.disp_path new split base >>= λ _. r) (through (shifted change (drop base t.disp_path)))
 
-  module _ (path path1 : List DispNode) (p : t.disp_path ≡ path) (c : ℕ) (e : answer c (tt {0}) ≡ exchange_links path new split base) where
-    links : answer c (tt {0}) ≡ exchange_links t.disp_path new split base
-    links = e ∙ ap (λ x. exchange_links x new split base) (sym p)
+  module _ (path : List DispNode) (p : t.disp_path ≡ path) where
+    pub helped_links : (n : ℕ) → no n ≡ exchange_links path new split base → no n ≡ update_free_path_helpers t new split base change
+    helped_links n e = ap (λ r. r >>= moved) (e ∙ ap (λ x. exchange_links x new split base) (sym p)) ∙ sym helpers_is
 
-    pub helped_links : (c ≡ 0 → ⊥) → (x : Train) → answer c x ≡ update_free_path_helpers t new split base change
-    helped_links h x = bind_stop c (tt {0}) moved links h x ∙ sym helpers_is
-
-    module _ (z : c ≡ 0) (s : ℕ) (f : answer s path1 ≡ from_on (shifted change) base path) where
-      offsets : answer s path1 ≡ from_on (shifted change) base t.disp_path
-      offsets = f ∙ ap (λ x. from_on (shifted change) base x) (sym p)
-
-      pub helped_offsets : (s ≡ 0 → ⊥) → (x : Train) → answer s x ≡ update_free_path_helpers t new split base change
+    module _ (e : ok (tt {0}) ≡ exchange_links path new split base) where
+      linked : (from_on (shifted change) base t.disp_path >>= sided) ≡ update_free_path_helpers t new split base change
       unfolding moved
-      helped_offsets h x = bind_stop s path1 sided offsets h x ∙ bind_go c (tt {0}) moved links z ∙ sym helpers_is
+      linked = ap (λ r. r >>= moved) (e ∙ ap (λ x. exchange_links x new split base) (sym p)) ∙ sym helpers_is
 
-      pub helped_sides : s ≡ 0 → (d : ℕ) (u : Train) → answer d u ≡ move_front_back (with_path t path1) new split base → answer d u ≡ update_free_path_helpers t new split base change
-      unfolding moved sided
-      helped_sides h d u g = g ∙ bind_go s path1 sided offsets h ∙ bind_go c (tt {0}) moved links z ∙ sym helpers_is
+      pub helped_offsets : (n : ℕ) → no n ≡ from_on (shifted change) base path → no n ≡ update_free_path_helpers t new split base change
+      helped_offsets n f = ap (λ r. r >>= sided) (f ∙ ap (λ x. from_on (shifted change) base x) (sym p)) ∙ linked
+
+      pub helped_sides : (path1 : List DispNode) → ok path1 ≡ from_on (shifted change) base path → (m : Res Train) → m ≡ move_front_back (with_path t path1) new split base → m ≡ update_free_path_helpers t new split base change
+      unfolding sided
+      helped_sides path1 f m g = g ∙ ap (λ r. r >>= sided) (f ∙ ap (λ x. from_on (shifted change) base x) (sym p)) ∙ linked
 
 -- ---- a join at base, over what it reads of a round, of where the search stands and of the search
 
@@ -156,27 +96,27 @@ module _ (t : Train) (new : List DispNode) (news : List DivergeNode) (split ds f
   spliced : Res Turn
   spliced = at t.disp_path base >>= helped
 
-  module _ (n : ℕ) (f : ℕ → DispNode) (p : t.disp_path ≡ listed n f) (l : base < n) (xc : ℕ) (u : Train) (e : answer xc u ≡ update_free_path_helpers t new split base (minus (plus curr.offset est.dist_to_next) (f base).offset)) where
+  module _ (n : ℕ) (f : ℕ → DispNode) (p : t.disp_path ≡ listed n f) (l : base < n) where
     opened : helped (f base) ≡ spliced
     unfolding spliced
     opened = read_in n f base helped l ∙ ap (λ (l : List DispNode). at l base >>= helped) (sym p)
 
-    stop_helpers : (xc ≡ 0 → ⊥) → (x : Turn) → answer xc x ≡ spliced
+    stop_helpers : (x : ℕ) → no x ≡ update_free_path_helpers t new split base (minus (plus curr.offset est.dist_to_next) (f base).offset) → no x ≡ spliced
     unfolding helped
-    stop_helpers h x = bind_stop xc u divided e h x ∙ opened
+    stop_helpers x e = ap (λ r. r >>= divided) e ∙ opened
 
-    module _ (y : xc ≡ 0) (dc : ℕ) (d : Divs) (g : answer dc d ≡ update_div_nodes u.diverge_room u.div_nodes news ds base jn) where
+    module _ (u : Train) (e : ok u ≡ update_free_path_helpers t new split base (minus (plus curr.offset est.dist_to_next) (f base).offset)) where
       entered : divided u ≡ spliced
       unfolding helped
-      entered = bind_go xc u divided e y ∙ opened
+      entered = ap (λ r. r >>= divided) e ∙ opened
 
-      stop_divs : (dc ≡ 0 → ⊥) → (x : Turn) → answer dc x ≡ spliced
+      stop_divs : (x : ℕ) → no x ≡ update_div_nodes u.diverge_room u.div_nodes news ds base jn → no x ≡ spliced
       unfolding divided
-      stop_divs h x = bind_stop dc d (finish u) g h x ∙ entered
+      stop_divs x g = ap (λ r. r >>= finish u) g ∙ entered
 
-      ended : dc ≡ 0 → finish u d ≡ spliced
+      ended : (d : Divs) → ok d ≡ update_div_nodes u.diverge_room u.div_nodes news ds base jn → finish u d ≡ spliced
       unfolding divided
-      ended q = bind_go dc d (finish u) g q ∙ entered
+      ended d g = ap (λ r. r >>= finish u) g ∙ entered
 
 splice_is : (r : Round) (here : Here) (s : Search) (base : ℕ) → splice_at r here s base ≡ spliced r.train s.disp_path_new s.div_nodes_new s.idx_split s.div_idx_split s.disp_node_idx_free here.idx_join_new here.disp_node_curr here.est_curr base
 unfolding splice_at spliced helped divided finish
@@ -208,39 +148,40 @@ train-left img2 img dt dn dt1 dn1 h k l =
 -- ---- the end of a join
 
 module _ (img fresh dt dn : List ℕ) (h : PathHeader) (p : Reached) (base d : ℕ) (img2 : List ℕ) (total : ℕ)
-    (o : listed total (node_at img2) ≡ take p.split (listed h.path_count (node_at img)) ++ listed p.new_count (node_at fresh) ++ drop base (listed h.path_count (node_at img)))
-    (fc : ℕ) (k : answer fc (tt {0}) ≡ free_is_correct (listed total (node_at img2)) p.free) where
-  right : answer fc (tt {0}) ≡ free_is_correct (take p.split (listed h.path_count (node_at img)) ++ listed p.new_count (node_at fresh) ++ drop base (listed h.path_count (node_at img))) p.free
-  right = k ∙ ap (λ (l : List DispNode). free_is_correct l p.free) o
+    (o : listed total (node_at img2) ≡ take p.split (listed h.path_count (node_at img)) ++ listed p.new_count (node_at fresh) ++ drop base (listed h.path_count (node_at img))) where
+  abbrev left_train : Res Turn
+  left_train = ok (ends (again (with_fixed (with_path (train_of img dt dn h) (take p.split (listed h.path_count (node_at img)) ++ listed p.new_count (node_at fresh) ++ drop base (listed h.path_count (node_at img)))) p.free) p.join d))
 
-  pub finish-free : (fc ≡ 0 → ⊥) → (x : Turn) → answer fc x ≡ finish_at (train_of img dt dn h) (listed p.new_count (node_at fresh)) p base d
+  right : free_is_correct (listed total (node_at img2)) p.free ≡ free_is_correct (take p.split (listed h.path_count (node_at img)) ++ listed p.new_count (node_at fresh) ++ drop base (listed h.path_count (node_at img))) p.free
+  right = ap (λ (l : List DispNode). free_is_correct l p.free) o
+
+  pub finish-free : (n : ℕ) → no n ≡ free_is_correct (listed total (node_at img2)) p.free → no n ≡ finish_at (train_of img dt dn h) (listed p.new_count (node_at fresh)) p base d
   unfolding finish_at train_of
-  finish-free q x = then_stop fc (tt {0}) _ right q x
+  finish-free n k = ap (λ r. r >> left_train) (k ∙ right)
 
-  pub finish-done : fc ≡ 0 → Kept img2 img
+  pub finish-done : ok (tt {0}) ≡ free_is_correct (listed total (node_at img2)) p.free → Kept img2 img
       → ok (ends (again (train_of img2 dt dn (record { path_count = total; diverge_count = h.diverge_count; fixed = p.free; free = p.free; front = h.front; back = h.back })) p.join d))
       ≡ finish_at (train_of img dt dn h) (listed p.new_count (node_at fresh)) p base d
   unfolding finish_at train_of
-  finish-done q l =
+  finish-done k l =
       ap (λ (v : Train). ok (ends (again v p.join d)))
       (train-left img2 img dt dn dt dn h (record { path_count = total; diverge_count = h.diverge_count; fixed = p.free; free = p.free; front = h.front; back = h.back }) l
       ∙ ap (λ (x : List DispNode). with_fixed (with_path (train_of img dt dn h) x) p.free) o)
-      ∙ then_go fc (tt {0}) _ right q
+      ∙ ap (λ r. r >> left_train) (k ∙ right)
 
 -- ---- a join
 
 module _ (img dt dn : List ℕ) (h : PathHeader) (p : Reached) (est : EstTime) (r : Round) (here : Here) (s : Search) (st : Stands img dt dn h p est r here s) where
-  module _ (c b : ℕ) (w : answer c b ≡ walk_from (λ x. same_est est.idx_next x.est_idx) (listed h.path_count (node_at img)) p.split_save) where
-    walked : answer c b ≡ walk_from (λ x. same_est here.est_curr.idx_next x.est_idx) r.train.disp_path r.idx_split_save
-    walked = w ∙ sym (rw (st.train, st.save, st.est) (ap (λ (l : List DispNode). walk_from (λ x. same_est est.idx_next x.est_idx) l p.split_save) (path-is img dt dn h)))
+  walked : walk_from (λ x. same_est est.idx_next x.est_idx) (listed h.path_count (node_at img)) p.split_save ≡ walk_from (λ x. same_est here.est_curr.idx_next x.est_idx) r.train.disp_path r.idx_split_save
+  walked = sym (rw (st.train, st.save, st.est) (ap (λ (l : List DispNode). walk_from (λ x. same_est est.idx_next x.est_idx) l p.split_save) (path-is img dt dn h)))
 
-    pub join_walk : (c ≡ 0 → ⊥) → (x : Turn) → answer c x ≡ join r here s
-    unfolding join
-    join_walk q x = bind_stop c b (splice_at r here s) walked q x
+  pub join_walk : (n : ℕ) → no n ≡ walk_from (λ x. same_est est.idx_next x.est_idx) (listed h.path_count (node_at img)) p.split_save → no n ≡ join r here s
+  unfolding join
+  join_walk n w = ap (λ m. m >>= splice_at r here s) (w ∙ walked)
 
-    pub join_found : c ≡ 0 → splice_at r here s b ≡ join r here s
-    unfolding join
-    join_found q = bind_go c b (splice_at r here s) walked q
+  pub join_found : (b : ℕ) → ok b ≡ walk_from (λ x. same_est est.idx_next x.est_idx) (listed h.path_count (node_at img)) p.split_save → splice_at r here s b ≡ join r here s
+  unfolding join
+  join_found b w = ap (λ m. m >>= splice_at r here s) (w ∙ walked)
 
   module _ (fresh nt nn : List ℕ) (curr : DispNode) (jo : Joins fresh nt nn p curr here s) (base : ℕ) where
     abbrev new : List DispNode
@@ -252,25 +193,22 @@ module _ (img dt dn : List ℕ) (h : PathHeader) (p : Reached) (est : EstTime) (
     from : spliced (train_of img dt dn h) new news p.split p.div_split p.free p.join curr est base ≡ splice_at r here s base
     from = sym (splice_is r here s base ∙ rw (st.train, jo.path, jo.divs, st.split, st.div_split_of, st.free, st.join, jo.curr, st.est))
 
-    module _ (l : base < h.path_count) (img1 : List ℕ) (xc front back : ℕ) (e : answer xc (with_front_back (with_path (train_of img dt dn h) (listed h.path_count (node_at img1))) front back) ≡ update_free_path_helpers (train_of img dt dn h) new p.split base (minus (plus curr.offset est.dist_to_next) (node_at img base).offset)) where
-      abbrev moved-train : Train
-      moved-train = with_front_back (with_path (train_of img dt dn h) (listed h.path_count (node_at img1))) front back
+    module _ (l : base < h.path_count) where
+      pub splice_helpers : (n : ℕ) → no n ≡ update_free_path_helpers (train_of img dt dn h) new p.split base (minus (plus curr.offset est.dist_to_next) (node_at img base).offset) → no n ≡ splice_at r here s base
+      splice_helpers n e = stop_helpers (train_of img dt dn h) new news p.split p.div_split p.free p.join curr est base h.path_count (node_at img) (path-is img dt dn h) l n e ∙ from
 
-      pub splice_helpers : (xc ≡ 0 → ⊥) → (x : Turn) → answer xc x ≡ splice_at r here s base
-      splice_helpers q x = stop_helpers (train_of img dt dn h) new news p.split p.div_split p.free p.join curr est base h.path_count (node_at img) (path-is img dt dn h) l xc moved-train e q x ∙ from
+      module _ (img1 : List ℕ) (front back : ℕ) (e : ok (with_front_back (with_path (train_of img dt dn h) (listed h.path_count (node_at img1))) front back) ≡ update_free_path_helpers (train_of img dt dn h) new p.split base (minus (plus curr.offset est.dist_to_next) (node_at img base).offset)) where
+        abbrev moved-train : Train
+        moved-train = with_front_back (with_path (train_of img dt dn h) (listed h.path_count (node_at img1))) front back
 
-      module _ (y : xc ≡ 0) (dt1 dn1 : List ℕ) (dc count split1 : ℕ) (g : answer dc (record { div_nodes = listed count (div_at dt1 dn1); div_idx_split = split1 }) ≡ update_div_nodes (diverge_room img) (listed h.diverge_count (div_at dt dn)) news p.div_split base p.join) where
-        abbrev left : Divs
-        left = record { div_nodes = listed count (div_at dt1 dn1); div_idx_split = split1 }
-
-        pub splice_divs : (dc ≡ 0 → ⊥) → (x : Turn) → answer dc x ≡ splice_at r here s base
+        pub splice_divs : (n : ℕ) → no n ≡ update_div_nodes (diverge_room img) (listed h.diverge_count (div_at dt dn)) news p.div_split base p.join → no n ≡ splice_at r here s base
         unfolding train_of
-        splice_divs q x = stop_divs (train_of img dt dn h) new news p.split p.div_split p.free p.join curr est base h.path_count (node_at img) (path-is img dt dn h) l xc moved-train e y dc left g q x ∙ from
+        splice_divs n g = stop_divs (train_of img dt dn h) new news p.split p.div_split p.free p.join curr est base h.path_count (node_at img) (path-is img dt dn h) l moved-train e n g ∙ from
 
-        pub splice_end : dc ≡ 0 → Kept img1 img
+        pub splice_end : (dt1 dn1 : List ℕ) (count split1 : ℕ) → ok (record { div_nodes = listed count (div_at dt1 dn1); div_idx_split = split1 }) ≡ update_div_nodes (diverge_room img) (listed h.diverge_count (div_at dt dn)) news p.div_split base p.join → Kept img1 img
             → finish_at (train_of img1 dt1 dn1 (record { path_count = h.path_count; diverge_count = count; fixed = h.fixed; free = h.free; front = front; back = back })) new p base split1 ≡ splice_at r here s base
         unfolding train_of finish_at finish
-        splice_end q k =
+        splice_end dt1 dn1 count split1 g k =
             ap (λ (v : Train). finish_at v new p base split1)
             (train-left img1 img dt dn dt1 dn1 h (record { path_count = h.path_count; diverge_count = count; fixed = h.fixed; free = h.free; front = front; back = back }) k)
-            ∙ ended (train_of img dt dn h) new news p.split p.div_split p.free p.join curr est base h.path_count (node_at img) (path-is img dt dn h) l xc moved-train e y dc left g q ∙ from
+            ∙ ended (train_of img dt dn h) new news p.split p.div_split p.free p.join curr est base h.path_count (node_at img) (path-is img dt dn h) l moved-train e (record { div_nodes = listed count (div_at dt1 dn1); div_idx_split = split1 }) g ∙ from

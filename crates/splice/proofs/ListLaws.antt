@@ -8,13 +8,19 @@ use native.Mathlib.Omega.{arith}
 use native.Mathlib.Nat.{add-zero, add-suc}
 use native.Mathlib.Numerals.{add-one}
 use lib.Dec.{ltb}
+use Rattle.std.specs.Prelude.{Option, Some, None, Result, Ok, Err, IfOk}
+use Rattle.std.specs.List.{find, range_with_len}
+use Rattle.std.proofs.lemmas.Slice.{put_mid-paste}
+use borrow.Rule.Slice.PartMut.{mid_of, put_mid}
+use Rattle.std.specs.Option.{ok_or, option_map}
+use Rattle.free_path.specs.Halts.{answered}
+use Rattle.free_path.specs.declared.halt.Halt.{Halt}
+use Rattle.free_path.specs.declared.halt.Halt.TheVariants.{Panic}
 use lib.ListN.{length, get_or, take, drop, set, length-append, length-drop, take-append-drop, drop_of_length-le, get_or-append}
-use lib.Seq.{take_at, drop_at, get_or-take, get_or-drop, get_or-append-add, length-take-le, length_paste_head, paste, paste-suc, length-paste, take_all, drop-cons, drop-set-lt, take-suc-set, append_snoc}
+use lib.Seq.{take_at, drop_at, get_or-take, get_or-drop, get_or-append-add, length-take-le, length_paste_head, paste, paste-suc, take_all, take-take, drop-cons, drop-set-lt, take-suc-set, append_snoc}
 use borrow.Author.Tests.{ltb-true, ltb-false}
 use Rattle.free_path.specs.Base.{Res, ok, no, ◌>>=◌, ◌>>◌, need, at, before, steps_to, walk_from}
-use Rattle.free_path.specs.Columns.{answer}
 use Rattle.disp_structs.specs.Listed.{listed}
-use Rattle.free_path.proofs.CountLaws.{answer-no}
 use Rattle.splice.specs.Parts.{Splices, from_on}
 use Rattle.free_path.proofs.ColumnLaws.{listed_read, listed_out}
 use Rattle.disp_structs.proofs.ListedLaws.{listed-length, listed_at, listed_same, listed-take}
@@ -111,6 +117,31 @@ module _ {A : Type 0} (p : A → Bool) where
           (omega arith, omega arith)
       go (no j) h q = let z : ◌≡◌ {A = ℕ} 0 1 = cc in absurd (omega arith)
 
+  -- the first of the numbers from i on that passes
+  abbrev found : Option ℕ → Res ℕ
+  found None = no 13
+  found (Some k) = ok k
+
+  pub found_walk : (n : ℕ) (f : ℕ → A) (k i : ℕ) → n - i ≡ k → found (find (λ j. p (f j)) (range_with_len i k)) ≡ walk_from p (listed n f) i
+  found_walk n f zero i e = sym (walk_none p n f i (omega arith))
+  found_walk n f (suc k) i e = go (p (f i)) refl (found_walk n f k (i + 1) (omega arith))
+    where
+      go : (t : Bool) → p (f i) ≡ t → found (find (λ j. p (f j)) (range_with_len (i + 1) k)) ≡ walk_from p (listed n f) (i + 1) → found (cond t (Some i) (find (λ j. p (f j)) (range_with_len (i + 1) k))) ≡ walk_from p (listed n f) i
+      go true h w = sym (walk_hit p n f i (omega arith) h)
+      go false h w = w ∙ walk_miss p n f i (omega arith) h
+
+  -- the same as `find` answers it, or a panic
+  pub walk_answer : (n : ℕ) (f : ℕ → A) (i : ℕ) (r : Option ℕ) → option_map (λ j. j) r ≡ find (λ j. p (f j)) (range_with_len i (n - i)) → answered (ok_or r Panic) ≡ walk_from p (listed n f) i
+  walk_answer n f i r e = same r ∙ ap found e ∙ found_walk n f (n - i) i refl
+    where
+      same : (r : Option ℕ) → answered (ok_or r Panic) ≡ found (option_map (λ j. j) r)
+      same None = refl
+      same (Some j) = refl
+
+  pub walk_below : (n : ℕ) (f : ℕ → A) (i : ℕ) (r : Result ℕ Halt) → answered r ≡ walk_from p (listed n f) i → IfOk r (λ j. j ≤ n)
+  walk_below n f i (Ok j) e = let b = walk_found n f i j (sym e) in omega (arith, b.1)
+  walk_below n f i (Err h) e = tt
+
 -- ---- blocks
 
 pub need_and : {B : Type 0} (a b : Bool) (r : Res B) → (need (a && b) >> r) ≡ (need a >> (need b >> r))
@@ -141,37 +172,18 @@ module _ {A : Type 0} (F : List A → Res (List A)) (step : A → Res A) (nil : 
       go (ok ys) = ap ok (append_snoc (take i xs) y ys)
       go (no n) = refl
 
+-- what `xs[a..].copy_from_slice(&zs[b..])` leaves, over n entries
+pub part_copied : (xs ys zs : List ℕ) (a k b m n : ℕ) → ys ≡ mid_of b m zs → n ≡ k → n ≡ m → b + m ≤ length zs → put_mid a k xs ys ≡ paste xs a (drop b zs) n
+part_copied xs ys zs a k b m n e p q l =
+    put_mid-paste a k xs ys (mid_of b m zs) n e p (q ∙ sym (length-take-le m (drop b zs) (simp length-drop (omega arith))))
+    ∙ ap (λ (z : List ℕ). take a xs ++ z ++ drop (a + n) xs) (take-take n m (drop b zs) (omega arith))
+
 -- one entry more of a copy
 pub copy_turn : (d src : List ℕ) (b a j : ℕ) → a + j < length src → b + j < length d → set (paste d b (drop a src) j) (b + j) (get_or src (a + j) 0) ≡ paste d b (drop a src) (j + 1)
 copy_turn d src b a j h l =
     ap (λ (x : ℕ). set (paste d b (drop a src) j) (b + j) x) (sym (get_or-drop a src j 0))
     ∙ paste-suc d b (drop a src) j 0 l (simp length-drop (omega arith))
     ∙ ap (λ (n : ℕ). paste d b (drop a src) n) (sym (add-one j))
-
--- C entries of fresh from B on, and behind them those of col from K up to M, go to col at A
-module _ (col fresh col1 fresh1 : List ℕ) (A B C K M : ℕ) (k : K ≤ M) (m : M ≤ length col) (a : A + C + (M - K) ≤ length col) (b : B + C + (M - K) ≤ length fresh) (e : fresh1 ≡ paste fresh (B + C) (drop K col) (M - K)) (f : col1 ≡ paste col A (drop B fresh1) (C + (M - K))) where
-  tail_fits : M - K ≤ length (drop K col)
-  tail_fits = simp length-drop (omega arith)
-
-  fresh_length : length fresh1 ≡ length fresh
-  fresh_length = ap length e ∙ length-paste fresh (B + C) (drop K col) (M - K) b tail_fits
-
-  all_fits : C + (M - K) ≤ length (drop B fresh1)
-  all_fits = simp length-drop (omega (arith, fresh_length))
-
-  inside : (i : ℕ) → i < C + (M - K) → get_or col1 (A + i) 0 ≡ get_or fresh1 (B + i) 0
-  inside i h = ap (λ (l : List ℕ). get_or l (A + i) 0) f ∙ paste_in col A (drop B fresh1) (C + (M - K)) (omega arith) all_fits i h ∙ get_or-drop B fresh1 i 0
-
-  pub column_splice : Splices (λ i. get_or col1 i 0) (λ i. get_or col i 0) (λ i. get_or fresh (B + i) 0) A C K M
-  column_splice =
-      record {
-        first = λ i h. ap (λ (l : List ℕ). get_or l i 0) f ∙ paste_before col A (drop B fresh1) (C + (M - K)) (omega arith) all_fits i h;
-        new = λ i h. inside i (omega arith) ∙ ap (λ (l : List ℕ). get_or l (B + i) 0) e ∙ paste_before fresh (B + C) (drop K col) (M - K) b tail_fits (B + i) (omega arith);
-        rest = λ i h.
-            let x : A + C + i ≡ A + (C + i) = omega arith in
-            let y : B + (C + i) ≡ B + C + i = omega arith in
-            ap (λ (n : ℕ). get_or col1 n 0) x ∙ inside (C + i) (omega arith) ∙ ap₂ (λ (l : List ℕ) (n : ℕ). get_or l n 0) e y ∙ paste_in fresh (B + C) (drop K col) (M - K) b tail_fits i h ∙ get_or-drop K col i 0;
-      }
 
 -- ---- reads of a list by number
 
@@ -195,20 +207,25 @@ from-same xs i = ap ok (sym (take-append-drop i xs))
 
 -- ---- answers
 
--- where a walk stopped, as a code and an index say
-pub found_at : {A : Type 0} (p : A → Bool) (n : ℕ) (f : ℕ → A) (i c k : ℕ) → answer c k ≡ walk_from p (listed n f) i → c ≡ 0 → (i ≤ k) × (k < n)
-found_at p n f i c k e z = walk_found p n f i k (sym e ∙ ap (λ (x : ℕ). answer x k) z)
+-- what holds anyway
+pub if_ok : {A : Type 0} {P : Type 0} (r : Result A Halt) → P → IfOk r (λ _. P)
+if_ok (Ok a) p = p
+if_ok (Err h) p = tt
 
--- entries from k on that went through F, as a code and the list say
-module _ {A : Type 0} (F : List A → Res (List A)) (xs ys : List A) (k s : ℕ) (e : answer s ys ≡ from_on F k xs) where
-  pub from_stopped : (s ≡ 0 → ⊥) → F (drop k xs) ≡ no s
-  from_stopped q = go (F (drop k xs)) (sym (answer-no s ys q) ∙ e)
+pub if_ok_both : {A : Type 0} {P : Type 0} (Q : A → Type 0) (r : Result A Halt) → P → IfOk r Q → IfOk r (λ v. P × Q v)
+if_ok_both Q (Ok a) p q = (p, q)
+if_ok_both Q (Err h) p q = tt
+
+-- entries from k on that went through F
+module _ {A : Type 0} (F : List A → Res (List A)) (xs : List A) (k : ℕ) where
+  pub from_stopped : (s : ℕ) → no s ≡ from_on F k xs → F (drop k xs) ≡ no s
+  from_stopped s e = go (F (drop k xs)) e
     where
       go : (m : Res (List A)) → no s ≡ (m >>= λ r. ok (take k xs ++ r)) → m ≡ no s
       go (ok r) h = let z : ◌≡◌ {A = ℕ} 0 1 = cc in absurd (omega arith)
       go (no n) h = let z : s ≡ n = cc in ap no (sym z)
 
-  module _ (z : s ≡ 0) (l : k ≤ length xs) where
+  module _ (ys : List A) (e : ok ys ≡ from_on F k xs) (l : k ≤ length xs) where
     gone : (m : Res (List A)) → ok ys ≡ (m >>= λ r. ok (take k xs ++ r)) → (m ≡ ok (drop k ys)) × (take k ys ≡ take k xs)
     gone (ok r) h =
         let w : ys ≡ take k xs ++ r = cc in (
@@ -218,4 +235,4 @@ module _ {A : Type 0} (F : List A → Res (List A)) (xs ys : List A) (k s : ℕ)
     gone (no n) h = let w : ◌≡◌ {A = ℕ} 0 1 = cc in absurd (omega arith)
 
     pub from_went : (F (drop k xs) ≡ ok (drop k ys)) × (take k ys ≡ take k xs)
-    from_went = gone (F (drop k xs)) (ap (λ (x : ℕ). answer x ys) (sym z) ∙ e)
+    from_went = gone (F (drop k xs)) e

@@ -1,5 +1,5 @@
 -- links_on_path as 4,000 flags, one for each link. Assumes nothing.
-use Rattle.std.specs.Prelude.{ℕ, ◌<◌, Bool, true, false, cond, not, ◌≡◌, List, [], ◌∷◌, length, get_or, set}
+use Rattle.std.specs.Prelude.{ℕ, ◌<◌, Bool, true, false, cond, not, ◌≡◌, List, [], ◌∷◌, length, get_or, set, Result, Ok, Err}
 use Rattle.link_rules.specs.declared.link_idx.LinkIdx.{LinkIdx}
 use Rattle.disp_structs.specs.Values.{is_arrive}
 use Rattle.disp_structs.specs.declared.LinkEvent.{LinkEvent}
@@ -7,6 +7,8 @@ use Rattle.disp_structs.specs.declared.DispNode.{DispNode}
 use Rattle.free_path.specs.Base.{Res, ok, no, ◌>>=◌, need, slice}
 use Rattle.free_path.specs.LinkOptType.{links_on_path, contains}
 use Rattle.free_path.specs.Columns.{link}
+use Rattle.free_path.specs.declared.halt.Halt.{Halt}
+use Rattle.free_path.specs.declared.halt.Halt.TheVariants.{Panic}
 use Rattle.update_definition.specs.Join.{without, remove_links, insert_links}
 
 abbrev pub bit : Bool → ℕ
@@ -43,10 +45,10 @@ unfoldable pub exchanged : Bool → List LinkIdx → List LinkIdx → Res (List 
 exchanged b [] on = ok on
 exchanged b (l ∷ ls) on = need (not (is_put b (contains on l))) >>= λ _. exchanged b ls (put b on l)
 
--- 0 with flags that hold the set, or 13
-abbrev pub Gives : ℕ → List ℕ → Res (List LinkIdx) → Type 0
-Gives code flags (ok on) = (code ≡ 0) × Holds flags on
-Gives code flags (no n) = (code ≡ 13) × (n ≡ 13)
+-- flags that hold the set, or a panic
+abbrev pub Gives : Result (Unit {0}) Halt → List ℕ → Res (List LinkIdx) → Type 0
+Gives r flags (ok on) = (r ≡ Ok tt) × Holds flags on
+Gives r flags (no n) = (r ≡ Err Panic) × (n ≡ 13)
 
 -- links_on_path in update_free_path_helpers (698-711): the links of the nodes from split up to base go, and those of the new path come
 unfoldable pub exchange_links : List DispNode → List DispNode → ℕ → ℕ → Res (Unit {0})

@@ -1,5 +1,5 @@
 -- What the parts of a splice do to lists and columns. Assumes nothing.
-use Rattle.std.specs.Prelude.{ℕ, zero, suc, ◌+◌, ◌-◌, ◌*◌, ◌^◌, ◌≤◌, ◌<◌, ◌≡◌, List, ◌++◌, length, get_or, take, drop, set, T, eqb, Float, Bool, true, false, cond, not}
+use Rattle.std.specs.Prelude.{ℕ, ◌+◌, ◌-◌, ◌*◌, ◌^◌, ◌≤◌, ◌<◌, ◌≡◌, List, ◌++◌, length, get_or, take, drop, T, eqb, Float, Bool, true, false, cond, not}
 use Rattle.std.proofs.Math.Seq.{paste}
 use Rattle.std.specs.Float.{binary64}
 use Rattle.std.specs.Float.Ieee.{fits, is_nan}
@@ -9,8 +9,6 @@ use Rattle.link_rules.specs.Octets.{put_le}
 use Rattle.image.specs.Image.{est_count, node_place}
 use Rattle.free_path.specs.Base.{Res, ok, no, ◌>>=◌}
 use Rattle.splice.specs.declared.moves.Stretch.{Stretch}
-use Rattle.splice.specs.declared.moves.Part.{Part}
-use Rattle.splice.specs.declared.moves.Part.TheVariants.{Tail, New}
 
 -- the entries from i on go through F
 abbrev pub from_on : {A : Type 0} → (List A → Res (List A)) → ℕ → List A → Res (List A)
@@ -22,11 +20,6 @@ pub record Splices {A : Type 0} (g f h : ℕ → A) (at c k m : ℕ) : Type 0 wh
   pub new : (i : ℕ) → i < c → g (at + i) ≡ h i
   pub rest : (i : ℕ) → i < m - k → g (at + c + i) ≡ f (k + i)
 
--- k entries from a on are x
-unfoldable pub filled : (k x a : ℕ) (xs : List ℕ) → List ℕ
-filled zero x a xs = xs
-filled (suc k) x a xs = set (filled k x a xs) (a + k) x
-
 -- the record that moves after m of k: the last of those left where they go up, else the first
 abbrev pub next_moved : (grown : Bool) (k m : ℕ) → ℕ
 next_moved true k m = k - 1 - m
@@ -36,21 +29,18 @@ next_moved false k m = m
 abbrev pub tail_moves : (i j k : ℕ) → ℕ
 tail_moves i j k = cond (eqb i j) 0 k
 
--- a part of a spliced path at its place: the tail, the old path from base on (Q-4's term), behind the new nodes; the new nodes behind the split
-abbrev pub placed : Stretch → List ℕ → Part → List ℕ → List ℕ
-placed w fresh Tail img = paste img (w.path + 32 * (w.split + w.count)) (drop (w.path + 32 * w.base) img) (32 * w.rest)
-placed w fresh New img = paste img (w.path + 32 * w.split) (drop w.new fresh) (32 * w.count)
+-- the tail of a spliced path, the old path from base on (Q-4's term), at its place behind the new nodes
+abbrev pub tail_placed : Stretch → List ℕ → List ℕ
+tail_placed w img = paste img (w.path + 32 * (w.split + w.count)) (drop (w.path + 32 * w.base) img) (32 * w.rest)
 
--- how many of its nodes move within the image
-abbrev pub part_moves : Stretch → Part → ℕ
-part_moves w Tail = tail_moves w.base (w.split + w.count) w.rest
-part_moves w New = 0
+-- the new nodes at theirs, behind the split
+abbrev pub new_placed : Stretch → List ℕ → List ℕ → List ℕ
+new_placed w fresh img = paste img (w.path + 32 * w.split) (drop w.new fresh) (32 * w.count)
 
--- the moves that an answer counts: those of the tail of n nodes from base on, which comes to stand behind the new path, at j; none in a refused answer
-abbrev pub moves_of : ℕ → ℕ → ℕ → Res ℕ → ℕ
-moves_of zero j n (ok base) = tail_moves base j (n - base)
-moves_of zero j n (no c) = 0
-moves_of (suc c) j n base = 0
+-- the moves that an answer counts: those of the tail of n nodes from base on, which comes to stand behind the new path, at j
+abbrev pub moves_of : ℕ → ℕ → Res ℕ → ℕ
+moves_of j n (ok base) = tail_moves base j (n - base)
+moves_of j n (no c) = 0
 
 -- m diverge nodes in two columns and c new ones, the sentinel included, in two more, with room in each; the number of a held node may grow by join
 pub record DivsFit (dt dn nt nn : List ℕ) (m c room split join : ℕ) : Type 0 where

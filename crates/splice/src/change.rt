@@ -1,15 +1,16 @@
 // The change of diverge nodes where the old path is found at a split node (free_path.rs 502-532).
-ghost use Rattle.std.specs.Prelude.{◌≡◌, List, ℕ, ◌<◌, take};
-ghost use Rattle.free_path.specs.Columns.{answer, trains};
+ghost use Rattle.std.specs.Prelude.{◌≡◌, List, ℕ, ◌<◌, take, IfOk};
+ghost use Rattle.free_path.specs.Columns.{trains};
+ghost use Rattle.free_path.specs.Halts.{answered};
 ghost use Rattle.update_definition.specs.Moves.{trains_of};
 ghost use Rattle.splice.specs.Read.{ChangeFits, at_split, base_end, change_at};
 ghost use Rattle.update_definition.specs.ImageTrain.{train_of};
 ghost use Rattle.splice.specs.Answers.{again_in, changed_to, ChangesTo};
 
-use crate::diverge::Found;
-use crate::{Again, Reached, copies, diverge};
+use crate::{Again, Reached, diverge};
 use disp_structs::{EstIdx, TrainIdxsView};
 use free_path::columns;
+use free_path::halt::Halt;
 use image::codec;
 use image::codec::PathHeader;
 
@@ -17,6 +18,7 @@ use image::codec::PathHeader;
 fn at_split(img: &[u8], n: u32, r: Reached, alt: EstIdx, dn: &[u32], m: usize) -> bool
     ensures { result ≡ at_split img.now n r alt dn.now m }
 {
+    // Test by test: as one `&&` of all seven, the proof does not close.
     if r.new_count != 0 {
         return false;
     }
@@ -36,17 +38,23 @@ fn at_split(img: &[u8], n: u32, r: Reached, alt: EstIdx, dn: &[u32], m: usize) -
     if m <= r.div_split {
         return false;
     }
-    let d = columns::u32_of(dn, r.div_split);
-    r.split == d
+    r.split == columns::u32_of(dn, r.div_split)
 }
 
 // Where the old diverge nodes of the split node end, after the asserts.
-fn base_end(img: &[u8], n: u32, r: Reached, alt: EstIdx, dn: &[u32], m: usize) -> Found
+fn base_end(
+    img: &[u8],
+    n: u32,
+    r: Reached,
+    alt: EstIdx,
+    dn: &[u32],
+    m: usize,
+) -> Result<usize, Halt>
     requires { r.div_split < m }
-    ensures { (ts : List ℕ) → answer result.code result.at ≡ base_end img.now n r alt ts dn.now m }
+    ensures { (ts : List ℕ) → answered result ≡ base_end img.now n r alt ts dn.now m }
 {
     if !at_split(img, n, r, alt, dn, m) {
-        return Found { code: 13, at: 0 };
+        return Err(Halt::Panic);
     }
     diverge::walk_past(dn, m, r.div_split + 1, r.split)
 }
@@ -55,19 +63,14 @@ fn base_end(img: &[u8], n: u32, r: Reached, alt: EstIdx, dn: &[u32], m: usize) -
 fn changed(h: PathHeader, total: u32, split: u32, div_split: usize) -> Again
     ensures { result ≡ changed_to h total split div_split }
 {
-    let out = PathHeader {
-        path_count: h.path_count,
-        diverge_count: total,
-        fixed: h.fixed,
-        free: h.fixed,
-        front: h.front,
-        back: h.back,
-    };
     Again {
-        code: 0,
-        header: out,
-        split: split,
-        div_split: div_split,
+        header: PathHeader {
+            diverge_count: total,
+            free: h.fixed,
+            ..h
+        },
+        split,
+        div_split,
         moves: 0,
     }
 }
@@ -85,29 +88,26 @@ fn change_at(
     nt: &mut [u32],
     nn: &mut [u32],
     k: usize,
-) -> Again
+) -> Result<Again, Halt>
     requires { ChangeFits img.now dt.old dn.old nt.old nn.old pool.now count h r × (r.div_split < k) × (k < h.diverge_count) }
     ensures { (again_in result img.now dt.new dn.new ≡ change_at (train_of img.now dt.old dn.old h) r (trains_of (take count (trains pool.now)) v) k)
-        × (result.moves ≡ 0) }
+        × IfOk result (λ a. a.moves ≡ 0) }
 {
     let m = h.diverge_count as usize;
     let b = v.idx_begin as usize;
     let e = v.idx_end as usize;
-    if e < b {
-        return crate::stopped(13, h);
-    }
-    if count < e {
-        return crate::stopped(13, h);
+    if e < b || count < e {
+        return Err(Halt::Panic);
     }
     let room = codec::diverge_room(img) as usize;
     let total = r.div_split + (e - b) + (m - k);
     if room < total {
-        return crate::stopped(11, h);
+        return Err(Halt::NoRoom);
     }
-    copies::copy_entries(pool, b, nt, 1, e - b);
-    diverge::fill_entries(nn, 1, e - b, r.split);
+    nt[1..1 + (e - b)].copy_from_slice(&pool[b..e]);
+    nn[1..1 + (e - b)].fill(r.split);
     diverge::splice_divs(dt, dn, nt, nn, e - b, r.div_split, k, m);
-    changed(h, total as u32, r.split, r.div_split + (e - b))
+    Ok(changed(h, total as u32, r.split, r.div_split + (e - b)))
 }
 
 // The diverge nodes of the split node become those of the view's trains.
@@ -123,14 +123,11 @@ pub fn change_diverge(
     dn: &mut [u32],
     nt: &mut [u32],
     nn: &mut [u32],
-) -> Again
+) -> Result<Again, Halt>
     requires { ChangeFits img.now dt.old dn.old nt.old nn.old pool.now count h r }
     ensures { ChangesTo img.now dt.old dn.old h r alt v pool.now count result dt.new dn.new }
 {
     let m = h.diverge_count as usize;
-    let k = base_end(img, h.path_count, r, alt, dn, m);
-    if k.code != 0 {
-        return crate::stopped(k.code, h);
-    }
-    change_at(img, h, r, v, pool, count, dt, dn, nt, nn, k.at)
+    let k = base_end(img, h.path_count, r, alt, dn, m)?;
+    change_at(img, h, r, v, pool, count, dt, dn, nt, nn, k)
 }

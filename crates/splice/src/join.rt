@@ -12,13 +12,13 @@ ghost use Rattle.splice.specs.Answers.{DivsUpdated, SidesMoved, HelpersFit, Help
 use crate::diverge::Divs;
 use crate::{Again, Reached, diverge, ends, links, path};
 use disp_structs::{DispNode, EstTime, Metres};
+use free_path::halt::Halt;
 use image::codec;
 use image::codec::PathHeader;
 
-// A refusal's number, or 0; disp_node_idx_front and disp_node_idx_back.
+// disp_node_idx_front and disp_node_idx_back.
 #[derive(Clone, Copy)]
 pub struct Sides {
-    pub code: u32,
     pub front: u16,
     pub back: u16,
 }
@@ -33,24 +33,22 @@ fn front_back(
     base: u32,
     front: u16,
     back: u16,
-) -> Sides
+) -> Result<Sides, Halt>
     requires { split + k < 2 ^ 16 }
     ensures { SidesMoved img.now n fresh.now k split base front back result }
 {
     if back < front {
-        let x = ends::new_ends(img, n, fresh, k, split, base, back as u32, front as u32);
-        return Sides {
-            code: x.code,
+        let x = ends::new_ends(img, n, fresh, k, split, base, back as u32, front as u32)?;
+        return Ok(Sides {
             front: x.high as u16,
             back: x.low as u16,
-        };
+        });
     }
-    let y = ends::new_ends(img, n, fresh, k, split, base, front as u32, back as u32);
-    Sides {
-        code: y.code,
+    let y = ends::new_ends(img, n, fresh, k, split, base, front as u32, back as u32)?;
+    Ok(Sides {
         front: y.low as u16,
         back: y.high as u16,
-    }
+    })
 }
 
 // The links on the path, the offsets from base on, the front and the back.
@@ -61,28 +59,14 @@ fn update_free_path_helpers(
     r: Reached,
     base: u32,
     change: Metres,
-) -> Sides
+) -> Result<Sides, Halt>
     requires { HelpersFit img.old fresh.now h r }
     ensures { HelpersDone img.old fresh.now h r base change result img.new }
 {
     let n = h.path_count;
     let k = r.new_count;
-    let c = links::exchange_links(img, n, r.split, base, fresh, k);
-    if c != 0 {
-        return Sides {
-            code: c,
-            front: 0,
-            back: 0,
-        };
-    }
-    let s = path::update_offsets(img, n, base, change);
-    if s != 0 {
-        return Sides {
-            code: s,
-            front: 0,
-            back: 0,
-        };
-    }
+    links::exchange_links(img, n, r.split, base, fresh, k)?;
+    path::update_offsets(img, n, base, change)?;
     front_back(img, n, fresh, k, r.split, base, h.front, h.back)
 }
 
@@ -104,7 +88,7 @@ fn divs_at(
     dn: &mut [u32],
     nt: &mut [u32],
     nn: &mut [u32],
-) -> Divs
+) -> Result<Divs, Halt>
     requires { DivsFit dt.old dn.old nt.old nn.old h.diverge_count r.div_count (diverge_room img.now) r.div_split r.join }
     ensures { DivsUpdated dt.old dn.old nt.old nn.old h.diverge_count r.div_count (diverge_room img.now) r.div_split base r.join result
         dt.new dn.new }
@@ -133,32 +117,25 @@ fn finish_at(
     r: Reached,
     base: u32,
     div_split: usize,
-) -> Again
+) -> Result<Again, Halt>
     requires { PathFits img.old fresh.now h r base }
     ensures { FinishesAt img.old fresh.now h r base div_split result img.new }
 {
     let n = h.path_count;
     let total = r.split + r.new_count + (n - base);
     let moved = path::splice_path(img, fresh, n, r.split, base, r.new_count);
-    let f = path::free_is_correct(img, total, r.free);
-    if f != 0 {
-        return crate::stopped(f, h);
-    }
-    let out = PathHeader {
-        path_count: total,
-        diverge_count: h.diverge_count,
-        fixed: r.free as u16,
-        free: r.free as u16,
-        front: h.front,
-        back: h.back,
-    };
-    Again {
-        code: 0,
-        header: out,
+    path::free_is_correct(img, total, r.free)?;
+    Ok(Again {
+        header: PathHeader {
+            path_count: total,
+            fixed: r.free as u16,
+            free: r.free as u16,
+            ..h
+        },
         split: r.join,
-        div_split: div_split,
+        div_split,
         moves: moved,
-    }
+    })
 }
 
 // The join at base, where the old path has the next est (589-631).
@@ -174,27 +151,19 @@ fn splice_at(
     dn: &mut [u32],
     nt: &mut [u32],
     nn: &mut [u32],
-) -> Again
+) -> Result<Again, Halt>
     requires { JoinFits img.old fresh.now dt.old dn.old nt.old nn.old h r est.idx_next × (join_base img.old h r est ≡ ok base) }
     ensures { JoinsTo (λ R H S. splice_at R H S base) (ok base) h r curr est img.old fresh.now dt.old dn.old nt.old nn.old result
         img.new dt.new dn.new }
 {
     let change = offset_change(img, base, curr, est);
-    let x = update_free_path_helpers(img, fresh, h, r, base, change);
-    if x.code != 0 {
-        return crate::stopped(x.code, h);
-    }
-    let d = divs_at(img, h, r, base, dt, dn, nt, nn);
-    if d.code != 0 {
-        return crate::stopped(d.code, h);
-    }
+    let x = update_free_path_helpers(img, fresh, h, r, base, change)?;
+    let d = divs_at(img, h, r, base, dt, dn, nt, nn)?;
     let left = PathHeader {
-        path_count: h.path_count,
         diverge_count: d.count as u32,
-        fixed: h.fixed,
-        free: h.free,
         front: x.front,
         back: x.back,
+        ..h
     };
     finish_at(img, fresh, left, r, base, d.split)
 }
@@ -211,14 +180,11 @@ pub fn join(
     dn: &mut [u32],
     nt: &mut [u32],
     nn: &mut [u32],
-) -> Again
+) -> Result<Again, Halt>
     requires { JoinFits img.old fresh.now dt.old dn.old nt.old nn.old h r est.idx_next }
     ensures { JoinsTo Joined.join (join_base img.old h r est) h r curr est img.old fresh.now dt.old dn.old nt.old nn.old result
         img.new dt.new dn.new }
 {
-    let found = path::join_base(img, h.path_count, r.split_save, est.idx_next);
-    if found.code != 0 {
-        return crate::stopped(found.code, h);
-    }
-    splice_at(img, fresh, h, r, curr, est, found.at, dt, dn, nt, nn)
+    let base = path::join_base(img, h.path_count, r.split_save, est.idx_next)?;
+    splice_at(img, fresh, h, r, curr, est, base, dt, dn, nt, nn)
 }

@@ -1,19 +1,16 @@
 // The end of a round of update_free_path: a change of diverge nodes (free_path.rs 502-532), and the join of the new path with the old one (576-746).
 // The old path stands in the bytes of an image, the new one in a buffer of the same layout, and diverge nodes in two columns: dt and dn are the trains
-// and nodes of div_nodes, nt and nn those of div_nodes_new.
+// and nodes of div_nodes, nt and nn those of div_nodes_new. They stay four slices: the landed `requires` of join and change_diverge name each.
 // Of the public functions join::join and change::change_diverge have a `requires`: JoinFits, ChangeFits.
 #![tactic(auto)]
 
 pub mod change;
-pub mod copies;
 pub mod diverge;
 pub mod ends;
 pub mod join;
 pub mod links;
 pub mod moves;
 pub mod path;
-
-ghost use Rattle.std.specs.Prelude.{◌≡◌};
 
 use image::codec::PathHeader;
 
@@ -30,25 +27,11 @@ pub struct Reached {
     pub div_count: usize,
 }
 
-// A refusal's number, or 0; the header's numbers that are left, and the next idx_split and div_idx_split; how often a path node was moved.
+// The header's numbers that are left, and the next idx_split and div_idx_split; how often a path node was moved.
 #[derive(Clone, Copy)]
 pub struct Again {
-    pub code: u32,
     pub header: PathHeader,
     pub split: u32,
     pub div_split: usize,
     pub moves: usize,
-}
-
-// A round that stops with a refusal.
-fn stopped(code: u32, h: PathHeader) -> Again
-    ensures { (result.code ≡ code) × (result.moves ≡ 0) }
-{
-    Again {
-        code: code,
-        header: h,
-        split: 0,
-        div_split: 0,
-        moves: 0,
-    }
 }

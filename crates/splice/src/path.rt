@@ -1,9 +1,9 @@
 // Path nodes in bytes: the join on the old path, its offsets, the splice, and the free path's begin (free_path.rs 578-628, 714-718).
-ghost use Rattle.std.specs.Prelude.{◌≡◌, cond, ◌≤◌, ◌<◌, length};
+ghost use Rattle.std.specs.Prelude.{◌≡◌, cond, ◌≤◌, ◌<◌, length, IfOk};
 ghost use Rattle.disp_structs.specs.Values.{same_est, near, zero_metres, is_never};
 ghost use Rattle.image.specs.Image.{est_count, node_place, node_at};
 ghost use Rattle.free_path.specs.Base.{ok, walk_from};
-ghost use Rattle.free_path.specs.Columns.{answer};
+ghost use Rattle.free_path.specs.Halts.{answered, answered_by};
 ghost use Rattle.disp_structs.specs.Listed.{listed};
 ghost use Rattle.update_definition.specs.Join.{shift_offsets, free_is_correct};
 ghost use Rattle.splice.specs.Read.{Kept};
@@ -13,48 +13,33 @@ ghost use Rattle.splice.specs.Answers.{PathRoom, PathSpliced};
 use crate::moves;
 use crate::moves::Stretch;
 use disp_structs::{EstIdx, Metres, Seconds, floats};
+use free_path::halt::Halt;
 use image::codec;
 use link_rules::octets;
 
-// A refusal's number, or 0; and an index.
-#[derive(Clone, Copy)]
-pub struct Index {
-    pub code: u32,
-    pub at: u32,
-}
-
 // From i on the first of n nodes that has the est.
-pub(crate) fn join_base(img: &[u8], n: u32, i: u32, next: EstIdx) -> Index
-    ensures { answer result.code result.at ≡ walk_from (λ x. same_est next x.est_idx) (listed n (node_at img.now)) i }
+pub(crate) fn join_base(img: &[u8], n: u32, i: u32, next: EstIdx) -> Result<u32, Halt>
+    ensures { answered result ≡ walk_from (λ x. same_est next x.est_idx) (listed n (node_at img.now)) i }
 {
-    let mut k = i;
-    while k < n {
-        let e = codec::node_est_idx(img, k);
-        if next.0 == e.0 {
-            return Index { code: 0, at: k };
-        }
-        k += 1;
-    }
-    Index { code: 13, at: 0 }
+    (i..n)
+        .find(|k| next.0 == codec::node_est_idx(img, *k).0)
+        .ok_or(Halt::Panic)
 }
 
 // x.offset += change, from node i on; 11 where one passes 1e12.
-fn shift_offsets(img: &mut [u8], n: u32, i: u32, change: Metres) -> u32
+fn shift_offsets(img: &mut [u8], n: u32, i: u32, change: Metres) -> Result<(), Halt>
     requires { node_place (est_count img.old) n ≤ length img.old }
-    ensures { (answer result (listed n (node_at img.new)) ≡ from_on (shift_offsets change) i (listed n (node_at img.old))) × Kept img.new img.old }
+    ensures { (answered_by (λ _. listed n (node_at img.new)) result ≡ from_on (shift_offsets change) i (listed n (node_at img.old))) × Kept img.new img.old }
 {
-    let c = change.0;
-    let mut k = i;
-    while k < n {
+    for k in i..n {
         let x = codec::node_at(img, k);
-        let o = x.offset.0 + c;
+        let o = x.offset.0 + change.0;
         if !floats::in_reach(o) {
-            return 11;
+            return Err(Halt::NoRoom);
         }
         put_offset(img, k, o);
-        k += 1;
     }
-    0
+    Ok(())
 }
 
 fn put_offset(img: &mut [u8], i: u32, o: f64)
@@ -66,12 +51,12 @@ fn put_offset(img: &mut [u8], i: u32, o: f64)
 }
 
 // The offsets of a path's rest, unless they change by almost nothing.
-pub(crate) fn update_offsets(img: &mut [u8], n: u32, i: u32, change: Metres) -> u32
+pub(crate) fn update_offsets(img: &mut [u8], n: u32, i: u32, change: Metres) -> Result<(), Halt>
     requires { node_place (est_count img.old) n ≤ length img.old }
-    ensures { (answer result (listed n (node_at img.new)) ≡ from_on (λ xs. cond (near change zero_metres) (ok xs) (shift_offsets change xs)) i (listed n (node_at img.old))) × Kept img.new img.old }
+    ensures { (answered_by (λ _. listed n (node_at img.new)) result ≡ from_on (λ xs. cond (near change zero_metres) (ok xs) (shift_offsets change xs)) i (listed n (node_at img.old))) × Kept img.new img.old }
 {
     if floats::near(change.0, 0.0) {
-        return 0;
+        return Ok(());
     }
     shift_offsets(img, n, i, change)
 }
@@ -109,26 +94,23 @@ fn is_never(t: Seconds) -> bool
     t.0 == floats::real_of(0x7ff0_0000_0000_0000)
 }
 
-// disp_node_idx_free is correct: 0 or 13.
-pub(crate) fn free_is_correct(img: &[u8], n: u32, free: u32) -> u32
-    ensures { (answer result tt ≡ free_is_correct (listed n (node_at img.now)) free) × (result ≡ 0 → free < n) }
+// disp_node_idx_free is correct.
+pub(crate) fn free_is_correct(img: &[u8], n: u32, free: u32) -> Result<(), Halt>
+    ensures { (answered result ≡ free_is_correct (listed n (node_at img.now)) free) × IfOk result (λ _. free < n) }
 {
     if n <= free {
-        return 13;
+        return Err(Halt::Panic);
     }
     let x = codec::node_at(img, free);
     if !is_never(x.time_pass) {
-        return 13;
+        return Err(Halt::Panic);
     }
     if free == 0 {
-        return 0;
+        return Ok(());
     }
     let y = codec::node_at(img, free - 1);
-    if y.offset.0 == 0.0 {
-        return 0;
+    if y.offset.0 == 0.0 || !is_never(y.time_pass) {
+        return Ok(());
     }
-    if is_never(y.time_pass) {
-        return 13;
-    }
-    0
+    Err(Halt::Panic)
 }

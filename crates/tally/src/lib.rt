@@ -4,7 +4,7 @@
 #![tactic(auto)]
 
 ghost use Rattle.std.specs.Prelude.{◌≡◌};
-ghost use Rattle.tally.specs.Tally.{started, rounds_after, sum_of, counted_round, counted_faults, counted_steps};
+ghost use Rattle.tally.specs.Tally.{started, counted_round, counted_faults, counted_steps};
 
 #[derive(Clone, Copy)]
 pub struct Tally {
@@ -14,48 +14,15 @@ pub struct Tally {
     pub steps: u64,
 }
 
-// ---- over numbers
-
-fn rounds_after(n: u16) -> u16
-    ensures { result ≡ rounds_after n }
-{
-    if n < 65535 {
-        return n + 1;
-    }
-    n
-}
-
-fn sum_of(a: u64, b: u64) -> u64
-    ensures { result ≡ sum_of a b }
-{
-    if b <= 18446744073709551615 - a {
-        return a + b;
-    }
-    18446744073709551615
-}
-
-// ---- over a tally
-
 // An update starts with the strays of the path that it finds.
 pub fn started(strays: u64) -> Tally
     ensures { result ≡ started strays }
 {
     Tally {
         rounds: 0,
-        strays: strays,
+        strays,
         faults: 0,
         steps: 0,
-    }
-}
-
-fn after_round(t: Tally, strays: u64, faults: u64) -> Tally
-    ensures { result ≡ counted_round t strays faults }
-{
-    Tally {
-        rounds: rounds_after(t.rounds),
-        strays: sum_of(t.strays, strays),
-        faults: sum_of(t.faults, faults),
-        steps: t.steps,
     }
 }
 
@@ -63,16 +30,17 @@ fn after_round(t: Tally, strays: u64, faults: u64) -> Tally
 fn count_round(tally: &mut Tally, strays: u64, faults: u64)
     ensures { tally.new ≡ counted_round tally.old strays faults }
 {
-    *tally = after_round(*tally, strays, faults);
+    tally.rounds = tally.rounds.saturating_add(1);
+    tally.strays = tally.strays.saturating_add(strays);
+    tally.faults = tally.faults.saturating_add(faults);
 }
 
 // The same for whoever has the tally by value: it is lent to `count_round`.
-pub fn counted_round(t: Tally, strays: u64, faults: u64) -> Tally
+pub fn counted_round(mut t: Tally, strays: u64, faults: u64) -> Tally
     ensures { result ≡ counted_round t strays faults }
 {
-    let mut tally = t;
-    count_round(&mut tally, strays, faults);
-    tally
+    count_round(&mut t, strays, faults);
+    t
 }
 
 // The rounds have ended, and the validation found these errors.
@@ -80,10 +48,8 @@ pub fn counted_faults(t: Tally, faults: u64) -> Tally
     ensures { result ≡ counted_faults t faults }
 {
     Tally {
-        rounds: t.rounds,
-        strays: t.strays,
-        faults: sum_of(t.faults, faults),
-        steps: t.steps,
+        faults: t.faults.saturating_add(faults),
+        ..t
     }
 }
 
@@ -92,9 +58,7 @@ pub fn counted_steps(t: Tally, steps: u64) -> Tally
     ensures { result ≡ counted_steps t steps }
 {
     Tally {
-        rounds: t.rounds,
-        strays: t.strays,
-        faults: t.faults,
-        steps: sum_of(t.steps, steps),
+        steps: t.steps.saturating_add(steps),
+        ..t
     }
 }

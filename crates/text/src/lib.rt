@@ -1,4 +1,5 @@
 // Text put into a lent buffer byte by byte: it stands from 0 up to a count. What finds no room is left out, so that each function is total.
+// Buffer and count stay two parameters: the buffer is the caller's, and there is no heap for a String.
 // Every function here is proved, the crate assumes nothing of its own, and no public function has a `requires`.
 #![tactic(auto)]
 
@@ -21,10 +22,8 @@ pub fn put_bytes(text: &mut [u8], count: usize, bytes: &[u8]) -> usize
     ensures { Put bytes.now (text_of count text.old) (text_of result text.new) }
 {
     let mut n = count;
-    let mut i = 0;
-    while i < bytes.len() {
-        n = put_byte(text, n, bytes[i]);
-        i += 1;
+    for byte in bytes {
+        n = put_byte(text, n, *byte);
     }
     n
 }
@@ -34,17 +33,17 @@ pub fn put_decimal(text: &mut [u8], count: usize, x: u32) -> usize
     ensures { Put (decimal x) (text_of count text.old) (text_of result text.new) }
 {
     if x < 10 {
-        return put_byte(text, count, 48 + (x as u8));
+        return put_byte(text, count, b'0' + x as u8);
     }
     let front = put_decimal(text, count, x / 10);
-    put_byte(text, front, 48 + ((x % 10) as u8))
+    put_byte(text, front, b'0' + (x % 10) as u8)
 }
 
 // A blank and a number.
 pub fn put_column(text: &mut [u8], count: usize, x: u32) -> usize
     ensures { Put (column x) (text_of count text.old) (text_of result text.new) }
 {
-    let n = put_byte(text, count, 32);
+    let n = put_byte(text, count, b' ');
     put_decimal(text, n, x)
 }
 
@@ -54,10 +53,8 @@ fn put_blanks(text: &mut [u8], count: usize, w: u32) -> usize
     ensures { Put (blanks w) (text_of count text.old) (text_of result text.new) }
 {
     let mut n = count;
-    let mut i: u32 = 0;
-    while i < w {
-        n = put_byte(text, n, 32);
-        i += 1;
+    for _ in 0..w {
+        n = put_byte(text, n, b' ');
     }
     n
 }
@@ -71,7 +68,7 @@ fn put_lead(text: &mut [u8], count: usize, w: u32, minus: bool) -> usize
             return count;
         }
         let n = put_blanks(text, count, w - 1);
-        return put_byte(text, n, 45);
+        return put_byte(text, n, b'-');
     }
     put_blanks(text, count, w)
 }
@@ -85,8 +82,8 @@ pub fn put_signed(text: &mut [u8], count: usize, w: u32, minus: bool, n: u64) ->
     }
     if n < 10 {
         let lead = put_lead(text, count, w - 1, minus);
-        return put_byte(text, lead, 48 + (n as u8));
+        return put_byte(text, lead, b'0' + n as u8);
     }
     let front = put_signed(text, count, w - 1, minus, n / 10);
-    put_byte(text, front, 48 + ((n % 10) as u8))
+    put_byte(text, front, b'0' + (n % 10) as u8)
 }

@@ -1,5 +1,5 @@
 -- Laws of a layout: the walk along next a turn at a time, bytes that a write leaves, and what the sizes give. Assumes nothing.
-use mathlib.Core.Path.{◌≡◌, refl, sym, ap, ap₂, ◌∙◌}
+use mathlib.Core.Path.{◌≡◌, sym, ap, ap₂, ◌∙◌}
 use mathlib.Core.Bool.{Bool, true, false, cond}
 use mathlib.Core.List.{List, [], ◌∷◌, ◌++◌, append_assoc}
 use mathlib.Core.Logic.{inl}
@@ -21,9 +21,8 @@ use Rattle.image.specs.Image.{est_count, node_place, image_size, est_from, put_n
 use Rattle.image.specs.Codec.{put_each}
 use Rattle.train_disp.specs.TrainDisp.{new_node, offset_behind, walk_next, with_header, with_est, put_nodes, sizes_fit, all_within, train_fault, size_fault, lay_out_fault, laid, laid_by}
 use Rattle.train_disp.specs.CodeFacts.{Sized}
-use Rattle.link_rules.specs.Refusals.{or_else, refused_unless}
+use Rattle.link_rules.specs.Refusals.{Done, Refused}
 use Rattle.link_rules.specs.declared.refusal.Refusal.{Refusal}
-use Rattle.link_rules.specs.declared.refusal.Answer.TheVariants.{Done, Refused}
 use Rattle.link_rules.proofs.TableLaws.{both}
 use Rattle.image_fault.proofs.AcceptLaws.{or_else_clean, refused_clean}
 use Rattle.train_disp.specs.declared.Settings.{Settings}
@@ -196,22 +195,6 @@ module _ (est : List ℕ) (n i at : ℕ) (o : Metres) (h : i < n) where
     scan_on z = rw er (ap all_within (walk_on true est n i at o h (λ q. z (ap (λ (y : EstTime). y.idx_next.0) er ∙ q))) ∙ rw w)
 
 -- ---- the chain of refusals
-
--- where one of the first two is met, it is the first of all
-pub or_stop : (a b f : Refusal) → ((or_else a b).number ≡ 0 → ⊥) → or_else a (or_else b f) ≡ or_else a b
-or_stop a b f h = go (eqb a.number 0) (eqb b.number 0) refl h
-  where
-    go : (t u : Bool) → eqb b.number 0 ≡ u → ((cond t b a).number ≡ 0 → ⊥) → cond t (cond u f b) a ≡ cond t b a
-    go true true e k = absurd (k (eqb-true b.number 0 e))
-    go true false e k = refl
-    go false u e k = refl
-
--- where neither is, the rest decides
-pub or_on : (a b f : Refusal) → (or_else a b).number ≡ 0 → or_else a (or_else b f) ≡ f
-or_on a b f h = let c = or_else_clean a b h in rw (eq-eqb a.number 0 c.0, eq-eqb b.number 0 c.1)
-
-pub sizes_clean : (a : Refusal) (fits : Bool) → (or_else a (refused_unless fits 6)).number ≡ 0 → fits ≡ true
-sizes_clean a fits h = refused_clean fits 6 (omega arith) (or_else_clean a (refused_unless fits 6) h).1
 
 pub fault-sizes : (est : List ℕ) (o : Settings) (size : ℕ) → (lay_out_fault est o size).number ≡ 0 → sizes_fit (length est) o size ≡ true
 unfolding lay_out_fault

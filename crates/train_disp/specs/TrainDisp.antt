@@ -15,11 +15,9 @@ use Rattle.image.specs.Image.{node_place, diverge_offset, diverge_place, image_s
 use Rattle.image.specs.Fields.{size_field, est_count_field, path_count_field, diverge_count_field, diverge_room_field, est_offset_field, path_offset_field, diverge_offset_field, train_field, search_field, fixed_max_field, diverge_node_field, put_field, put_in}
 use Rattle.image.specs.Codec.{put_each}
 use Rattle.image_fault.specs.ImageFault.{image_fault}
-use Rattle.link_rules.specs.Refusals.{or_else, refused_unless}
+use Rattle.link_rules.specs.Refusals.{or_else, refused_unless, Answer, Done, Refused}
 use Rattle.link_rules.specs.declared.refusal.Refusal.{Refusal}
 use Rattle.train_disp.specs.declared.Settings.{Settings}
-use Rattle.link_rules.specs.declared.refusal.Answer.{Answer}
-use Rattle.link_rules.specs.declared.refusal.Answer.TheVariants.{Done, Refused}
 
 -- ---- the path: along next from est 0 (130-148)
 

@@ -6,6 +6,7 @@ ghost use Rattle.std.specs.Prelude.{◌≡◌, true, false, ◌+◌, ◌≤◌, 
 ghost use Rattle.disp_structs.specs.Values;
 ghost use Rattle.disp_structs.specs.Values.{zero_metres};
 ghost use Rattle.image.specs.Image.{est_count, node_place};
+ghost use Rattle.link_rules.specs.Refusals.{raised};
 ghost use Rattle.image_fault.specs.ImageFault.{image_fault};
 ghost use Rattle.train_disp.specs.TrainDisp.{new_node, offset_behind, walk_next, new_path, setting_bits, with_header, with_est, put_nodes, with_ends, laid_image, sizes_fit, all_within, lay_out_fault, laid, laid_out};
 ghost use Rattle.train_disp.specs.CodeFacts.{Sized};
@@ -13,8 +14,8 @@ ghost use Rattle.train_disp.specs.CodeFacts.{Sized};
 use disp_structs::{DispNode, EstIdx, EstTime, Metres, Seconds, floats};
 use image::codec;
 use link_rules::link_idx::NarrowTrainIdx;
-use link_rules::refusal::{Answer, Refusal};
-use link_rules::{octets, refusal};
+use link_rules::octets;
+use link_rules::refusal::{Refusal, refuse_unless};
 
 // What a layout is told besides the est records: the train, the two distance settings, and document 01's Q and L.
 #[derive(Clone, Copy)]
@@ -27,98 +28,61 @@ pub struct Settings {
 }
 
 // Writes the image of a new train, its path along next from est 0. Refused by 5 to 9 and 11: then nothing is changed.
-pub fn lay_out(est: &[u8], settings: Settings, image: &mut [u8]) -> Answer
+pub fn lay_out(est: &[u8], settings: Settings, image: &mut [u8]) -> Result<(), Refusal>
     ensures { laid result image.new ≡ laid_out est.now settings image.old }
 {
-    let f = lay_out_fault(est, settings, image.len());
-    if f.number != 0 {
-        return Answer::Refused(f);
-    }
+    lay_out_fault(est, settings, image.len())?;
     build(image, est, settings, true);
-    Answer::Done
+    Ok(())
 }
 
 // The first refusal, in document 01's order. The records are judged once train and sizes are good.
-pub fn lay_out_fault(est: &[u8], settings: Settings, size: usize) -> Refusal
-    ensures { result ≡ lay_out_fault est.now settings size }
+pub fn lay_out_fault(est: &[u8], settings: Settings, size: usize) -> Result<(), Refusal>
+    ensures { result ≡ raised (lay_out_fault est.now settings size) }
 {
-    let bad_train = refusal::refused_unless(settings.train_idx.0 != 0, 5);
-    let bad_size = refusal::refused_unless(sizes_fit(est.len(), settings, size), 6);
-    let first = refusal::or_else(bad_train, bad_size);
-    if first.number != 0 {
-        return first;
-    }
-    let bad_records = judge(est, settings, size);
-    let beyond = refusal::refused_unless(offsets_fit(est), 11);
-    refusal::or_else(bad_records, beyond)
+    refuse_unless(settings.train_idx.0 != 0, 5)?;
+    refuse_unless(sizes_fit(est.len(), settings, size), 6)?;
+    judge(est, settings, size)?;
+    refuse_unless(offsets_fit(est), 11)
 }
 
+#[tactic(auto, unfolding(crate::specs::TrainDisp::sizes_fit))]
 fn sizes_fit(n: usize, settings: Settings, size: usize) -> bool
     ensures { result ≡ sizes_fit n settings size }
 {
-    let q = settings.diverge_room as usize;
-    if n % 32 != 0 {
-        return false;
-    }
     let e = n / 32;
-    if e < 1 {
-        return false;
-    }
-    if 512 < e {
-        return false;
-    }
-    if q < 2 {
-        return false;
-    }
-    if 1024 < q {
-        return false;
-    }
-    if settings.links < 2 {
-        return false;
-    }
-    if 4000 < settings.links {
-        return false;
-    }
-    size == 64 + 64 * e + 4 * q
+    let q = settings.diverge_room as usize;
+    let links = settings.links;
+    n % 32 == 0
+        && 1 <= e
+        && e <= 512
+        && 2 <= q
+        && q <= 1024
+        && 2 <= links
+        && links <= 4000
+        && size == 64 + 64 * e + 4 * q
 }
 
 // 6 to 9 of the image with all offsets 0. A small image is judged in a small buffer, which takes less time to clear.
-fn judge(est: &[u8], settings: Settings, size: usize) -> Refusal
+fn judge(est: &[u8], settings: Settings, size: usize) -> Result<(), Refusal>
     requires { Sized (length est.now) settings size }
-    ensures { result ≡ image_fault (laid_image false est.now settings size) settings.links }
+    ensures { result ≡ raised (image_fault (laid_image false est.now settings size) settings.links) }
 {
     if size <= 4096 {
-        return judge_small(est, settings, size);
+        return judge_in::<4096>(est, settings, size);
     }
-    let mut room = scratch();
-    judge_in(est, settings, &mut room[..size])
+    judge_in::<36928>(est, settings, size)
 }
 
-fn judge_small(est: &[u8], settings: Settings, size: usize) -> Refusal
-    requires { (Sized (length est.now) settings size) × (size ≤ 4096) }
-    ensures { result ≡ image_fault (laid_image false est.now settings size) settings.links }
+// In a buffer of N bytes.
+fn judge_in<const N: usize>(est: &[u8], settings: Settings, size: usize) -> Result<(), Refusal>
+    requires sized { Sized (length est.now) settings size }
+    requires room { size ≤ N }
+    requires few { N ≤ 36928 }
+    ensures { result ≡ raised (image_fault (laid_image false est.now settings size) settings.links) }
 {
-    let mut room = small_scratch();
-    judge_in(est, settings, &mut room[..size])
-}
-
-fn small_scratch() -> [u8; 4096]
-    ensures { 4096 ≡ length result }
-{
-    [0u8; 4096]
-}
-
-// Room for the largest image.
-fn scratch() -> [u8; 36928]
-    ensures { 36928 ≡ length result }
-{
-    [0u8; 36928]
-}
-
-fn judge_in(est: &[u8], settings: Settings, img: &mut [u8]) -> Refusal
-    requires { Sized (length est.now) settings (length img.old) }
-    ensures { result ≡ image_fault (laid_image false est.now settings (length img.old)) settings.links }
-{
+    let mut room = [0u8; N];
+    let img = &mut room[..size];
     build(img, est, settings, false);
     image_fault::image_fault(img, settings.links)
 }
@@ -165,11 +129,7 @@ fn put_est(img: &mut [u8], est: &[u8])
     requires { 64 + length est.now ≤ length img.old }
     ensures { img.new ≡ with_est est.now img.old }
 {
-    let mut i = 0;
-    while i < est.len() {
-        img[64 + i] = est[i];
-        i += 1;
-    }
+    img[64..64 + est.len()].copy_from_slice(est);
 }
 
 fn never() -> Seconds
@@ -206,20 +166,18 @@ fn put_path(img: &mut [u8], est: &[u8], e: u32, sums: bool) -> u32
     ensures { (result ≡ length (walk_next sums est.now e 0 zero_metres))
         × (img.new ≡ put_nodes (walk_next sums est.now e 0 zero_metres) (node_place e 0) img.old) }
 {
-    let mut i: u32 = 0;
     let mut at: u32 = 0;
     let mut o = Metres(0.0);
-    while i < e {
+    for i in 0..e {
         let x = codec::est_in(est, at);
         codec::put_node(img, i, new_node(x, at, o));
-        i += 1;
         if x.idx_next.0 == 0 {
-            return i;
+            return i + 1;
         }
         at = x.idx_next.0;
         o = offset_behind(sums, o, x);
     }
-    i
+    e
 }
 
 fn put_ends(img: &mut [u8], e: u32, n: u32)
@@ -235,11 +193,9 @@ fn offsets_fit(est: &[u8]) -> bool
     requires { length est.now ≤ 16384 }
     ensures { result ≡ all_within (new_path true est.now) }
 {
-    let e = (est.len() / 32) as u32;
-    let mut i: u32 = 0;
     let mut at: u32 = 0;
     let mut o = Metres(0.0);
-    while i < e {
+    for _i in 0..est.len() / 32 {
         if !floats::in_reach(o.0) {
             return false;
         }
@@ -249,7 +205,6 @@ fn offsets_fit(est: &[u8]) -> bool
         }
         at = x.idx_next.0;
         o = offset_behind(true, o, x);
-        i += 1;
     }
     true
 }

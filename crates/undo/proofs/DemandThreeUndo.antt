@@ -13,7 +13,7 @@ use borrow.Author.Tests.{lt-leb}
 use Rattle.link_rules.specs.Refusals.{refused, or_else}
 use Rattle.link_rules.specs.Renumbering.{Renumbering}
 use Rattle.link_rules.specs.declared.refusal.Refusal.{Refusal}
-use Rattle.link_rules.specs.declared.refusal.Answer.TheVariants as TakenBack
+use Rattle.link_rules.specs.Refusals as TakenBack
 use Rattle.link_rules.proofs.OctetLaws.{Bytes}
 use Rattle.image.proofs.Writers.{side}
 use Rattle.image_fault.specs.declared.Widths.{Widths}

@@ -8,7 +8,7 @@ use native.Mathlib.Omega.{arith}
 use lib.Dec.{lit<}
 use lib.ListN.{replicate}
 use Rattle.link_rules.specs.Refusals.{refused}
-use Rattle.link_rules.specs.declared.refusal.Answer.TheVariants as TakenBack
+use Rattle.link_rules.specs.Refusals as TakenBack
 use Rattle.free_path.specs.AnyOrder.{swap}
 use Rattle.image_fault.specs.declared.Widths.TheVariants.{Narrow}
 use Rattle.yard_check.specs.Check.{row_size}

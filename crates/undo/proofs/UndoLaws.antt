@@ -12,10 +12,10 @@ use Rattle.link_rules.specs.Octets.{le_at, put_le, put_bytes}
 use Rattle.link_rules.specs.Network.{all_below}
 use Rattle.link_rules.specs.Refusals.{refused}
 use Rattle.link_rules.specs.declared.refusal.Refusal.{Refusal}
-use Rattle.link_rules.specs.declared.refusal.Answer.TheVariants as TakenBack
+use Rattle.link_rules.specs.Refusals as TakenBack
 use Rattle.link_rules.proofs.OctetLaws.{Bytes, le_cong, put-le}
 use Rattle.link_rules.proofs.TableLaws.{all-at, both}
-use Rattle.image_fault.proofs.MatchLaws.{all_same}
+use Rattle.link_rules.proofs.RangeLaws.{all_same}
 use Rattle.image_fault.proofs.AcceptLaws.{or_else_clean, refused_clean}
 use Rattle.yard_check.specs.Yard.{slot_count, yard_fits}
 use Rattle.yard_check.specs.Check.{CheckArgs, Refused, Checked, check, check_fault, check_done, checked_by, checked_with}
@@ -23,11 +23,17 @@ use Rattle.yard_check.specs.Checks.{answered_of, checked_of}
 use Rattle.yard_check.specs.declared.check.Answer as Code
 use Rattle.yard_check.proofs.YardLaws.{fits}
 use Rattle.yard_check.proofs.CheckLaws.{taken, yard-length}
+use Rattle.link_rules.specs.Refusals.{or_else, raised}
+use Rattle.link_rules.proofs.RefusalLaws.{some_raised}
 use Rattle.yard_check.specs.Bytes.{same_bytes}
 use Rattle.yard_check.proofs.SeenLaws.{lengths_same}
-use Rattle.image_fault.proofs.MatchLaws.{all_same}
 use Rattle.undo.specs.Undo.{filled_bytes, old_offset, written_offset, old_yard, written_yard, with_numbers, with_old, with_written, filled, room_fault, recorded_fault, Recorded, recording, recorded_done, recorded_by, recorded_with, recorded_of, numbers_fit, old_fits, was_written, undo_fits, Undone, undoing, undone_by, undone}
 use Rattle.undo.proofs.RecordLaws.{span_same, put_back, says_filled, says_slots, says_old, says_written, filled-length, filled-number, filled_old, filled-written}
+
+pub recorded_is : (yard occ : List ℕ) (a : CheckArgs) (long room : ℕ) (x : TakenBack.Answer) → x ≡ raised (or_else (room_fault (length yard) room) (check_fault yard occ a long))
+    → x ≡ raised (recorded_fault yard occ a long room)
+unfolding recorded_fault
+recorded_is yard occ a long room x e = e
 
 -- ---- what the test says
 
@@ -183,10 +189,19 @@ module _ (yard occ : List ℕ) (a : CheckArgs) (report r : List ℕ) where
   after = recorded_with yard occ a report r
 
   -- a refused one leaves the yard, the report and the record
-  pub recorded-refused : (F : Refusal) → F ≡ recorded_fault yard occ a (length report) (length r) → (F.number ≡ 0 → ⊥) → recording (Refused F) yard report r ≡ after
+  pub recorded-refused : (F : Refusal) → raised (recorded_fault yard occ a (length report) (length r)) ≡ TakenBack.Refused F → recording (Refused F) yard report r ≡ after
   unfolding recorded_with
-  recorded-refused F e h = go F.number refl ∙ ap (λ (x : Refusal). recorded_by x.number x (recorded_done yard r (checked_with yard occ a report)) yard report r) e
+  recorded-refused F q = go F.number refl ∙ ap (λ (x : Refusal). recorded_by x.number x (recorded_done yard r (checked_with yard occ a report)) yard report r) e
     where
+      some : (recorded_fault yard occ a (length report) (length r) ≡ F) × ((recorded_fault yard occ a (length report) (length r)).number ≡ 0 → ⊥)
+      some = some_raised (recorded_fault yard occ a (length report) (length r)) F q
+
+      e : F ≡ recorded_fault yard occ a (length report) (length r)
+      e = sym some.0
+
+      h : F.number ≡ 0 → ⊥
+      h n = some.1 (ap (λ (x : Refusal). x.number) some.0 ∙ n)
+
       go : (n : ℕ) → F.number ≡ n → recording (Refused F) yard report r ≡ recorded_by n F (recorded_done yard r (checked_with yard occ a report)) yard report r
       go zero k = absurd (h k)
       go (suc n) k = refl

@@ -4,8 +4,7 @@ use Rattle.link_rules.specs.Octets.{le_at, put_le, put_bytes}
 use Rattle.link_rules.specs.Network.{all_below}
 use Rattle.link_rules.specs.Refusals.{refused, or_else, refused_unless}
 use Rattle.link_rules.specs.declared.refusal.Refusal.{Refusal}
-use Rattle.link_rules.specs.declared.refusal.Answer as Taken
-use Rattle.link_rules.specs.declared.refusal.Answer.TheVariants as TakenBack
+use Rattle.link_rules.specs.Refusals as Taken
 use Rattle.image_fault.specs.declared.Widths.{Widths}
 use Rattle.image_fault.specs.declared.Widths.TheVariants.{Narrow, Either}
 use Rattle.yard_check.specs.Yard.{slot_count, yard_fits}
@@ -125,8 +124,8 @@ undoing answer yard = record { answer = answer; yard = yard }
 
 -- the old yard; a refused undo leaves the yard
 abbrev pub undone_by : Bool → List ℕ → List ℕ → Undone
-undone_by true yard r = undoing TakenBack.Done (old_yard (length yard) r)
-undone_by false yard r = undoing (TakenBack.Refused (refused 21 0)) yard
+undone_by true yard r = undoing Taken.Done (old_yard (length yard) r)
+undone_by false yard r = undoing (Taken.Refused (refused 21 0)) yard
 
 unfoldable pub undone : List ℕ → List ℕ → Undone
 undone yard r = undone_by (undo_fits yard r) yard r

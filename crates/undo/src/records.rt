@@ -1,22 +1,26 @@
 // The undo record (document 02, Q-5): refusal 20, how it is filled, and what an undo asks of it. For checks over every kind of occupancy.
-ghost use Rattle.std.specs.Prelude.{◌≡◌, ◌&&◌, ◌+◌, ◌≤◌, ◌<◌, eqb, length};
+ghost use Rattle.std.specs.Prelude.{◌≡◌, ◌&&◌, ◌+◌, ◌≤◌, ◌<◌, ltb, leb, eqb, length};
+ghost use Rattle.link_rules.specs.Refusals.{raised};
 ghost use Rattle.yard_check.specs.Yard.{slot_count, yard_fits};
 ghost use Rattle.undo.specs.Undo.{filled_bytes, with_numbers, with_old, with_written, room_fault, numbers_fit, old_fits, was_written, undo_fits};
 
-use link_rules::refusal::Refusal;
-use link_rules::{octets, refusal};
+use link_rules::octets;
+use link_rules::refusal::{Refusal, refuse_unless};
 use yard_check::{bytes, yard};
 
 // ---- 20
 
-// y is the length of the yard, room that of the buffer. From 2,147,483,640 bytes on a yard's record cannot say how many bytes are filled.
-pub fn room_fault(y: usize, room: usize) -> Refusal
-    ensures { result ≡ room_fault y room }
+// Whether a buffer of so many bytes has room for the record of a yard of y bytes. From 2,147,483,640 bytes on a yard's record cannot say how many bytes are filled.
+fn has_room(y: usize, room: usize) -> bool
+    ensures { result ≡ (leb (filled_bytes y) room && ltb (filled_bytes y) 4294967296) }
 {
-    if 2147483639 < y {
-        return refusal::refused_unless(false, 20);
-    }
-    refusal::refused_unless(16 + 2 * y <= room, 20)
+    y <= 2147483639 && 16 + 2 * y <= room
+}
+
+pub fn room_fault(y: usize, room: usize) -> Result<(), Refusal>
+    ensures { result ≡ raised (room_fault y room) }
+{
+    refuse_unless(has_room(y, room), 20)
 }
 
 // ---- filled
@@ -55,29 +59,17 @@ fn numbers_fit(y: usize, undo_record: &[u8]) -> bool
     ensures { result ≡ numbers_fit y undo_record.now }
 {
     let filled = octets::u32_at(undo_record, 0) as usize;
-    if 2147483639 < y {
-        return false;
-    }
-    if undo_record.len() < 16 + 2 * y {
-        return false;
-    }
-    if filled != 16 + 2 * y {
-        return false;
-    }
-    if octets::u32_at(undo_record, 8) != 16 {
-        return false;
-    }
-    octets::u32_at(undo_record, 12) as usize == 16 + y
+    has_room(y, undo_record.len())
+        && filled == 16 + 2 * y
+        && octets::u32_at(undo_record, 8) == 16
+        && octets::u32_at(undo_record, 12) as usize == 16 + y
 }
 
 // An old yard past 14, of so many slots.
 fn fits_with(old: &[u8], slots: u32) -> bool
     ensures { result ≡ (yard_fits old.now && eqb slots (slot_count old.now)) }
 {
-    if yard::yard_fits(old) {
-        return slots == yard::slot_count(old);
-    }
-    false
+    yard::yard_fits(old) && slots == yard::slot_count(old)
 }
 
 fn old_fits(y: usize, undo_record: &[u8]) -> bool
@@ -103,10 +95,5 @@ pub fn undo_fits(yard: &[u8], undo_record: &[u8]) -> bool
     ensures { result ≡ undo_fits yard.now undo_record.now }
 {
     let y = yard.len();
-    if numbers_fit(y, undo_record) {
-        if old_fits(y, undo_record) {
-            return was_written(yard, undo_record);
-        }
-    }
-    false
+    numbers_fit(y, undo_record) && old_fits(y, undo_record) && was_written(yard, undo_record)
 }

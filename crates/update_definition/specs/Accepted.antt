@@ -1,5 +1,5 @@
 -- What passing refusals 6 to 9 says of a train (document 01, Update). Assumes nothing.
-use Rattle.std.specs.Prelude.{ℕ, suc, ◌≤◌, ◌<◌, ◌≡◌, ◌⊎◌, Bool, true, false, not, ◌&&◌, ◌||◌, List, [], ◌∷◌, map, length}
+use Rattle.std.specs.Prelude.{ℕ, suc, ◌≤◌, ◌<◌, ◌≡◌, ◌⊎◌, Bool, true, false, not, ◌&&◌, ◌||◌, List, [], ◌∷◌, map, length, None}
 use Rattle.std.specs.Float.Ieee.{lt}
 use Rattle.link_rules.specs.LinkIdx.{no_train}
 use Rattle.link_rules.specs.declared.link_idx.LinkIdx.{LinkIdx}
@@ -13,7 +13,6 @@ use Rattle.disp_structs.specs.declared.EstTime.{EstTime}
 use Rattle.disp_structs.specs.declared.DispNode.{DispNode}
 use Rattle.disp_structs.specs.declared.DivergeNode.{DivergeNode}
 use Rattle.est_times.specs.Cycles.{first_on_cycle}
-use Rattle.est_times.specs.declared.Cycle.TheVariants.{None}
 use Rattle.free_path.specs.Base.{ok, at, last}
 use Rattle.free_path.specs.LinkOptType.{links_on_path, contains}
 

@@ -9,7 +9,7 @@ use Rattle.link_rules.specs.declared.link_idx.TrainIdx.{TrainIdx}
 use Rattle.disp_structs.specs.Train.{Train}
 use Rattle.image.specs.Codec.{stored_into}
 use Rattle.free_path.specs.Base.{Res, ok, no}
-use Rattle.free_path.specs.Columns.{answer}
+use Rattle.free_path.specs.Halts.{number_of}
 use Rattle.tally.specs.Tally.{faulted, counted_faults}
 use Rattle.tally.specs.declared.Tally.{Tally}
 use Rattle.tally.proofs.TallyLaws.{faulted-within, faulted-none}
@@ -23,19 +23,9 @@ use Rattle.update_free_path.specs.declared.answer.Status.TheVariants.{Success, B
 
 -- ---- by the number of errors
 
-pub judged-no : (c n : ℕ) → (c ≡ 0 → ⊥) → Update.Refused (refused c 0) ≡ judged_by (answer c n)
-judged-no zero n q = absurd (q refl)
-judged-no (suc c) n q = refl
-
-pub judged-none : (c n : ℕ) → c ≡ 0 → n ≡ 0 → Update.Success ≡ judged_by (answer c n)
-judged-none c n q z = rw (q, z)
-
-pub judged-some : (c n : ℕ) → c ≡ 0 → (n ≡ 0 → ⊥) → Update.Faulty n ≡ judged_by (answer c n)
-judged-some c n q z = rw q (go n z)
-  where
-    go : (n : ℕ) → (n ≡ 0 → ⊥) → Update.Faulty n ≡ Update.status_of n
-    go zero z = absurd (z refl)
-    go (suc n) z = refl
+pub judged-some : (n : ℕ) → (n ≡ 0 → ⊥) → Update.Faulty n ≡ judged_by (ok n)
+judged-some zero z = absurd (z refl)
+judged-some (suc n) z = refl
 
 -- ---- the image that is left
 
@@ -54,7 +44,7 @@ module _ (t : Train) (img : List ℕ) where
 
 -- an update that is not refused has ended so
 pub done_stop : (s : Status) (stop : Stop) (f : Res ℕ) → status_of s ≡ status_by stop f → is_refusal s ≡ false → stop_refused stop ≡ false
-done_stop s (Stops.Refused c) f e q = absurd (false≢true (sym q ∙ told s ∙ ap told_of e))
+done_stop s stop f e q = go stop e
   where
     told_of : Update.Status → Bool
     told_of Update.Success = false
@@ -67,8 +57,12 @@ done_stop s (Stops.Refused c) f e q = absurd (false≢true (sym q ∙ told s ∙
     told (Blocked holder) = refl
     told (Faulty n) = refl
     told (Refused r) = refl
-done_stop s (Stops.Blocked holder) f e q = refl
-done_stop s Stops.Ended f e q = refl
+
+    go : (stop : Stop) → status_of s ≡ status_by stop f → stop_refused stop ≡ false
+    go (Stops.Halted why) e = absurd (false≢true (sym q ∙ told s ∙ ap told_of e))
+    go Stops.OverLimit e = absurd (false≢true (sym q ∙ told s ∙ ap told_of e))
+    go (Stops.Blocked holder) e = refl
+    go Stops.Ended e = refl
 
 -- the answer and the image, as the definition has them
 module _ (tally : Tally) (met : TrainIdx) (was t : Train) (img : List ℕ) where
@@ -77,7 +71,8 @@ module _ (tally : Tally) (met : TrainIdx) (was t : Train) (img : List ℕ) where
 
   by_stop : (stop : Stop) (f : Res ℕ) → left (status_by stop f) (faulted tally (Update.faults_in (status_by stop f))) (left_image (status_by stop f) t img) ≡ stored_answer (Update.meets met (ran_by stop f tally was t)) img
   unfolding Update.finish
-  by_stop (Stops.Refused c) f = ap (λ (y : Tally). left (Update.Refused (refused c 0)) y img) (faulted-none tally)
+  by_stop (Stops.Halted why) f = ap (λ (y : Tally). left (Update.Refused (refused (number_of why) 0)) y img) (faulted-none tally)
+  by_stop Stops.OverLimit f = ap (λ (y : Tally). left (Update.Refused (refused 12 0)) y img) (faulted-none tally)
   by_stop (Stops.Blocked holder) f = ap (λ (y : Tally). left (Update.Blocked holder) y (stored_into t img)) (faulted-none tally)
   by_stop Stops.Ended (ok zero) = refl
   by_stop Stops.Ended (ok (suc n)) = refl

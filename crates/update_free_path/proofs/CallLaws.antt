@@ -5,6 +5,7 @@ use mathlib.Core.List.{List}
 use Prim.Native.Nat.{ℕ, zero, suc, ◌≤◌, ◌<◌}
 use native.Mathlib.Omega.{arith}
 use lib.ListN.{length}
+use Rattle.std.specs.Prelude.{Result, Ok, Err}
 use Rattle.disp_structs.specs.Listed.{listed}
 use Rattle.disp_structs.specs.declared.DispNode.{DispNode}
 use Rattle.image.specs.Image.{est_count, path_count_of, diverge_room, node_at, path_header, path_of}
@@ -39,6 +40,17 @@ store_fits image occ h b bytes img was e k g same f =
     let s = kept-sizes img was image e k in
     (s.0, s.1, λ q. path-stands Either (length occ) image img g.path_count bytes b.fault (f q ∙ ap (λ (bs : List ℕ). path_of bs (path_count_of bs)) e))
 
+-- what an answer is
+
+same_err : (f g : Refusal) → ◌≡◌ {A = Result PathHeader Refusal} (Err f) (Err g) → f ≡ g
+same_err f g k = cc
+
+same_ok : (h g : PathHeader) → ◌≡◌ {A = Result PathHeader Refusal} (Ok h) (Ok g) → h ≡ g
+same_ok h g k = cc
+
+err-ok : (f : Refusal) (h : PathHeader) → ◌≡◌ {A = Result PathHeader Refusal} (Err f) (Ok h) → ⊥
+err-ok f h k = cc
+
 module _ (w : Widths) (img occ blocking : List ℕ) (o : Args) (f : Refusal) (e : f ≡ update_fault_in w img occ blocking o.moved.0 o.limit) where
   abbrev whole : UpdatedImage
   whole = updated_image_in w img occ blocking o.moved.0 o.local o.limit
@@ -55,8 +67,8 @@ module _ (w : Widths) (img occ blocking : List ℕ) (o : Args) (f : Refusal) (e 
       go zero q = absurd (q refl)
       go (suc n) q = refl
 
-  pub judged-refused : (f.number ≡ 0 → ⊥) → Judged w f img occ blocking o
-  judged-refused q = record { refused = refused-before; begins = λ z. absurd (q z); goes = λ z. absurd (q z) }
+  pub judged-refused : (f.number ≡ 0 → ⊥) → Judged w (Err f) img occ blocking o
+  judged-refused q = record { refused = λ g k. rw (← same_err f g k) (refused-before q); begins = λ h k. absurd (err-ok f h k); goes = λ h k. absurd (err-ok f h k) }
 
   module _ (q : f.number ≡ 0) where
     pub not-refused : stored_answer (update_of img occ blocking o) img ≡ whole
@@ -77,8 +89,8 @@ module _ (w : Widths) (img occ blocking : List ℕ) (o : Args) (f : Refusal) (e 
       pub begins : h.free < h.path_count → UpdateBegins img occ h
       begins l = record { fault = either-accepted w img (length occ) clean.image; few = (call-links occ blocking o.moved.0 o.limit clean.call).1; header = r; free = l }
 
-      pub judged_ten : h.path_count ≤ h.free → Judged w (refused 10 0) img occ blocking o
-      judged_ten l = record { refused = λ _. refused_ten l; begins = λ z. absurd (omega (arith, z)); goes = λ z. absurd (omega (arith, z)) }
+      pub judged_ten : h.path_count ≤ h.free → Judged w (Err (refused 10 0)) img occ blocking o
+      judged_ten l = record { refused = λ g k. rw (← same_err (refused 10 0) g k) (refused_ten l); begins = λ g k. absurd (err-ok (refused 10 0) g k); goes = λ g k. absurd (err-ok (refused 10 0) g k) }
 
-      pub judged_fine : h.free < h.path_count → Judged w f img occ blocking o
-      judged_fine l = record { refused = refused-before; begins = λ _. subst (UpdateBegins img occ) r (begins l); goes = λ _. not-refused }
+      pub judged_fine : h.free < h.path_count → Judged w (Ok h) img occ blocking o
+      judged_fine l = record { refused = λ g k. absurd (err-ok g h (sym k)); begins = λ g k. subst (UpdateBegins img occ) (same_ok h g k) (begins l); goes = λ g k. not-refused }

@@ -1,34 +1,29 @@
 -- The refusals of a call, by the tests of the code. Assumes nothing.
-use mathlib.Core.Path.{◌≡◌, refl}
-use mathlib.Core.Bool.{Bool, true, false, cond, ◌&&◌}
-use mathlib.Core.List.{List}
-use Prim.Native.Nat.{ℕ, suc, ◌+◌, ◌<◌, ◌≤◌}
-use native.Mathlib.Omega.{arith}
-use native.Mathlib.Numerals.{add-one}
-use lib.Dec.{leb, ltb}
-use lib.ListN.{length, get_or, drop, drop_of_length-le}
+use Rattle.std.proofs.Common.{◌≡◌, ℕ, suc, ◌+◌, ◌<◌, ◌≤◌, Bool, true, false, cond, not, ◌&&◌, List, [], ◌∷◌, leb, ltb, eqb, max, length, get_or, drop, refl, ap, add-one, arith}
+use Rattle.std.specs.Prelude.{◌||◌}
+use Rattle.std.specs.List.{list_all}
+use lib.ListN.{drop_of_length-le}
 use lib.Seq.{drop-cons}
-use borrow.Author.Tests.{lt-ltb, le-ltb, ltb-true, ltb-false, le-leb, leb-true}
-use Rattle.link_rules.specs.Refusals.{no_refusal, refused}
+use borrow.Author.Tests.{le-leb, lt-leb, leb-true, leb-false}
+use Rattle.link_rules.specs.Refusals.{no_refusal, refused, refuse_unless, raised}
+use Rattle.link_rules.proofs.RefusalLaws.{raised_unless}
 use Rattle.image_fault.proofs.AcceptLaws.{or_else_clean}
 use Rattle.link_rules.proofs.TableLaws.{both}
-use Rattle.update_definition.specs.UpdateImage.{links_below, call_fault, entries_up_to}
-use Rattle.update_free_path.specs.Updates.{greater_of}
+use Rattle.update_definition.specs.UpdateImage.{links_below, order_fault, call_fault, entries_up_to}
 
--- ---- links below l, from the i-th on
+-- ---- tests of the call
 
-module _ (l : ℕ) (bs : List ℕ) (i : ℕ) where
-  pub below-turn : i < length bs → get_or bs i 0 < l → links_below l (drop (i + 1) bs) ≡ links_below l (drop i bs)
-  unfolding links_below
-  below-turn h b = rw (add-one, drop-cons bs i 0 h, lt-ltb (get_or bs i 0) l b)
+pub below_all : (l : ℕ) (bs : List ℕ) → list_all (λ b. ltb b l) bs ≡ links_below l bs
+unfolding links_below
+below_all l [] = refl
+below_all l (b ∷ bs) = ap (λ (t : Bool). ltb b l && t) (below_all l bs)
 
-  pub below_stop : i < length bs → l ≤ get_or bs i 0 → false ≡ links_below l (drop i bs)
-  unfolding links_below
-  below_stop h b = rw (drop-cons bs i 0 h, le-ltb (get_or bs i 0) l b)
-
-  pub below_end : length bs ≤ i → true ≡ links_below l (drop i bs)
-  unfolding links_below
-  below_end h = rw (drop_of_length-le)
+pub order_turned : (moved limit : ℕ) → refuse_unless (not (eqb moved 0 || eqb limit 0)) 5 ≡ raised (order_fault moved limit)
+order_turned moved limit = go (eqb moved 0 || eqb limit 0)
+  where
+    go : (t : Bool) → refuse_unless (not t) 5 ≡ raised (cond t (refused 5 0) no_refusal)
+    go true = raised_unless false 5 (λ z. absurd (omega arith))
+    go false = raised_unless true 5 (λ z. absurd (omega arith))
 
 -- a call that is not refused has as many links as an occupancy may have
 pub call-links : (occ blocking : List ℕ) (moved limit : ℕ) → (call_fault occ blocking moved limit).number ≡ 0 → (2 ≤ length occ) × (length occ ≤ 4000)
@@ -41,30 +36,13 @@ call-links occ blocking moved limit h = go (leb 2 (length occ) && leb (length oc
 
 -- ---- the greatest of the entries from the i-th on and of a train
 
-and_none : (a : Bool) → false ≡ (a && false)
-and_none true = refl
-and_none false = refl
-
-low_both : (top a b : ℕ) → a ≤ b → leb b top ≡ (leb a top && leb b top)
-low_both top a b l = go (leb b top) refl
+greater_up_to : (top a b : ℕ) → leb (max a b) top ≡ (leb a top && leb b top)
+greater_up_to top a b = go (leb a top) (leb b top) refl refl
   where
-    go : (t : Bool) → leb b top ≡ t → t ≡ (leb a top && t)
-    go true e = rw (le-leb a top (omega (arith, l, leb-true b top e)))
-    go false e = and_none (leb a top)
-
-high_both : (top a b : ℕ) → b ≤ a → leb a top ≡ (leb a top && leb b top)
-high_both top a b l = go (leb a top) refl
-  where
-    go : (t : Bool) → leb a top ≡ t → t ≡ (t && leb b top)
-    go true e = rw (le-leb b top (omega (arith, l, leb-true a top e)))
-    go false e = refl
-
-greater_up_to : (top a b : ℕ) → leb (greater_of a b) top ≡ (leb a top && leb b top)
-greater_up_to top a b = go (ltb a b) refl
-  where
-    go : (t : Bool) → ltb a b ≡ t → leb (cond t b a) top ≡ (leb a top && leb b top)
-    go true e = low_both top a b (omega (arith, ltb-true a b e))
-    go false e = high_both top a b (ltb-false a b e)
+    go : (s t : Bool) → leb a top ≡ s → leb b top ≡ t → leb (max a b) top ≡ (s && t)
+    go true true e f = le-leb (max a b) top (omega (arith, leb-true a top e, leb-true b top f))
+    go true false e f = lt-leb (max a b) top (omega (arith, leb-false b top f))
+    go false t e f = lt-leb (max a b) top (omega (arith, leb-false a top e))
 
 and_turn : (e a b : Bool) → (e && (a && b)) ≡ ((b && e) && a)
 and_turn true true true = refl
@@ -77,7 +55,7 @@ and_turn false false true = refl
 and_turn false false false = refl
 
 module _ (top : ℕ) (occ : List ℕ) (i t : ℕ) where
-  pub entries-turn : i < length occ → (entries_up_to top (drop (i + 1) occ) && leb (greater_of t (get_or occ i 0)) top) ≡ (entries_up_to top (drop i occ) && leb t top)
+  pub entries-turn : i < length occ → (entries_up_to top (drop (i + 1) occ) && leb (max t (get_or occ i 0)) top) ≡ (entries_up_to top (drop i occ) && leb t top)
   unfolding entries_up_to
   entries-turn h = rw (add-one, drop-cons occ i 0 h, greater_up_to top t (get_or occ i 0)) (and_turn (entries_up_to top (drop (suc i) occ)) (leb t top) (leb (get_or occ i 0) top))
 

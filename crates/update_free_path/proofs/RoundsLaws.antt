@@ -345,7 +345,7 @@ ended-closed occ flags g limit img₀ dt₀ dn₀ w₀ img dt dn w v none q =
   where
     -- b: another round is due
     ended : Bool → Ran
-    ended b = cond b (ran_of (Stops.Refused 12) w.header w.tally w.met (is_first w.tally)) (ran_of Stops.Ended w.header w.tally w.met (is_first w.tally))
+    ended b = cond b (ran_of Stops.OverLimit w.header w.tally w.met (is_first w.tally)) (ran_of Stops.Ended w.header w.tally w.met (is_first w.tally))
 
     faultless_by : (b : Bool) → (ended b).tally.faults ≡ 0
     faultless_by true = none

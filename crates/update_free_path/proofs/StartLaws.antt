@@ -18,7 +18,7 @@ use Rattle.image_fault.specs.declared.Widths.TheVariants.{Either}
 use Rattle.image_fault.proofs.AcceptLaws as Clean
 use Rattle.image.specs.Codec.{decoded}
 use Rattle.image.specs.declared.codec.PathHeader.{PathHeader}
-use Rattle.free_path.specs.Base.{Res, ok, no, at, count}
+use Rattle.free_path.specs.Base.{Res, ok, at, count}
 use Rattle.free_path.specs.Columns.{link, links, link_at, div_at, flagged, flag_links, kept}
 use Rattle.free_path.specs.LinkOptType.{links_on_path, contains, link_idx_path, link_opt_type_of}
 use Rattle.free_path.specs.Validate.{stray_link}
@@ -34,13 +34,12 @@ use Rattle.update_laws.proofs.Updates.{top_start}
 use Rattle.update_definition.specs.UpdateImage.{link_idxs}
 use Rattle.update_laws.proofs.BytesAccepted.{bytes-accepted, fits_higher}
 use Rattle.update_free_path.proofs.DivergeLaws.{start_train, start_fits, accepted-size}
-use Rattle.update_laws.proofs.RefusalLaws.{refused-number}
 use Rattle.round_start.specs.Start.{Linked}
 use Rattle.round_start.proofs.StrayLaws.{linked_accepted, class-flags, known-links}
 use Rattle.search.specs.Read.{Marked}
 use Rattle.update_definition.specs.ImageTrain.{train_of}
 use Rattle.round.specs.Rounds.{given_of}
-use Rattle.update_free_path.specs.Updates.{errors_of, status_by, ran_by, stop_refused, between_of, Known, Top, rounds_at, met_from, RoundsEnded, start_at, given_at, UpdateBegins, update_of, Finished}
+use Rattle.update_free_path.specs.Updates.{errors_of, ran_by, stop_refused, between_of, Known, Top, rounds_at, met_from, RoundsEnded, start_at, given_at, UpdateBegins, update_of, Finished}
 use Rattle.round.specs.declared.Given.{Given}
 use Rattle.update_free_path.specs.declared.start.Args.{Args}
 use Rattle.update_free_path.specs.declared.rounds.Ran.{Ran}
@@ -57,17 +56,10 @@ low_of false = omega arith
 pub largest-low : (img : List ℕ) → largest_train img ≤ 999999
 largest-low img = low_of (is_wide img)
 
--- the status of what the rounds end with
-status_ran : (stop : Stop) (f : Res ℕ) (tally : Tally) (was t : Train) → (ran_by stop f tally was t).answer.status ≡ status_by stop f
-unfolding Update.finish
-status_ran (Stops.Refused c) f tally was t = refl
-status_ran (Stops.Blocked holder) f tally was t = refl
-status_ran Stops.Ended (ok n) tally was t = refl
-status_ran Stops.Ended (no n) tally was t = refl
-
 -- of a refused update the train met is of no account
 by_met : (stop : Stop) (f : Res ℕ) (tally : Tally) (was t : Train) (x y : TrainIdx) → (stop_refused stop ≡ false → x ≡ y) → Update.meets x (ran_by stop f tally was t) ≡ Update.meets y (ran_by stop f tally was t)
-by_met (Stops.Refused c) f tally was t x y q = refl
+by_met (Stops.Halted why) f tally was t x y q = refl
+by_met Stops.OverLimit f tally was t x y q = refl
 by_met (Stops.Blocked holder) f tally was t x y q = ap (λ (z : TrainIdx). Update.meets z (ran_by (Stops.Blocked holder) f tally was t)) (q refl)
 by_met Stops.Ended f tally was t x y q = ap (λ (z : TrainIdx). Update.meets z (ran_by Stops.Ended f tally was t)) (q refl)
 
@@ -202,7 +194,5 @@ module _ (img occ : List ℕ) (h : PathHeader) (b : UpdateBegins img occ h) (byt
                     by_met x.stop (errors_of img' occ x.header) x.tally (decoded img) (train_of img' dt' dn' x.header) x.met (Update.first_met given started-at) (λ q. v.met q (link_idxs blocking) first ∙ begin-met)
                     ∙ ap (Update.meets (Update.first_met given started-at)) (r ∙ begin-is)
                     ∙ by_rounds;
-                named = λ f y.
-                    omega (arith, (refused-number (o.limit - 0) (given_of begun occ (link_idxs blocking) first) (decoded img) (between_of img dt dn (start_at h s)) f (ap (λ (u : Update.Updated). u.answer.status) (sym r) ∙ status_ran x.stop (errors_of img' occ x.header) x.tally (decoded img) (train_of img' dt' dn' x.header) ∙ y)).0);
                 path = λ u q. v.path u q ∙ path_own;
               }

@@ -1,5 +1,5 @@
 -- The answer of an update over the bytes of an image, and what its loop over rounds begins with, keeps and answers. Assumes nothing.
-use Rattle.std.specs.Prelude.{ℕ, ◌+◌, ◌*◌, ◌-◌, ◌^◌, ◌≤◌, ◌<◌, ◌≡◌, Bool, true, false, cond, ◌&&◌, List, ltb, eqb, length, replicate}
+use Rattle.std.specs.Prelude.{ℕ, ◌+◌, ◌*◌, ◌-◌, ◌^◌, ◌≤◌, ◌<◌, ◌≡◌, Bool, true, false, cond, ◌&&◌, List, Result, Ok, Err, ltb, eqb, length, replicate}
 use Rattle.link_rules.specs.LinkIdx.{no_train}
 use Rattle.link_rules.specs.declared.link_idx.LinkIdx.{LinkIdx}
 use Rattle.link_rules.specs.declared.link_idx.TrainIdx.{TrainIdx}
@@ -15,6 +15,7 @@ use Rattle.link_rules.specs.Refusals.{no_refusal, refused}
 use Rattle.link_rules.specs.declared.refusal.Refusal.{Refusal}
 use Rattle.image.specs.declared.codec.PathHeader.{PathHeader}
 use Rattle.free_path.specs.Base.{Res, ok, no}
+use Rattle.free_path.specs.Halts.{number_of}
 use Rattle.free_path.specs.Columns.{link, links, link_at, flagged}
 use Rattle.free_path.specs.LinkOptType.{contains, link_idx_path, link_opt_type_of}
 use Rattle.free_path.specs.Validate.{known, validate_free_path}
@@ -72,34 +73,32 @@ judged_by (no n) = Update.Refused (refused n 0)
 
 -- f are the errors of the train that is left
 abbrev pub status_by : Stop → Res ℕ → Update.Status
-status_by (Stops.Refused c) f = Update.Refused (refused c 0)
+status_by (Stops.Halted why) f = Update.Refused (refused (number_of why) 0)
+status_by Stops.OverLimit f = Update.Refused (refused 12 0)
 status_by (Stops.Blocked holder) f = Update.Blocked holder
 status_by Stops.Ended f = judged_by f
 
 -- the same with the train t that is left, was being the train before the update
 abbrev pub ran_by : Stop → Res ℕ → Tally → Train → Train → Update.Updated
-ran_by (Stops.Refused c) f tally was t = Update.refused c tally was
+ran_by (Stops.Halted why) f tally was t = Update.refused (number_of why) tally was
+ran_by Stops.OverLimit f tally was t = Update.refused 12 tally was
 ran_by (Stops.Blocked holder) f tally was t = Update.answered (Update.Blocked holder) tally t
 ran_by Stops.Ended f tally was t = Update.finish f tally was t
 
 abbrev pub stop_refused : Stop → Bool
-stop_refused (Stops.Refused c) = true
+stop_refused (Stops.Halted why) = true
+stop_refused Stops.OverLimit = true
 stop_refused (Stops.Blocked holder) = false
 stop_refused Stops.Ended = false
-
--- a refusal that it may give has room in its field
-abbrev pub Named : Stop → Res ℕ → Type 0
-Named s f = (r : Refusal) → status_by s f ≡ Update.Refused r → r.number < 65536
 
 -- the image has the counts of its copy img, and where same the path of h
 abbrev pub StoreFits : (image img : List ℕ) (h : PathHeader) (same : Bool) → Type 0
 StoreFits image img h same = (est_count image ≡ est_count img) × (diverge_room image ≡ diverge_room img) × (same ≡ true → PathStands img h.path_count image)
 
--- the rounds have ended with r: a refusal has room in its field, no fault is counted, and unless it is refused the train can be stored
-abbrev pub AnswerFits : (image img occ : List ℕ) (r : Ran) → Type 0
-AnswerFits image img occ r =
-    Named r.stop (errors_of img occ r.header)
-    × (r.tally.faults ≡ 0)
+-- the rounds have ended with r: no fault is counted, and unless it is refused the train can be stored
+abbrev pub AnswerFits : (image img : List ℕ) (r : Ran) → Type 0
+AnswerFits image img r =
+    (r.tally.faults ≡ 0)
     × (stop_refused r.stop ≡ false → StoreFits image img r.header r.same_path)
 
 -- x and the image that is left are the update's, was being the train before it
@@ -139,7 +138,7 @@ strays_by Ends.Again s = 0
 
 -- by the end of the last round, before which the tally was t, n being its steps and s the strays of its path; met is the train met
 abbrev pub stopped_by : End → PathHeader → Tally → ℕ → ℕ → TrainIdx → Ran
-stopped_by (Ends.Refused c) h t n s met = ran_of (Stops.Refused c) h (counted (stepped t n) 0) met (is_first t)
+stopped_by (Ends.Refused why) h t n s met = ran_of (Stops.Halted why) h (counted (stepped t n) 0) met (is_first t)
 stopped_by Ends.AtEnd h t n s met = ran_of Stops.Ended h (counted (stepped t n) s) met (is_first t)
 stopped_by (Ends.Blocked holder) h t n s met = ran_of (Stops.Blocked holder) h (counted (stepped t n) 0) met (is_first t)
 stopped_by Ends.Again h t n s met = ran_of Stops.Ended h (counted (stepped t n) 0) met (is_first t)
@@ -154,7 +153,7 @@ next_of w x s = record { header = x.header; split = x.split; div_split = x.div_s
 
 -- no round follows
 abbrev pub closed_at : Between → Ran
-closed_at w = cond (due_at w) (ran_of (Stops.Refused 12) w.header w.tally w.met (is_first w.tally)) (ran_of Stops.Ended w.header w.tally w.met (is_first w.tally))
+closed_at w = cond (due_at w) (ran_of Stops.OverLimit w.header w.tally w.met (is_first w.tally)) (ran_of Stops.Ended w.header w.tally w.met (is_first w.tally))
 
 -- one more round, its n steps and s strays fit the tally, in which no fault is counted before the rounds have ended
 pub record Counting (t : Tally) (n s : ℕ) : Type 0 where
@@ -221,10 +220,6 @@ pub record RoundsEnded (occ flags : List ℕ) (g : Given) (limit : ℕ) (img₀ 
 
 -- ---- the first round
 
--- the greater of two numbers
-abbrev pub greater_of : ℕ → ℕ → ℕ
-greater_of a b = cond (ltb a b) b a
-
 -- the largest train that a column of u32 entries holds
 abbrev pub column_top : ℕ
 column_top = 2 ^ 32 - 1
@@ -260,16 +255,15 @@ pub record Space (img occ col on flags known dt dn : List ℕ) : Type 0 where
 abbrev pub update_of : (img occ blocking : List ℕ) (o : Args) → Update.Updated
 update_of img occ blocking o = Update.update_free_path occ (link_idxs blocking) o.moved o.local o.limit (decoded img)
 
--- what is asked before the first round: refused as the update is, else an update that begins
-pub record Judged (w : Widths) (f : Refusal) (img occ blocking : List ℕ) (o : Args) : Type 0 where
-  pub refused : (f.number ≡ 0 → ⊥) → refused_answer f img ≡ updated_image_in w img occ blocking o.moved.0 o.local o.limit
-  pub begins : f.number ≡ 0 → UpdateBegins img occ (path_header img)
-  pub goes : f.number ≡ 0 → stored_answer (update_of img occ blocking o) img ≡ updated_image_in w img occ blocking o.moved.0 o.local o.limit
+-- what is asked before the first round: refused as the update is, else an update that begins with the numbers of the header
+pub record Judged (w : Widths) (r : Result PathHeader Refusal) (img occ blocking : List ℕ) (o : Args) : Type 0 where
+  pub refused : (f : Refusal) → r ≡ Err f → refused_answer f img ≡ updated_image_in w img occ blocking o.moved.0 o.local o.limit
+  pub begins : (h : PathHeader) → r ≡ Ok h → UpdateBegins img occ h
+  pub goes : (h : PathHeader) → r ≡ Ok h → stored_answer (update_of img occ blocking o) img ≡ updated_image_in w img occ blocking o.moved.0 o.local o.limit
 
 -- its rounds have ended with x
 pub record Finished (img₀ occ blocking : List ℕ) (o : Args) (img dt dn : List ℕ) (x : Ran) : Type 0 where
   pub kept : stop_refused x.stop ≡ false → Kept img img₀
   pub faultless : x.tally.faults ≡ 0
   pub is : Update.meets x.met (ran_by x.stop (errors_of img occ x.header) x.tally (decoded img₀) (train_of img dt dn x.header)) ≡ update_of img₀ occ blocking o
-  pub named : Named x.stop (errors_of img occ x.header)
   pub path : stop_refused x.stop ≡ false → x.same_path ≡ true → path_of img x.header.path_count ≡ path_of img₀ (path_count_of img₀)

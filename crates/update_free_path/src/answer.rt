@@ -1,14 +1,14 @@
 // The answer of an update, and the image that it leaves (free_path.rs 636-637).
-ghost use Rattle.std.specs.Prelude.{◌≡◌, false, List, ℕ, ◌<◌};
-ghost use Rattle.free_path.specs.Columns as Columns;
-ghost use Rattle.link_rules.specs.Refusals as Refusals;
-ghost use Rattle.link_rules.specs.declared.refusal.Refusal.{Refusal};
+ghost use Rattle.std.specs.Prelude.{◌≡◌, false, List, ℕ};
+ghost use Rattle.free_path.specs.Halts.{number_of, answered};
+ghost use Rattle.link_rules.specs.Refusals.{refused};
 ghost use Rattle.update_definition.specs.Update as Update;
 ghost use Rattle.update_definition.specs.UpdateImage.{left_image, refused_answer};
 ghost use Rattle.update_definition.specs.ImageTrain.{train_of};
-ghost use Rattle.update_free_path.specs.Updates.{status_of, updated_of, is_refusal, errors_of, judged_by, status_by, Named, StoreFits, AnswerFits, Answers};
+ghost use Rattle.update_free_path.specs.Updates.{status_of, updated_of, is_refusal, errors_of, judged_by, status_by, StoreFits, AnswerFits, Answers};
 
 use crate::rounds::{Ran, Stop};
+use free_path::halt::Halt;
 use image::codec::PathHeader;
 use image_store;
 use link_rules::link_idx::TrainIdx;
@@ -16,7 +16,6 @@ use link_rules::refusal::Refusal;
 use tally;
 use tally::Tally;
 use validate;
-use validate::Errors;
 
 #[derive(Clone, Copy)]
 pub enum Status {
@@ -36,13 +35,13 @@ pub struct Updated {
 }
 
 // A refusal within an update has place 0.
-fn refusal(number: u16) -> Status
-    ensures { status_of result ≡ Update.Refused (Refusals.refused number 0) }
+fn refusal_of(why: Halt) -> Refusal
+    ensures { result ≡ refused (number_of why) 0 }
 {
-    Status::Refused(Refusal {
-        number: number,
-        place: 0,
-    })
+    match why {
+        Halt::NoRoom => Refusal::new(11),
+        Halt::Panic => Refusal::new(13),
+    }
 }
 
 // Refused before anything is counted.
@@ -57,25 +56,22 @@ pub(crate) fn refused(f: Refusal) -> Updated
 }
 
 // By the number of errors of the free path.
-fn judged(e: Errors) -> Status
-    requires { (r : Refusal) → judged_by (Columns.answer e.code e.count) ≡ Update.Refused r → r.number < 65536 }
-    ensures { status_of result ≡ judged_by (Columns.answer e.code e.count) }
+fn judged(errors: Result<u64, Halt>) -> Status
+    ensures { status_of result ≡ judged_by (answered errors) }
 {
-    if e.code != 0 {
-        return refusal(e.code as u16);
+    match errors {
+        Ok(0) => Status::Success,
+        Ok(n) => Status::Faulty(n),
+        Err(why) => Status::Refused(refusal_of(why)),
     }
-    if e.count == 0 {
-        return Status::Success;
-    }
-    Status::Faulty(e.count)
 }
 
 fn status_by(img: &[u8], occ: &[u32], stop: Stop, h: PathHeader) -> Status
-    requires { Named stop (errors_of img.now occ.now h) }
     ensures { status_of result ≡ status_by stop (errors_of img.now occ.now h) }
 {
     match stop {
-        Stop::Refused(c) => refusal(c as u16),
+        Stop::Halted(why) => Status::Refused(refusal_of(why)),
+        Stop::OverLimit => Status::Refused(Refusal::new(12)),
         Stop::Blocked(holder) => Status::Blocked(holder),
         Stop::Ended => judged(validate::validate_free_path(img, h.path_count, occ, h.free as u32)),
     }
@@ -84,12 +80,7 @@ fn status_by(img: &[u8], occ: &[u32], stop: Stop, h: PathHeader) -> Status
 fn is_refusal(s: Status) -> bool
     ensures { result ≡ is_refusal s }
 {
-    match s {
-        Status::Success => false,
-        Status::Blocked(holder) => false,
-        Status::Faulty(n) => false,
-        Status::Refused(r) => true,
-    }
+    matches!(s, Status::Refused(_))
 }
 
 // The errors that a status tells.
@@ -97,10 +88,8 @@ fn faults_in(s: Status) -> u64
     ensures { result ≡ Update.faults_in (status_of s) }
 {
     match s {
-        Status::Success => 0,
-        Status::Blocked(holder) => 0,
         Status::Faulty(n) => n,
-        Status::Refused(r) => 0,
+        _ => 0,
     }
 }
 
@@ -109,10 +98,8 @@ fn met_in(s: Status, met: TrainIdx) -> TrainIdx
     ensures { result ≡ Update.met_in (status_of s) met }
 {
     match s {
-        Status::Success => met,
-        Status::Blocked(holder) => met,
-        Status::Faulty(n) => met,
-        Status::Refused(r) => TrainIdx(0),
+        Status::Refused(_) => TrainIdx(0),
+        _ => met,
     }
 }
 
@@ -140,7 +127,7 @@ pub(crate) fn answered(
     dt: &[u32],
     dn: &[u32],
 ) -> Updated
-    requires { AnswerFits image.old img.now occ.now r }
+    requires { AnswerFits image.old img.now r }
     ensures { Answers image.old img.now occ.now dt.now dn.now r result image.new }
 {
     let stop = r.stop;

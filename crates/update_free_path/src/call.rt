@@ -1,99 +1,56 @@
 // The parts of an update's call around its loop over rounds: refusals 2 to 9 and 22, and what the first round finds (free_path.rs 252-275).
 // Of its functions call_fault, which a check asks too, and given_fault and update_fault, which a game asks, are public.
-ghost use Rattle.std.specs.Prelude.{◌≡◌, cond, ◌&&◌, ◌||◌, List, ℕ, ◌^◌, ◌≤◌, ◌<◌, leb, eqb, length};
+ghost use Rattle.std.specs.Prelude.{◌≡◌, not, ◌&&◌, ◌||◌, List, ℕ, ◌^◌, ◌≤◌, ◌<◌, leb, eqb, length};
 ghost use Rattle.disp_structs.specs.Listed.{listed};
 ghost use Rattle.disp_structs.specs.Values.{minus};
 ghost use Rattle.free_path.specs.Columns.{div_at};
 ghost use Rattle.image.specs.Image.{largest_train, diverge_at, node_at, dist_fixed_max_of};
-ghost use Rattle.link_rules.specs.Refusals.{no_refusal, refused};
+ghost use Rattle.link_rules.specs.Refusals.{raised};
 ghost use Rattle.update_definition.specs.Update.{adjust_sentinel};
 ghost use Rattle.update_definition.specs.UpdateImage.{links_below, call_fault, entries_up_to, given_fault, update_fault_in};
 ghost use Rattle.image_fault.specs.declared.Widths.TheVariants.{Either};
-ghost use Rattle.update_free_path.specs.Updates.{greater_of};
 
 use crate::start::Args;
 use disp_structs::Metres;
 use image::codec;
 use image_fault::Widths;
 use link_rules::link_idx::TrainIdx;
-use link_rules::refusal;
-use link_rules::refusal::Refusal;
+use link_rules::refusal::{Refusal, refuse_unless};
 
 // ---- refusals before the first round
 
-fn links_below(blocking: &[u32], l: u32) -> bool
+fn length_fits(l: usize) -> bool
+    ensures { result ≡ (leb 2 l && leb l 4000) }
+{
+    2 <= l && l <= 4000
+}
+
+fn links_below(blocking: &[u32], l: usize) -> bool
     ensures { result ≡ links_below l blocking.now }
 {
-    let mut i = 0;
-    while i < blocking.len() {
-        if l <= blocking[i] {
-            return false;
-        }
-        i += 1;
-    }
-    true
+    blocking.iter().all(|x| (*x as usize) < l)
+}
+
+fn blocking_fits(blocking: &[u32], l: usize) -> bool
+    ensures { result ≡ (leb (length blocking.now) 4000 && links_below l blocking.now) }
+{
+    blocking.len() <= 4000 && links_below(blocking, l)
 }
 
 // The moved train and the round limit.
-fn order_fault(moved: TrainIdx, limit: u16) -> Refusal
-    ensures { result ≡ cond (eqb moved.0 0 || eqb limit 0) (refused 5 0) no_refusal }
+fn order_fits(moved: TrainIdx, limit: u16) -> bool
+    ensures { result ≡ not (eqb moved.0 0 || eqb limit 0) }
 {
-    if moved.0 == 0 {
-        return Refusal {
-            number: 5,
-            place: 0,
-        };
-    }
-    if limit == 0 {
-        return Refusal {
-            number: 5,
-            place: 0,
-        };
-    }
-    Refusal {
-        number: 0,
-        place: 0,
-    }
+    moved.0 != 0 && limit != 0
 }
 
 // 2 occupancy length; 4 blocking links; 5 moved train or limit 0. Of the occupancy only the length is asked.
-pub fn call_fault(l: usize, blocking: &[u32], moved: TrainIdx, limit: u16) -> Refusal
-    ensures { (occ : List ℕ) → length occ ≡ l → result ≡ call_fault occ blocking.now moved.0 limit }
+pub fn call_fault(l: usize, blocking: &[u32], moved: TrainIdx, limit: u16) -> Result<(), Refusal>
+    ensures { (occ : List ℕ) → length occ ≡ l → result ≡ raised (call_fault occ blocking.now moved.0 limit) }
 {
-    if l < 2 {
-        return Refusal {
-            number: 2,
-            place: 0,
-        };
-    }
-    if 4000 < l {
-        return Refusal {
-            number: 2,
-            place: 0,
-        };
-    }
-    if 4000 < blocking.len() {
-        return Refusal {
-            number: 4,
-            place: 0,
-        };
-    }
-    if links_below(blocking, l as u32) {
-        return order_fault(moved, limit);
-    }
-    Refusal {
-        number: 4,
-        place: 0,
-    }
-}
-
-fn greater(a: u32, b: u32) -> u32
-    ensures { result ≡ greater_of a b }
-{
-    if a < b {
-        return b;
-    }
-    a
+    refuse_unless(length_fits(l), 2)?;
+    refuse_unless(blocking_fits(blocking, l), 4)?;
+    refuse_unless(order_fits(moved, limit), 5)
 }
 
 // The greatest of the entries and of moved. All are read, so that the compiler can take many at once.
@@ -101,10 +58,8 @@ fn greatest_train(occ: &[u32], moved: u32) -> u32
     ensures { (top : ℕ) → leb result top ≡ (entries_up_to top occ.now && leb moved top) }
 {
     let mut t = moved;
-    let mut i = 0;
-    while i < occ.len() {
-        t = greater(t, occ[i]);
-        i += 1;
+    for x in occ {
+        t = t.max(*x);
     }
     t
 }
@@ -119,11 +74,11 @@ fn largest_train(image: &[u8]) -> u32
 }
 
 // 22: an entry of the occupancy or the moved train that the image cannot hold, in a call that takes images of either width.
-pub fn given_fault(image: &[u8], occ: &[u32], moved: TrainIdx) -> Refusal
-    ensures { result ≡ given_fault Either image.now occ.now moved.0 }
+pub fn given_fault(image: &[u8], occ: &[u32], moved: TrainIdx) -> Result<(), Refusal>
+    ensures { result ≡ raised (given_fault Either image.now occ.now moved.0) }
 {
     let t = greatest_train(occ, moved.0);
-    refusal::refused_unless(t <= largest_train(image), 22)
+    refuse_unless(t <= largest_train(image), 22)
 }
 
 // Those of the call, else those of the image; own is the 22 of the call.
@@ -133,15 +88,11 @@ pub fn update_fault(
     blocking: &[u32],
     o: Args,
     w: Widths,
-    own: Refusal,
-) -> Refusal
-    ensures { (occ : List ℕ) → length occ ≡ l → own ≡ given_fault w image.now occ o.moved.0 → result ≡ update_fault_in w image.now occ blocking.now o.moved.0 o.limit }
+    own: Result<(), Refusal>,
+) -> Result<(), Refusal>
+    ensures { (occ : List ℕ) → length occ ≡ l → own ≡ raised (given_fault w image.now occ o.moved.0) → result ≡ raised (update_fault_in w image.now occ blocking.now o.moved.0 o.limit) }
 {
-    let moved = o.moved;
-    let f = call_fault(l, blocking, moved, o.limit);
-    if f.number != 0 {
-        return f;
-    }
+    call_fault(l, blocking, o.moved, o.limit)?;
     image_fault::fault_with(image, l as u32, w, own)
 }
 
@@ -154,12 +105,10 @@ pub(crate) fn take_diverges(img: &[u8], m: usize, dt: &mut [u32], dn: &mut [u32]
 {
     let wide = codec::is_wide(img);
     let e = codec::est_count(img);
-    let mut i = 0;
-    while i < m {
+    for i in 0..m {
         let d = codec::diverge_with(img, wide, e, i as u32);
         dt[i] = d.train_idx.0;
         dn[i] = d.disp_node_idx;
-        i += 1;
     }
 }
 

@@ -9,8 +9,8 @@ pub mod rounds;
 pub mod start;
 
 ghost use Rattle.std.specs.Prelude.{◌≡◌, List, ℕ, ◌≤◌, length};
-ghost use Rattle.image.specs.Image.{est_count, diverge_room, path_header};
-ghost use Rattle.link_rules.specs.Refusals.{no_refusal};
+ghost use Rattle.image.specs.Image.{est_count, diverge_room};
+ghost use Rattle.link_rules.specs.Refusals.{raised};
 ghost use Rattle.update_definition.specs.UpdateImage.{stored_answer, given_fault, updated_image, updated_image_wide};
 ghost use Rattle.update_free_path.specs.Updates.{updated_of, update_of, UpdateBegins, Space, Judged};
 
@@ -47,19 +47,29 @@ fn update_in(
     answer::answered(image, scratch, occ, r, dt, dn)
 }
 
-// Room for an update of at most 64 est records and 64 diverge nodes over at most 512 links, which takes less time to clear; an image of 4,416 bytes is
-// the largest narrow one of that size, and a wide one may be as long.
-fn update_small(image: &mut [u8], occ: &[u32], blocking: &[u32], o: Args, h: PathHeader) -> Updated
-    requires { UpdateBegins image.old occ.now h × (est_count image.old ≤ 64) × (diverge_room image.old ≤ 64) × (length occ.now ≤ 512) × (length image.old ≤ 4416) }
+// An update in room for so many bytes, est records, links and diverge nodes.
+fn update_in_room<const BYTES: usize, const ESTS: usize, const LINKS: usize, const DIVERGES: usize>(
+    image: &mut [u8],
+    occ: &[u32],
+    blocking: &[u32],
+    o: Args,
+    h: PathHeader,
+) -> Updated
+    requires begins { UpdateBegins image.old occ.now h }
+    requires few { (BYTES ≤ 41024) × (ESTS ≤ 512) × (LINKS ≤ 4000) × (DIVERGES ≤ 1024) }
+    requires bytes { length image.old ≤ BYTES }
+    requires ests { est_count image.old ≤ ESTS }
+    requires links { length occ.now ≤ LINKS }
+    requires diverges { diverge_room image.old ≤ DIVERGES }
     ensures { updated_of result image.new ≡ stored_answer (update_of image.old occ.now blocking.now o) image.old }
 {
-    let mut scratch = [0u8; 4416];
-    let mut col = [0u32; 64];
-    let mut on = [0u8; 64];
-    let mut flags = [0u8; 512];
-    let mut known = [0u8; 512];
-    let mut dt = [0u32; 64];
-    let mut dn = [0u32; 64];
+    let mut scratch = [0u8; BYTES];
+    let mut col = [0u32; ESTS];
+    let mut on = [0u8; ESTS];
+    let mut flags = [0u8; LINKS];
+    let mut known = [0u8; LINKS];
+    let mut dt = [0u32; DIVERGES];
+    let mut dn = [0u32; DIVERGES];
     let n = image.len();
     update_in(
         image,
@@ -77,117 +87,27 @@ fn update_small(image: &mut [u8], occ: &[u32], blocking: &[u32], o: Args, h: Pat
     )
 }
 
-// The same with room for every number of diverge nodes of a narrow image.
-fn update_few(image: &mut [u8], occ: &[u32], blocking: &[u32], o: Args, h: PathHeader) -> Updated
-    requires { UpdateBegins image.old occ.now h × (est_count image.old ≤ 64) × (length occ.now ≤ 512) × (length image.old ≤ 8256) }
-    ensures { updated_of result image.new ≡ stored_answer (update_of image.old occ.now blocking.now o) image.old }
-{
-    let mut scratch = [0u8; 8256];
-    let mut col = [0u32; 64];
-    let mut on = [0u8; 64];
-    let mut flags = [0u8; 512];
-    let mut known = [0u8; 512];
-    let mut dt = [0u32; 1024];
-    let mut dn = [0u32; 1024];
-    let n = image.len();
-    update_in(
-        image,
-        &mut scratch[..n],
-        occ,
-        blocking,
-        o,
-        h,
-        &mut col,
-        &mut on,
-        &mut flags,
-        &mut known,
-        &mut dt,
-        &mut dn,
-    )
-}
-
-// For every number of est records and links, with at most 64 diverge nodes; 33,088 bytes has the largest narrow image of that kind.
-fn update_middle(image: &mut [u8], occ: &[u32], blocking: &[u32], o: Args, h: PathHeader) -> Updated
-    requires { UpdateBegins image.old occ.now h × (diverge_room image.old ≤ 64) × (length image.old ≤ 33088) }
-    ensures { updated_of result image.new ≡ stored_answer (update_of image.old occ.now blocking.now o) image.old }
-{
-    let mut scratch = [0u8; 33088];
-    let mut col = [0u32; 512];
-    let mut on = [0u8; 512];
-    let mut flags = [0u8; 4000];
-    let mut known = [0u8; 4000];
-    let mut dt = [0u32; 64];
-    let mut dn = [0u32; 64];
-    let n = image.len();
-    update_in(
-        image,
-        &mut scratch[..n],
-        occ,
-        blocking,
-        o,
-        h,
-        &mut col,
-        &mut on,
-        &mut flags,
-        &mut known,
-        &mut dt,
-        &mut dn,
-    )
-}
-
-// For the largest update.
-fn update_large(image: &mut [u8], occ: &[u32], blocking: &[u32], o: Args, h: PathHeader) -> Updated
-    requires { UpdateBegins image.old occ.now h }
-    ensures { updated_of result image.new ≡ stored_answer (update_of image.old occ.now blocking.now o) image.old }
-{
-    let mut scratch = [0u8; 41024];
-    let mut col = [0u32; 512];
-    let mut on = [0u8; 512];
-    let mut flags = [0u8; 4000];
-    let mut known = [0u8; 4000];
-    let mut dt = [0u32; 1024];
-    let mut dn = [0u32; 1024];
-    let n = image.len();
-    update_in(
-        image,
-        &mut scratch[..n],
-        occ,
-        blocking,
-        o,
-        h,
-        &mut col,
-        &mut on,
-        &mut flags,
-        &mut known,
-        &mut dt,
-        &mut dn,
-    )
-}
-
-// A short image, in room by its diverge nodes.
+// A short image of at most 64 est records over at most 512 links, in room by its diverge nodes, which takes less time to clear. 4,416 bytes has the largest
+// narrow image of at most 64 diverge nodes of that kind, and a wide one may be as long; 8,256 has that of every number of them.
 fn update_short(image: &mut [u8], occ: &[u32], blocking: &[u32], o: Args, h: PathHeader) -> Updated
     requires { UpdateBegins image.old occ.now h × (est_count image.old ≤ 64) × (length occ.now ≤ 512) × (length image.old ≤ 8256) }
     ensures { updated_of result image.new ≡ stored_answer (update_of image.old occ.now blocking.now o) image.old }
 {
-    if codec::diverge_room(image) <= 64 {
-        if image.len() <= 4416 {
-            return update_small(image, occ, blocking, o, h);
-        }
+    if codec::diverge_room(image) <= 64 && image.len() <= 4416 {
+        return update_in_room::<4416, 64, 512, 64>(image, occ, blocking, o, h);
     }
-    update_few(image, occ, blocking, o, h)
+    update_in_room::<8256, 64, 512, 1024>(image, occ, blocking, o, h)
 }
 
-// A long one, or one over many links.
+// A long one, or one over many links: every number of est records and links. 33,088 bytes has the largest narrow image of at most 64 diverge nodes.
 fn update_long(image: &mut [u8], occ: &[u32], blocking: &[u32], o: Args, h: PathHeader) -> Updated
     requires { UpdateBegins image.old occ.now h }
     ensures { updated_of result image.new ≡ stored_answer (update_of image.old occ.now blocking.now o) image.old }
 {
-    if codec::diverge_room(image) <= 64 {
-        if image.len() <= 33088 {
-            return update_middle(image, occ, blocking, o, h);
-        }
+    if codec::diverge_room(image) <= 64 && image.len() <= 33088 {
+        return update_in_room::<33088, 512, 4000, 64>(image, occ, blocking, o, h);
     }
-    update_large(image, occ, blocking, o, h)
+    update_in_room::<41024, 512, 4000, 1024>(image, occ, blocking, o, h)
 }
 
 // The update in room by its size. Each room is asked for in one place, so that the compiler lays them over one another on the stack.
@@ -195,12 +115,8 @@ fn update_begun(image: &mut [u8], occ: &[u32], blocking: &[u32], o: Args, h: Pat
     requires { UpdateBegins image.old occ.now h }
     ensures { updated_of result image.new ≡ stored_answer (update_of image.old occ.now blocking.now o) image.old }
 {
-    if codec::est_count(image) <= 64 {
-        if occ.len() <= 512 {
-            if image.len() <= 8256 {
-                return update_short(image, occ, blocking, o, h);
-            }
-        }
+    if codec::est_count(image) <= 64 && occ.len() <= 512 && image.len() <= 8256 {
+        return update_short(image, occ, blocking, o, h);
     }
     update_long(image, occ, blocking, o, h)
 }
@@ -212,66 +128,50 @@ fn update_widened(
     wide: &mut [u32],
     blocking: &[u32],
     o: Args,
+    h: PathHeader,
 ) -> Updated
-    requires { UpdateBegins image.old occ.now (path_header image.old) × (length wide.old ≡ length occ.now) }
+    requires { UpdateBegins image.old occ.now h × (length wide.old ≡ length occ.now) }
     ensures { updated_of result image.new ≡ stored_answer (update_of image.old occ.now blocking.now o) image.old }
 {
     columns::widen(occ, wide);
-    let h = codec::path_header(image);
     update_begun(image, wide, blocking, o, h)
 }
 
-// Room for at most 512 links.
-fn widen_small(image: &mut [u8], occ: &[u16], blocking: &[u32], o: Args) -> Updated
-    requires { UpdateBegins image.old occ.now (path_header image.old) × (length occ.now ≤ 512) }
+// An occupancy of at most LINKS entries is widened in room for so many.
+fn widen_in_room<const LINKS: usize>(
+    image: &mut [u8],
+    occ: &[u16],
+    blocking: &[u32],
+    o: Args,
+    h: PathHeader,
+) -> Updated
+    requires begins { UpdateBegins image.old occ.now h }
+    requires few { LINKS ≤ 4000 }
+    requires links { length occ.now ≤ LINKS }
     ensures { updated_of result image.new ≡ stored_answer (update_of image.old occ.now blocking.now o) image.old }
 {
-    let mut wide = [0u32; 512];
+    let mut wide = [0u32; LINKS];
     let n = occ.len();
-    update_widened(image, occ, &mut wide[..n], blocking, o)
+    update_widened(image, occ, &mut wide[..n], blocking, o, h)
 }
 
-fn widen_large(image: &mut [u8], occ: &[u16], blocking: &[u32], o: Args) -> Updated
-    requires { UpdateBegins image.old occ.now (path_header image.old) }
-    ensures { updated_of result image.new ≡ stored_answer (update_of image.old occ.now blocking.now o) image.old }
-{
-    let mut wide = [0u32; 4000];
-    let n = occ.len();
-    update_widened(image, occ, &mut wide[..n], blocking, o)
-}
-
-// Refusals 2, 4 to 10 and 22 over l links, else number 0; own is the 22 of the call.
+// Refusals 2, 4 to 10 and 22 over l links, else the numbers of the image's header; own is the 22 of the call.
 fn start_fault(
     image: &[u8],
     l: usize,
     blocking: &[u32],
     o: Args,
     w: Widths,
-    own: Refusal,
-) -> Refusal
-    ensures { (occ : List ℕ) → length occ ≡ l → own ≡ given_fault w image.now occ o.moved.0 → Judged w result image.now occ blocking.now o }
+    own: Result<(), Refusal>,
+) -> Result<PathHeader, Refusal>
+    ensures { (occ : List ℕ) → length occ ≡ l → own ≡ raised (given_fault w image.now occ o.moved.0) → Judged w result image.now occ blocking.now o }
 {
-    let f = call::update_fault(image, l, blocking, o, w, own);
-    if f.number != 0 {
-        return f;
-    }
+    call::update_fault(image, l, blocking, o, w, own)?;
     let h = codec::path_header(image);
     if h.path_count <= h.free as u32 {
-        return Refusal {
-            number: 10,
-            place: 0,
-        };
+        return Err(Refusal::new(10));
     }
-    f
-}
-
-fn no_refusal() -> Refusal
-    ensures { result ≡ no_refusal }
-{
-    Refusal {
-        number: 0,
-        place: 0,
-    }
+    Ok(h)
 }
 
 // Updates the train of a narrow image over an occupancy of any trains. Refused by 2 and 4 to 13: then nothing is changed.
@@ -286,16 +186,14 @@ pub fn update_over(
     ensures { updated_of result image.new ≡ updated_image image.old occ.now blocking.now moved.0 local limit }
 {
     let o = Args {
-        moved: moved,
-        local: local,
-        limit: limit,
+        moved,
+        local,
+        limit,
     };
-    let f = start_fault(image, occ.len(), blocking, o, Widths::Narrow, no_refusal());
-    if f.number != 0 {
-        return answer::refused(f);
+    match start_fault(image, occ.len(), blocking, o, Widths::Narrow, Ok(())) {
+        Ok(h) => update_begun(image, occ, blocking, o, h),
+        Err(f) => answer::refused(f),
     }
-    let h = codec::path_header(image);
-    update_begun(image, occ, blocking, o, h)
 }
 
 // Updates the train of an image of either width (document 02, Q-6). Refused by 2, 4 to 13 and 22: then nothing is changed.
@@ -310,17 +208,15 @@ pub fn update_wide(
     ensures { updated_of result image.new ≡ updated_image_wide image.old occ.now blocking.now moved.0 local limit }
 {
     let o = Args {
-        moved: moved,
-        local: local,
-        limit: limit,
+        moved,
+        local,
+        limit,
     };
     let own = call::given_fault(image, occ, moved);
-    let f = start_fault(image, occ.len(), blocking, o, Widths::Either, own);
-    if f.number != 0 {
-        return answer::refused(f);
+    match start_fault(image, occ.len(), blocking, o, Widths::Either, own) {
+        Ok(h) => update_begun(image, occ, blocking, o, h),
+        Err(f) => answer::refused(f),
     }
-    let h = codec::path_header(image);
-    update_begun(image, occ, blocking, o, h)
 }
 
 // Updates the train of a narrow image over an occupancy of u16 entries, which is judged by its length and then widened once.
@@ -336,15 +232,16 @@ pub fn update_free_path(
 {
     let o = Args {
         moved: TrainIdx(moved.0 as u32),
-        local: local,
-        limit: limit,
+        local,
+        limit,
     };
-    let f = start_fault(image, occ.len(), blocking, o, Widths::Narrow, no_refusal());
-    if f.number != 0 {
-        return answer::refused(f);
+    match start_fault(image, occ.len(), blocking, o, Widths::Narrow, Ok(())) {
+        Ok(h) => {
+            if occ.len() <= 512 {
+                return widen_in_room::<512>(image, occ, blocking, o, h);
+            }
+            widen_in_room::<4000>(image, occ, blocking, o, h)
+        }
+        Err(f) => answer::refused(f),
     }
-    if 512 < occ.len() {
-        return widen_large(image, occ, blocking, o);
-    }
-    widen_small(image, occ, blocking, o)
 }

@@ -47,11 +47,9 @@ pub(crate) fn link_path(img: &[u8], n: u32, col: &mut [u32])
     ensures { listed n (link_at col.new) ≡ link_idx_path (path_of img.now n) }
 {
     let e = codec::est_count(img);
-    let mut i: u32 = 0;
-    while i < n {
+    for i in 0..n {
         let l = arrive_link(img, e, i);
         col[i as usize] = l.0;
-        i += 1;
     }
 }
 
@@ -76,10 +74,8 @@ pub(crate) fn mark_path(img: &[u8], n: u32, on: &mut [u8])
 {
     codec::zero_all(on);
     let e = codec::est_count(img);
-    let mut i: u32 = 0;
-    while i < n {
+    for i in 0..n {
         let x = est_of(img, e, i);
         on[x.0 as usize] = 1;
-        i += 1;
     }
 }

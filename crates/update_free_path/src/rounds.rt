@@ -11,6 +11,7 @@ ghost use Rattle.tally.specs.Tally.{counted, stepped};
 ghost use Rattle.update_free_path.specs.Updates.{due_at, is_last, ran_of, is_first, kept_met, strays_by, stopped_by, next_of, closed_at, Counting, Sizes, Top, RoundsEnded};
 
 use crate::path;
+use free_path::halt::Halt;
 use free_path::strays;
 use image::codec::PathHeader;
 use link_rules::link_idx::TrainIdx;
@@ -28,10 +29,11 @@ pub struct Between {
     pub met: TrainIdx,
 }
 
-// How the loop stops: refused by a number, blocked by a train, or with a path to validate.
+// How the loop stops: a round halts, the limit of rounds is met before the path ends (12), blocked by a train, or with a path to validate.
 #[derive(Clone, Copy)]
 pub enum Stop {
-    Refused(u32),
+    Halted(Halt),
+    OverLimit,
     Blocked(TrainIdx),
     Ended,
 }
@@ -56,32 +58,24 @@ fn is_due(w: Between) -> bool
 fn goes_on(w: Between, limit: u16) -> bool
     ensures { result ≡ (ltb w.tally.rounds limit && due_at w) }
 {
-    if w.tally.rounds < limit {
-        return is_due(w);
-    }
-    false
+    w.tally.rounds < limit && is_due(w)
 }
 
 // Does no round follow one that ends so?
 fn is_last(end: End) -> bool
     ensures { result ≡ is_last end }
 {
-    match end {
-        End::Refused(c) => true,
-        End::AtEnd => true,
-        End::Blocked(holder) => true,
-        End::Again => false,
-    }
+    !matches!(end, End::Again)
 }
 
 fn ran_with(stop: Stop, h: PathHeader, t: Tally, met: TrainIdx, first: bool) -> Ran
     ensures { result ≡ ran_of stop h t met first }
 {
     Ran {
-        stop: stop,
+        stop,
         header: h,
         tally: t,
-        met: met,
+        met,
         same_path: first,
     }
 }
@@ -111,7 +105,7 @@ fn tallied(t: Tally, steps: u64, strays: usize) -> Tally
     tally::counted_round(tally::counted_steps(t, steps), strays as u64, 0)
 }
 
-// A round has ended and no other follows; strays are those of its path.
+// A round has ended and no other follows; strays are those of its path. Four ends have three answers, so that no arm says less.
 fn stopped(w: Between, x: RoundEnd, strays: usize) -> Ran
     requires { Counting w.tally x.steps strays }
     ensures { result ≡ stopped_by x.end x.header w.tally x.steps strays (kept_met w x) }
@@ -122,7 +116,7 @@ fn stopped(w: Between, x: RoundEnd, strays: usize) -> Ran
     let first = is_first(w);
     let end = x.end;
     match end {
-        End::Refused(c) => ran_with(Stop::Refused(c), h, tallied(t, x.steps, 0), met, first),
+        End::Refused(why) => ran_with(Stop::Halted(why), h, tallied(t, x.steps, 0), met, first),
         End::AtEnd => ran_with(Stop::Ended, h, tallied(t, x.steps, strays), met, first),
         End::Blocked(holder) => ran_with(
             Stop::Blocked(holder),
@@ -160,7 +154,7 @@ fn closed(w: Between) -> Ran
     let met = w.met;
     let first = is_first(w);
     if is_due(w) {
-        return ran_with(Stop::Refused(12), h, t, met, first);
+        return ran_with(Stop::OverLimit, h, t, met, first);
     }
     ran_with(Stop::Ended, h, t, met, first)
 }
@@ -177,10 +171,8 @@ fn strays_at(end: End, col: &[u32], h: PathHeader, occ: &[u32], known: &[u8]) ->
     ensures { result ≡ strays_by end (count (stray_link occ.now (flagged known.now)) (drop h.free (listed h.path_count (link_at col.now)))) }
 {
     match end {
-        End::Refused(c) => 0,
         End::AtEnd => strays_of(col, h, occ, known),
-        End::Blocked(holder) => 0,
-        End::Again => 0,
+        _ => 0,
     }
 }
 
@@ -210,6 +202,7 @@ pub(crate) fn rounds(
     ensures { RoundsEnded occ.now known.now g limit img.old dt.old dn.old start img.new dt.new dn.new result }
 {
     let mut w = start;
+    // A while: its test reads what the round before it left.
     while goes_on(w, limit) {
         let x = splitting::round(img, occ, col, on, g, w.header, w.split, w.div_split, dt, dn);
         let end = x.end;

@@ -2,7 +2,7 @@
 use mathlib.Core.Path.{◌≡◌, refl, sym, ap, ◌∙◌}
 use mathlib.Core.Bool.{Bool, true, false, cond}
 use mathlib.Core.List.{List, ◌∷◌}
-use Prim.Native.Nat.{ℕ, zero, suc, ◌+◌, ◌≤◌, ◌<◌}
+use Prim.Native.Nat.{ℕ, suc, ◌+◌, ◌≤◌, ◌<◌}
 use native.Mathlib.Omega.{arith}
 use native.Mathlib.Numerals.{add-one}
 use lib.ListN.{length, get_or, drop}
@@ -11,9 +11,9 @@ use Rattle.disp_structs.specs.Listed.{listed}
 use Rattle.disp_structs.proofs.ListedLaws.{listed-length, listed_at}
 use Rattle.disp_structs.specs.declared.EstTime.{EstTime}
 use Rattle.disp_structs.specs.declared.DispNode.{DispNode}
-use Rattle.free_path.specs.Base.{Res, ok, no, ◌>>=◌, at, count}
+use Rattle.free_path.specs.Base.{Res, ok, no, ◌>>=◌, ◌>>◌, need, at, count}
 use borrow.Author.Tests.{lt-leb, le-leb}
-use Rattle.free_path.specs.Columns.{answer}
+use lib.Dec.{leb}
 use Rattle.free_path.specs.Validate.{bad_path, bad_steps, bad_step, in_conflict, validate_free_path}
 use Rattle.free_path.proofs.ColumnLaws.{listed_read, listed_out}
 use Rattle.free_path.proofs.ValidateLaws.{errors_turn, errors_end}
@@ -78,29 +78,26 @@ module _ (e n : ℕ) (f : ℕ → EstTime) (g : ℕ → DispNode) (k i : ℕ) wh
   error_end h = ap (plus k) (errors_end ests path i (g 0) (omega (arith, h, listed-length n g))) ∙ ap ok (omega arith)
 
 -- a count that goes up by one at most stays below the index
-pub one_more : (k i : ℕ) (v : Bool) (r : ℕ) → r ≡ k + cond v 1 0 → k ≤ i → r ≤ i + 1
-one_more k i true r e h = omega arith
-one_more k i false r e h = omega arith
+pub one_more : (k i : ℕ) (v : Bool) → k < i → k + cond v 1 0 < i + 1
+one_more k i true h = omega arith
+one_more k i false h = omega arith
 
 -- ---- the whole count, from that of the steps
 
-module _ (occ : List ℕ) (est : List EstTime) (free : ℕ) (path : List DispNode) (c x : ℕ) (steps : answer c x ≡ bad_path est path) where
-  pub errors_refused : (c ≡ 0 → ⊥) → answer c x ≡ validate_free_path occ est free path
+module _ (occ : List ℕ) (est : List EstTime) (free : ℕ) (path : List DispNode) where
+  abbrev rest : ℕ → Res ℕ
+  rest n = need (leb free (length path)) >> ok (n + count (in_conflict occ) (drop free path))
+
+  whole : validate_free_path occ est free path ≡ (bad_path est path >>= rest)
   unfolding validate_free_path
-  errors_refused h = go c h steps
-    where
-      go : (d : ℕ) → (d ≡ 0 → ⊥) → answer d x ≡ bad_path est path → answer d x ≡ validate_free_path occ est free path
-      go zero q e = absurd (q refl)
-      go (suc d) q e = rw (← e)
+  whole = refl
 
-  module _ (z : c ≡ 0) where
-    counted : bad_path est path ≡ ok x
-    counted = sym steps ∙ ap (λ (d : ℕ). answer d x) z
+  pub errors_refused : (m : ℕ) → no m ≡ bad_path est path → no m ≡ validate_free_path occ est free path
+  errors_refused m q = ap (λ (r : Res ℕ). r >>= rest) q ∙ sym whole
 
+  module _ (x : ℕ) (steps : ok x ≡ bad_path est path) where
     pub errors_beyond : length path < free → no 13 ≡ validate_free_path occ est free path
-    unfolding validate_free_path
-    errors_beyond h = rw (counted, lt-leb free (length path) h)
+    errors_beyond h = rw (whole, ← steps, lt-leb free (length path) h)
 
     pub errors_all : free ≤ length path → ok (x + count (in_conflict occ) (drop free path)) ≡ validate_free_path occ est free path
-    unfolding validate_free_path
-    errors_all h = rw (counted, le-leb free (length path) h)
+    errors_all h = rw (whole, ← steps, le-leb free (length path) h)

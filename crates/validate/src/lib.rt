@@ -4,39 +4,27 @@
 
 pub mod step;
 
-ghost use Rattle.std.specs.Prelude.{◌≡◌, cond, ◌+◌, ◌<◌, ◌^◌, drop};
+ghost use Rattle.std.specs.Prelude.{◌≡◌, ◌<◌, ◌^◌, drop, IfOk};
 ghost use Rattle.free_path.specs.Base.{count};
-ghost use Rattle.free_path.specs.Columns.{answer};
+ghost use Rattle.free_path.specs.Halts.{answered};
 ghost use Rattle.free_path.specs.Validate.{bad_path, in_conflict, validate_free_path};
 ghost use Rattle.image.specs.Image.{est_count, node_at, ests_of, path_of};
 
 use disp_structs::{DispNode, EstIdx, Metres, Seconds, events, floats};
 use free_path::columns;
+use free_path::halt::Halt;
 use image::codec;
 use link_rules::octets;
 
-// A refusal's number, or 0; and the number of errors.
-#[derive(Clone, Copy)]
-pub struct Errors {
-    pub code: u32,
-    pub count: u64,
-}
-
 // The errors of the steps of the path, the first n nodes of the image, and the occupancy conflicts at or after free.
-pub fn validate_free_path(img: &[u8], n: u32, occ: &[u32], free: u32) -> Errors
-    ensures { answer result.code result.count ≡ validate_free_path occ.now (ests_of img.now (est_count img.now)) free (path_of img.now n) }
+pub fn validate_free_path(img: &[u8], n: u32, occ: &[u32], free: u32) -> Result<u64, Halt>
+    ensures { answered result ≡ validate_free_path occ.now (ests_of img.now (est_count img.now)) free (path_of img.now n) }
 {
-    let steps = step_errors(img, n);
-    if steps.code != 0 {
-        return steps;
-    }
+    let steps = step_errors(img, n)?;
     if n < free {
-        return Errors { code: 13, count: 0 };
+        return Err(Halt::Panic);
     }
-    Errors {
-        code: 0,
-        count: steps.count + conflicts(img, n, occ, free),
-    }
+    Ok(steps + conflicts(img, n, occ, free))
 }
 
 // Node i of an image with e est records. As codec::node_at, but called at one place and inlined there: fields that bad_step does not read are not computed.
@@ -57,61 +45,42 @@ fn path_node(img: &[u8], e: u32, i: u32) -> DispNode
     }
 }
 
-// An est number past the records is 13. a and x are node i and its est record.
-fn step_errors(img: &[u8], n: u32) -> Errors
-    ensures { (answer result.code result.count ≡ bad_path (ests_of img.now (est_count img.now)) (path_of img.now n)) × (result.count < 2 ^ 32) }
+// An est number past the records is 13. a and x are the node before i and its est record.
+fn step_errors(img: &[u8], n: u32) -> Result<u64, Halt>
+    ensures { (answered result ≡ bad_path (ests_of img.now (est_count img.now)) (path_of img.now n)) × IfOk result (λ k. k < 2 ^ 32) }
 {
     let e = codec::est_count(img);
     let mut a = codec::node_at(img, 0);
     let mut x = codec::est_at(img, a.est_idx.0);
     let mut k: u64 = 0;
-    let mut i: u32 = 0;
-    while (i as u64) + 1 < (n as u64) {
-        let b = path_node(img, e, i + 1);
-        if e <= a.est_idx.0 {
-            return Errors { code: 13, count: 0 };
-        }
-        if e <= b.est_idx.0 {
-            return Errors { code: 13, count: 0 };
+    for i in 1..n {
+        let b = path_node(img, e, i);
+        if e <= a.est_idx.0 || e <= b.est_idx.0 {
+            return Err(Halt::Panic);
         }
         let y = codec::est_at(img, b.est_idx.0);
-        k = more(k, step::bad_step(a, b, x, y));
+        k += u64::from(step::bad_step(a, b, x, y));
         a = b;
         x = y;
-        i += 1;
     }
-    Errors { code: 0, count: k }
+    Ok(k)
 }
 
-fn more(k: u64, one: bool) -> u64
-    requires { k < 2 ^ 33 }
-    ensures { result ≡ k + cond one 1 0 }
-{
-    if one {
-        return k + 1;
-    }
-    k
-}
-
+#[tactic(auto, unfolding(free_path::specs::Validate::in_conflict))]
 fn in_conflict(img: &[u8], occ: &[u32], i: u32) -> bool
     ensures { result ≡ in_conflict occ.now (node_at img.now i) }
 {
     let e = codec::node_link_event(img, i);
-    let t = e.est_type;
-    if events::is_arrive(t) {
-        return columns::is_occupied(occ, e.link_idx);
-    }
-    false
+    events::is_arrive(e.est_type) && columns::is_occupied(occ, e.link_idx)
 }
 
+// A loop: filter and count were measured slower.
 fn conflicts(img: &[u8], n: u32, occ: &[u32], free: u32) -> u64
     ensures { (result ≡ count (in_conflict occ.now) (drop free (path_of img.now n))) × (result < 2 ^ 32) }
 {
     let mut k: u64 = 0;
-    let mut i = free;
-    while i < n {
-        k = more(k, in_conflict(img, occ, i));
-        i += 1;
+    for i in free..n {
+        k += u64::from(in_conflict(img, occ, i));
     }
     k
 }

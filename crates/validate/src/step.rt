@@ -4,25 +4,18 @@ ghost use Rattle.free_path.specs.Validate.{steps_next, steps_alt, bad_step};
 
 use disp_structs::{DispNode, EstTime, floats};
 
+#[tactic(auto, unfolding(free_path::specs::Validate::steps_next))]
 fn steps_next(a: DispNode, b: DispNode, x: EstTime, y: EstTime) -> bool
     ensures { result ≡ steps_next a b x y }
 {
-    if x.idx_next.0 != b.est_idx.0 {
-        return false;
-    }
-    if y.idx_prev.0 == a.est_idx.0 {
-        return true;
-    }
-    y.idx_prev_alt.0 == a.est_idx.0
+    x.idx_next == b.est_idx && (y.idx_prev == a.est_idx || y.idx_prev_alt == a.est_idx)
 }
 
+#[tactic(auto, unfolding(free_path::specs::Validate::steps_alt))]
 fn steps_alt(a: DispNode, b: DispNode, x: EstTime, y: EstTime) -> bool
     ensures { result ≡ steps_alt a b x y }
 {
-    if x.idx_next_alt.0 != b.est_idx.0 {
-        return false;
-    }
-    y.idx_prev.0 == a.est_idx.0
+    x.idx_next_alt == b.est_idx && y.idx_prev == a.est_idx
 }
 
 // Has the step from a to b an error? x and y are their est records.

@@ -10,14 +10,14 @@ use lib.Seq.{get_or-set_same, get_or-set_other, set_out}
 use borrow.Author.Tests.{ltb-true, ltb-false, eqb-true, eqb-false, leb-true, leb-false, le-leb, lt-leb}
 use Rattle.link_rules.specs.LinkIdx.{no_train, same_train, entry_at, hold, occupied}
 use Rattle.link_rules.specs.Network.{link_count, link_at, table_fits}
-use Rattle.link_rules.specs.Refusals.{or_else, refused_unless}
-use Rattle.link_rules.specs.AdvanceRewind.{hold_all, refilled, reset_link_train_idx, reset_all, update_links_blocked, is_link, mark_refusal, Marked, marked, marked_by, mark_of}
+use Rattle.link_rules.specs.Refusals.{or_else, refused_unless, Done, Refused, raised}
+use Rattle.link_rules.specs.AdvanceRewind.{hold_all, refilled, reset_link_train_idx, reset_all, update_links_blocked, is_link, table_fault, entries_fault, link_fault, fault_judged, mark_refusal, Marked, marked, marked_by, mark_of}
 use Rattle.link_rules.specs.declared.link_idx.LinkIdx.{LinkIdx}
 use Rattle.link_rules.specs.declared.link_idx.TrainIdx.{TrainIdx}
-use Rattle.link_rules.specs.declared.refusal.Answer.TheVariants.{Done, Refused}
 use Rattle.link_rules.specs.declared.refusal.Refusal.{Refusal}
-use Rattle.link_rules.proofs.MarkLaws.{number_by, by_tests, refused_by, refused-leaves, length_marked}
-use Rattle.wide_occupancy.specs.WideOccupancy.{largest, six_digits, mark_wide_refusal, mark_wide_of}
+use Rattle.link_rules.proofs.MarkLaws.{number_by, by_tests, refused_by, refused_marked, refused-leaves, length_marked}
+use Rattle.link_rules.proofs.RefusalLaws.{or_else_third, unless_place, chain_place}
+use Rattle.wide_occupancy.specs.WideOccupancy.{largest, six_digits, large_train_fault, mark_wide_fault, mark_wide_refusal, mark_wide_of}
 use Rattle.wide_occupancy.proofs.TrainLaws.{UpTo, largest_bounds, bounded_largest}
 
 -- ---- the refusals, by their tests: the table, the length, the link, the trains
@@ -66,6 +66,24 @@ module _ (tbl occ : List ℕ) (l : LinkIdx) (t : TrainIdx) where
   high-refused h =
       refused_by (mark_wide_refusal tbl occ l t) occ (update_links_blocked tbl occ l t)
       (λ z. high-number (table_fits tbl) (eqb (length occ) (link_count tbl)) (is_link tbl l) (sym (by false (lt-leb (max t.0 (largest occ)) six_digits h)) ∙ z))
+
+  -- 1, 2 and 3 over a judged table, then 22
+  pub then_large : (fits : Bool) → fits ≡ table_fits tbl → raised (or_else (fault_judged fits tbl (length occ) l) (large_train_fault six_digits occ t)) ≡ raised (mark_wide_fault tbl occ l t)
+  then_large fits e =
+      ap (λ (b : Bool). raised (or_else (fault_judged b tbl (length occ) l) (large_train_fault six_digits occ t))) e
+      ∙ ap raised
+      (or_else_third (table_fault tbl) (or_else (entries_fault tbl (length occ)) (link_fault tbl l)) (large_train_fault six_digits occ t)
+      ∙ ap (or_else (table_fault tbl)) (or_else_third (entries_fault tbl (length occ)) (link_fault tbl l) (large_train_fault six_digits occ t)))
+
+  -- a mark whose first refusal is f
+  pub refused_wide : (f : Refusal) (left : List ℕ) → raised (mark_wide_fault tbl occ l t) ≡ Refused f → marked (Refused f) occ ≡ marked_by (mark_wide_refusal tbl occ l t) occ left
+  unfolding mark_wide_refusal
+  refused_wide f left e =
+      refused_marked (mark_wide_fault tbl occ l t) f occ left
+      (chain_place (table_fits tbl) 1 (or_else (entries_fault tbl (length occ)) (or_else (link_fault tbl l) (large_train_fault six_digits occ t)))
+      (chain_place (eqb (length occ) (link_count tbl)) 2 (or_else (link_fault tbl l) (large_train_fault six_digits occ t))
+      (chain_place (is_link tbl l) 3 (large_train_fault six_digits occ t) (unless_place (leb (max t.0 (largest occ)) six_digits) 22))))
+      e
 
   -- what holds of mark_of, and of a refused call that leaves the occupancy, holds of it
   either : (P : Marked → Type 0) → (t.0 ≤ six_digits → largest occ ≤ six_digits → P (mark_of tbl occ l t)) → ((r : Refusal) → P (marked (Refused r) occ)) → P (mark_wide_of tbl occ l t)

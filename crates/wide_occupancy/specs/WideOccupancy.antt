@@ -20,12 +20,15 @@ abbrev pub large_train_fault : (top : ℕ) (occ : List ℕ) (t : TrainIdx) → R
 large_train_fault top occ t = refused_unless (leb (max t.0 (largest occ)) top) 22
 
 -- 1, 2 and 3 as over u16 entries, then 22; all have place 0
-unfoldable pub mark_wide_refusal : (tbl occ : List ℕ) (l : LinkIdx) (t : TrainIdx) → ℕ
-mark_wide_refusal tbl occ l t =
-    (or_else (table_fault tbl)
+abbrev pub mark_wide_fault : (tbl occ : List ℕ) (l : LinkIdx) (t : TrainIdx) → Refusal
+mark_wide_fault tbl occ l t =
+    or_else (table_fault tbl)
     (or_else (entries_fault tbl (length occ))
     (or_else (link_fault tbl l)
-    (large_train_fault six_digits occ t)))).number
+    (large_train_fault six_digits occ t)))
+
+unfoldable pub mark_wide_refusal : (tbl occ : List ℕ) (l : LinkIdx) (t : TrainIdx) → ℕ
+mark_wide_refusal tbl occ l t = (mark_wide_fault tbl occ l t).number
 
 -- mark or release, the latter with train 0
 unfoldable pub mark_wide_of : (tbl occ : List ℕ) (l : LinkIdx) (t : TrainIdx) → Marked

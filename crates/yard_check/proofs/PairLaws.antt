@@ -21,6 +21,9 @@ use Rattle.update_definition.specs.UpdateImage.{call_fault, given_fault}
 use Rattle.update_laws.proofs.BytesAccepted.{narrow-held}
 use Rattle.wide_occupancy.specs.WideOccupancy.{largest, large_train_fault}
 use Rattle.wide_occupancy.proofs.TrainLaws.{largest_bounds}
+use Rattle.link_rules.specs.Refusals.{raised}
+use Rattle.link_rules.specs.Refusals as Raised
+use Rattle.link_rules.proofs.RefusalLaws.{some_raised}
 use Rattle.yard_check.specs.Yard.{yard_size, slot_count, part_begin, part_end, part_of, yard_fits, yard_fault}
 use Rattle.yard_check.specs.Check.{CheckArgs, slots_fault, report_fault, Row, is_finished_row, is_blocked_row, is_erred_row, Visit, slot_visit, slot_image, yard_after, report_after, Refused, answer_by, answer_of, slot_set}
 use Rattle.yard_check.specs.Checks.{tally_after, NextTurn, Lies, slot_seen, Spans, span_image, Agree, SpanVisited}
@@ -126,8 +129,10 @@ module _ (yard second : List ℕ) (count : ℕ) (occ : List ℕ) (a : CheckArgs)
       go zero e = ok e
       go (suc n) e = halt
 
-  pub pair_refused : (f : Refusal) → f ≡ fault → (f.number ≡ 0 → ⊥) → pair_of (Refused f) yard second report ≡ pair_checked yard second count occ a report
-  pair_refused f e h = ap (λ (x : Refusal). pair_of (Refused x) yard second report) e ∙ pair-by (λ (c : PairChecked). pair_of (Refused fault) yard second report ≡ c) refl (λ n. absurd (h (ap (λ (x : Refusal). x.number) e ∙ n)))
+  pub pair_refused : (f : Refusal) → raised fault ≡ Raised.Refused f → pair_of (Refused f) yard second report ≡ pair_checked yard second count occ a report
+  pair_refused f e =
+      let some = some_raised fault f e in
+      ap (λ (x : Refusal). pair_of (Refused x) yard second report) (sym some.0) ∙ pair-by (λ (c : PairChecked). pair_of (Refused fault) yard second report ≡ c) refl (λ n. absurd (some.1 n))
 
   pub pair-done : fault.number ≡ 0 → done ≡ pair_checked yard second count occ a report
   unfolding pair_checked

@@ -1,21 +1,22 @@
 -- Bytes compared, and the set of the slots whose image a check changed. Assumes nothing.
-use mathlib.Core.Path.{◌≡◌, refl, sym, ap, ap₂, subst, ◌∙◌}
-use mathlib.Core.Logic.{⊎_elim}
+use mathlib.Core.Path.{◌≡◌, refl, sym, ap, ap₂, ◌∙◌}
 use mathlib.Core.Bool.{Bool, true, false, cond, not, ◌&&◌}
 use mathlib.Core.List.{List, ◌++◌}
-use Prim.Native.Nat.{ℕ, zero, suc, ◌+◌, ◌*◌, ◌/◌, ◌%◌, ◌^◌, ◌≤◌, ◌<◌}
-use native.Mathlib.Nat.{two-pow-succ, eq-or-lt_of_le}
+use Prim.Native.Nat.{ℕ, zero, suc, ◌+◌, ◌*◌, ◌%◌, ◌^◌, ◌≤◌, ◌<◌}
+use native.Mathlib.Nat.{two-pow-succ}
 use native.Mathlib.Numerals.{add-one}
 use native.Mathlib.Omega.{arith}
 use lib.Dec.{leb, eqb}
 use lib.ListN.{length, get_or, take, drop, length-append, length-drop}
 use lib.Pow.{pow_mono, shl_exact}
 use lib.Seq.{ext_get_or, take-append_seam}
-use borrow.Author.Tests.{eqb-true, eqb-false, leb-true, leb-false, eq-eqb, ne_eqb}
+use borrow.Author.Tests.{eqb-true, leb-true, leb-false, eq-eqb, ne_eqb}
+use Rattle.std.specs.Cmp.Lexicographic.{same_text, other_text}
+use Rattle.std.proofs.Common.{nat_eq}
+use lib.Pointwise.{pointwise}
 use Rattle.link_rules.specs.Network.{all_below}
-use Rattle.link_rules.specs.Octets.{le_at, put_bytes, put_whole}
-use Rattle.link_rules.proofs.OctetLaws.{Bytes, put-none, put_some}
-use Rattle.image.proofs.Writers.{side}
+use Rattle.link_rules.specs.Octets.{put_bytes, put_whole}
+use Rattle.link_rules.proofs.OctetLaws.{put-none, put_some}
 use Rattle.link_rules.proofs.TableLaws.{all-at, both}
 use Rattle.yard_check.specs.Bytes.{same_bytes}
 use Rattle.yard_check.specs.Check.{slot_set, is_seen}
@@ -48,51 +49,14 @@ same_self xs = lengths_same xs xs refl ∙ go (length xs)
     go zero = refl
     go (suc n) = rw (go n, eq-eqb (get_or xs n 0) (get_or xs n 0) refl)
 
--- the same number of bytes makes the same bytes
-le_bytes : (v : ℕ) (xs ys : List ℕ) (j : ℕ) → Bytes xs → Bytes ys → le_at v xs j ≡ le_at v ys j → (i : ℕ) → j ≤ i → i < j + v → get_or xs i 0 ≡ get_or ys i 0
-unfolding le_at
-le_bytes zero xs ys j b c e i l m = absurd (omega arith)
-le_bytes (suc v) xs ys j b c e i l m =
-    ⊎_elim
-    (λ (k : j ≡ i). subst (λ (t : ℕ). get_or xs t 0 ≡ get_or ys t 0) k (omega (arith, e, b j, c j)))
-    (λ (k : j < i). le_bytes v xs ys (j + 1) b c (omega (arith, e, b j, c j)) i (omega arith) (omega arith))
-    (eq-or-lt_of_le l)
-
--- of slices of one length, by their words
-module _ (xs ys : List ℕ) (b : Bytes xs) (c : Bytes ys) (long : length xs ≡ length ys) where
-  abbrev pub same_word : ℕ → Bool
-  same_word w = eqb (le_at 8 xs (8 * w)) (le_at 8 ys (8 * w))
-
-  pub words_differ : (w : ℕ) → same_word w ≡ false → same_bytes xs ys ≡ false
-  words_differ w e = go (same_bytes xs ys) refl
-    where
-      go : (t : Bool) → same_bytes xs ys ≡ t → same_bytes xs ys ≡ false
-      go true q = absurd (eqb-false (le_at 8 xs (8 * w)) (le_at 8 ys (8 * w)) e (ap (λ (z : List ℕ). le_at 8 z (8 * w)) (same_bytes_lem xs ys q)))
-      go false q = q
-
-  word_bytes : (w : ℕ) → same_word w ≡ true → (i : ℕ) → 8 * w ≤ i → i < 8 * w + 8 → get_or xs i 0 ≡ get_or ys i 0
-  word_bytes w e = le_bytes 8 xs ys (8 * w) b c (eqb-true (le_at 8 xs (8 * w)) (le_at 8 ys (8 * w)) e)
-
-  words_same : all_below (length xs / 8) same_word ≡ true → same_word (length xs / 8) ≡ true → same_bytes xs ys ≡ true
-  words_same all last = ap (λ (z : List ℕ). same_bytes xs z) (sym equal) ∙ same_self xs
-    where
-      byte : (i : ℕ) → i < length xs → get_or xs i 0 ≡ get_or ys i 0
-      byte i l =
-          ⊎_elim
-          (λ (k : i / 8 < length xs / 8). word_bytes (i / 8) (all-at same_word (length xs / 8) (i / 8) all k) i (omega arith) (omega arith))
-          (λ (k : length xs / 8 ≤ i / 8). word_bytes (length xs / 8) last i (omega (arith, k)) (omega (arith, l)))
-          (side (i / 8) (length xs / 8))
-
-      equal : xs ≡ ys
-      equal = ext_get_or 0 xs ys long byte
-
-  -- all words but the last are the same
-  pub last_word : all_below (length xs / 8) same_word ≡ true → same_word (length xs / 8) ≡ same_bytes xs ys
-  last_word all = go (same_word (length xs / 8)) refl
-    where
-      go : (t : Bool) → same_word (length xs / 8) ≡ t → same_word (length xs / 8) ≡ same_bytes xs ys
-      go true e = e ∙ sym (words_same all e)
-      go false e = e ∙ sym (words_differ (length xs / 8) e)
+-- as == on slices compares them
+pub same_pairs : (xs ys : List ℕ) → pointwise nat_eq xs ys ≡ same_bytes xs ys
+same_pairs xs ys = go (pointwise nat_eq xs ys) (same_bytes xs ys) refl refl
+  where
+    go : (r t : Bool) → r ≡ pointwise nat_eq xs ys → same_bytes xs ys ≡ t → pointwise nat_eq xs ys ≡ same_bytes xs ys
+    go true t e q = sym e ∙ sym (ap (λ (z : List ℕ). same_bytes xs z) (sym (same_text xs ys e)) ∙ same_self xs)
+    go false true e q = absurd (other_text xs ys e (same_bytes_lem xs ys q))
+    go false false e q = sym e ∙ sym q
 
 -- what stays is not seen
 pub kept_unseen : (room : ℕ) (xs : List ℕ) → is_seen room xs xs ≡ false

@@ -11,7 +11,7 @@ use Rattle.link_rules.specs.Network.{link_at, lockouts, header_fits as table_hea
 use Rattle.link_rules.specs.AdvanceRewind.{hold_all, refilled, reset_link_train_idx, reset_all, update_links_blocked, is_link, mark_refusal, mark_of}
 use Rattle.link_rules.specs.Renumbering.{Renumbering, r_train}
 use Rattle.link_rules.specs.Matching.{r_record}
-use Rattle.link_rules.specs.declared.refusal.Answer.TheVariants.{Done as Marked}
+use Rattle.link_rules.specs.Refusals.{Done as Marked}
 use Rattle.free_path.specs.AnyOrder.{swap}
 use Rattle.image_fault.specs.declared.Widths.TheVariants.{Narrow}
 use Rattle.yard_check.specs.Yard.{part_of}

@@ -11,7 +11,7 @@ use Rattle.link_rules.specs.LinkIdx.{entry_at}
 use Rattle.link_rules.specs.Network.{link_at}
 use Rattle.link_rules.specs.Renumbering.{Renumbering, r_train}
 use Rattle.link_rules.specs.Matching.{r_record}
-use Rattle.link_rules.specs.declared.refusal.Answer.TheVariants.{Done as Marked}
+use Rattle.link_rules.specs.Refusals.{Done as Marked}
 use Rattle.free_path.specs.AnyOrder.{swap}
 use Rattle.image_fault.specs.declared.Widths.TheVariants.{Either}
 use Rattle.wide_occupancy.specs.WideOccupancy.{largest, mark_wide_refusal, mark_wide_of}

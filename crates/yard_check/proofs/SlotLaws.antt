@@ -1,4 +1,5 @@
 -- How many slots pass a test, under a renumbering of the slots. Assumes nothing.
+use mir.Val.{bool_byte}
 use mathlib.Core.Path.{◌≡◌, refl, sym, ap, ap₂, ◌∙◌}
 use mathlib.Core.Logic.{⊎_elim}
 use mathlib.Core.Bool.{Bool, true, false, cond, not}
@@ -13,6 +14,11 @@ use Rattle.yard_check.specs.Check.{how_many}
 
 abbrev pub bit : Bool → ℕ
 bit t = cond t 1 0
+
+-- as u32::from gives it
+pub bit_from : (t : Bool) → bool_byte t ≡ bit t
+bit_from true = refl
+bit_from false = refl
 
 bit_not : (t : Bool) → bit t + bit (not t) ≡ 1
 bit_not true = refl

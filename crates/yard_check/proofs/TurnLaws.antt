@@ -13,6 +13,9 @@ use borrow.Author.Tests.{lt-ltb, le-ltb}
 use Rattle.image.proofs.Writers.{side}
 use Rattle.link_rules.specs.declared.refusal.Refusal.{Refusal}
 use Rattle.update_free_path.proofs.FaultLaws.{call-links}
+use Rattle.link_rules.specs.Refusals.{raised}
+use Rattle.link_rules.specs.Refusals as Raised
+use Rattle.link_rules.proofs.RefusalLaws.{some_raised}
 use Rattle.yard_check.specs.Yard.{slot_count, part_from, part_until, part_of, with_part}
 use Rattle.yard_check.specs.Check.{CheckArgs, wide_rows, row_size, check_fault, Row, unvisited_row, is_finished_row, is_blocked_row, is_erred_row, put_row, Visit, visit, visited, slot_visit, slot_row, slot_image, yard_after, report_after, how_many, first_not, Answer, Refused, Erred, answer_by, answer_of, check, check_done, checked_by, checked_with, slot_set, is_seen, changed_slots}
 use Rattle.yard_check.specs.Checks.{args_of, row_of, answered_of, WatchedAs, tallied_of, tally_after, NextTurn, Visits, slot_seen, SlotVisited, Spans, span_image, Agree, SpanVisited, AllVisited}
@@ -288,12 +291,13 @@ module _ (w : Widths) (yard occ blocking : List ℕ) (o : Args) (report : List �
   A = args_of w blocking o
 
   -- refused: nothing changed
-  pub watched_refused : (f : Refusal) → f ≡ check_fault yard occ A (length report) → (f.number ≡ 0 → ⊥) → (x : Watched) → answered_of x.answer ≡ Refused f → x.changed ≡ 0
+  pub watched_refused : (f : Refusal) → raised (check_fault yard occ A (length report)) ≡ Raised.Refused f → (x : Watched) → answered_of x.answer ≡ Refused f → x.changed ≡ 0
       → WatchedAs w yard occ blocking o report room x yard report
   unfolding changed_slots
-  watched_refused f e h x r z =
+  watched_refused f e x r z =
+      let some = some_raised (check_fault yard occ A (length report)) f e in
       record {
-        checked = ap (λ (y : Answer). check y yard report) r ∙ check-refused yard occ A report f e h;
+        checked = ap (λ (y : Answer). check y yard report) r ∙ check-refused yard occ A report f (sym some.0) (λ n. some.1 (ap (λ (x : Refusal). x.number) some.0 ∙ n));
         changed = z ∙ sym (set-none (λ t. is_seen room (part_of yard t) (part_of yard t)) (slot_count yard) (λ t. kept_unseen room (part_of yard t)));
       }
 

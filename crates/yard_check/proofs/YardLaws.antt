@@ -15,7 +15,7 @@ use Rattle.link_rules.specs.Network.{all_below}
 use Rattle.link_rules.proofs.OctetLaws.{Bytes, le_cong}
 use Rattle.link_rules.proofs.TableLaws.{all-at, both}
 use Rattle.image.proofs.Writers.{side}
-use Rattle.image_fault.proofs.MatchLaws.{all_same}
+use Rattle.link_rules.proofs.RangeLaws.{all_same}
 use Rattle.yard_check.specs.Yard.{yard_size, slot_count, part_begin, part_end, part_of, image_in, with_part, part_fits, yard_fits}
 use Rattle.yard_check.specs.Check.{yard_after}
 use Rattle.yard_check.specs.Checks.{Lies}

@@ -4,7 +4,7 @@ use Rattle.std.specs.Prelude.{Bool, List, [], ◌∷◌, ℕ}
 use Rattle.link_rules.specs.AdvanceRewind.{Marked, mark_of}
 use Rattle.link_rules.specs.declared.link_idx.LinkIdx.{LinkIdx}
 use Rattle.link_rules.specs.declared.link_idx.TrainIdx.{TrainIdx}
-use Rattle.link_rules.specs.declared.refusal.Answer as Mark
+use Rattle.link_rules.specs.Refusals as Mark
 use Rattle.wide_occupancy.specs.WideOccupancy.{mark_wide_of}
 use Rattle.image_fault.specs.declared.Widths.{Widths}
 use Rattle.image_fault.specs.declared.Widths.TheVariants.{Narrow, Either}

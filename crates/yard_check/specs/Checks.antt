@@ -10,6 +10,7 @@ use Rattle.yard_check.specs.Check.{CheckArgs, wide_rows, Row, plain_row, refused
 use Rattle.yard_check.specs.declared.check.Answer as Code
 use Rattle.yard_check.specs.declared.check.Answer.TheVariants as Answers
 use Rattle.yard_check.specs.declared.check.Args.{Args}
+use Rattle.yard_check.specs.declared.check.Given.{Given}
 use Rattle.yard_check.specs.declared.check.Row as Columns
 use Rattle.yard_check.specs.declared.check.Counts.{Counts}
 use Rattle.yard_check.specs.declared.check.Seen.{Seen}
@@ -20,6 +21,9 @@ use Rattle.yard_check.specs.declared.check.Watched.{Watched}
 
 abbrev pub args_of : Widths → List ℕ → Args → CheckArgs
 args_of w blocking a = record { widths = w; blocking = blocking; moved = a.moved.0; begin = a.begin; local = a.local; limit = a.limit }
+
+abbrev pub asked : Given → CheckArgs
+asked g = args_of g.widths g.blocking.now g.args
 
 abbrev pub row_of : Columns.Row → Row
 row_of r = record { code = r.code; place = r.place; rounds = r.rounds; holder = r.holder.0; strays = r.strays; faults = r.faults; met = r.met.0 }

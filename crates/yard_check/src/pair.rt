@@ -4,18 +4,19 @@ ghost use Rattle.std.specs.Prelude.{◌≡◌, true, not, [], ◌+◌, eqb, leng
 ghost use Rattle.image.specs.Image.{is_wide};
 ghost use Rattle.image_fault.specs.declared.Widths.TheVariants.{Either};
 ghost use Rattle.link_rules.specs.Network.{all_below};
+ghost use Rattle.link_rules.specs.Refusals.{raised};
 ghost use Rattle.yard_check.specs.Yard.{yard_fits};
 ghost use Rattle.yard_check.specs.Check.{answer_by};
 ghost use Rattle.yard_check.specs.Checks.{args_of};
 ghost use Rattle.yard_check.specs.Pair.{pair_image, part_lies, second_lies, late_fault, pair_fault, pair_of, pair_done, pair_checked, pair_checked_of};
 
-use crate::check::{Answer, Args, Counts, Span};
+use crate::check::{Answer, Args, Counts, Given, Span};
 use crate::{check, yard};
 use image::codec;
 use image_fault::Widths;
 use link_rules::link_idx::TrainIdx;
-use link_rules::refusal::Refusal;
-use link_rules::{octets, refusal};
+use link_rules::octets;
+use link_rules::refusal::{Refusal, refuse_unless};
 use update_free_path::call;
 use wide_occupancy::trains;
 
@@ -30,15 +31,7 @@ fn part_lies(yard: &[u8], t: u32) -> bool
 fn parts_lie(yard: &[u8], slots: u32) -> bool
     ensures { result ≡ all_below slots (λ i. part_lies yard.now (i + 1)) }
 {
-    let mut i: u32 = 0;
-    while i < slots {
-        if part_lies(yard, i + 1) {
-            i += 1;
-        } else {
-            return false;
-        }
-    }
-    true
+    (0..slots).all(|i| part_lies(yard, i + 1))
 }
 
 fn second_lies(yard: &[u8], second: &[u8], count: u32) -> bool
@@ -46,22 +39,12 @@ fn second_lies(yard: &[u8], second: &[u8], count: u32) -> bool
     ensures { result ≡ second_lies yard.now second.now count }
 {
     let slots = yard::slot_count(yard);
-    if count < 1 {
-        return false;
-    }
-    if slots <= count {
-        return false;
-    }
-    if yard::slot_count(second) != slots {
-        return false;
-    }
-    if octets::u32_at(second, 0) as usize != second.len() {
-        return false;
-    }
-    if octets::u32_at(second, 8) != 8 + 4 * slots {
-        return false;
-    }
-    parts_lie(second, slots)
+    1 <= count
+        && count < slots
+        && yard::slot_count(second) == slots
+        && octets::u32_at(second, 0) as usize == second.len()
+        && octets::u32_at(second, 8) == 8 + 4 * slots
+        && parts_lie(second, slots)
 }
 
 // ---- 22: the largest train that every image holds
@@ -69,37 +52,33 @@ fn second_lies(yard: &[u8], second: &[u8], count: u32) -> bool
 fn slot_wide(yard: &[u8], second: &[u8], count: u32, t: u32) -> bool
     ensures { result ≡ is_wide (pair_image yard.now second.now count t) }
 {
-    if t <= count {
-        return codec::is_wide(yard::part(second, TrainIdx(t)));
-    }
-    codec::is_wide(yard::part(yard, TrainIdx(t)))
+    let own = if t <= count { second } else { yard };
+    codec::is_wide(yard::part(own, TrainIdx(t)))
 }
 
 fn all_wide(yard: &[u8], second: &[u8], count: u32, slots: u32) -> bool
     ensures { result ≡ all_below slots (λ i. is_wide (pair_image yard.now second.now count (i + 1))) }
 {
-    let mut i: u32 = 0;
-    while i < slots {
-        if slot_wide(yard, second, count, i + 1) {
-            i += 1;
-        } else {
-            return false;
-        }
-    }
-    true
+    (0..slots).all(|i| slot_wide(yard, second, count, i + 1))
 }
 
 // ---- refusals 2, 4, 5, 14, 24, 22, 15 and 16, in this order
 
 // 22, 15, 16; long is the length of the report.
-fn late_fault(yard: &[u8], second: &[u8], count: u32, occ: &[u32], a: Args, long: usize) -> Refusal
-    ensures { result ≡ late_fault yard.now second.now count occ.now (args_of Either [] a) long }
+fn late_fault(
+    yard: &[u8],
+    second: &[u8],
+    count: u32,
+    occ: &[u32],
+    a: Args,
+    long: usize,
+) -> Result<(), Refusal>
+    ensures { result ≡ raised (late_fault yard.now second.now count occ.now (args_of Either [] a) long) }
 {
     let slots = yard::slot_count(yard);
     let top = check::largest_of(all_wide(yard, second, count, slots));
-    let held = trains::large_train_fault(occ, TrainIdx(0), top);
-    let late = check::slots_or_report_fault(true, slots, a, long);
-    refusal::or_else(held, late)
+    trains::large_train_fault(occ, TrainIdx(0), top)?;
+    check::slots_or_report_fault(true, slots, a, long)
 }
 
 fn pair_fault(
@@ -110,20 +89,13 @@ fn pair_fault(
     blocking: &[u32],
     a: Args,
     long: usize,
-) -> Refusal
-    ensures { result ≡ pair_fault yard.now second.now count occ.now (args_of Either blocking.now a) long }
+) -> Result<(), Refusal>
+    ensures { result ≡ raised (pair_fault yard.now second.now count occ.now (args_of Either blocking.now a) long) }
 {
-    let f = call::call_fault(occ.len(), blocking, a.moved, a.limit);
-    if f.number != 0 {
-        return f;
-    }
-    if yard::yard_fits(yard) {
-        if second_lies(yard, second, count) {
-            return late_fault(yard, second, count, occ, a, long);
-        }
-        return refusal::refused_unless(false, 24);
-    }
-    refusal::refused_unless(false, 14)
+    call::call_fault(occ.len(), blocking, a.moved, a.limit)?;
+    refuse_unless(yard::yard_fits(yard), 14)?;
+    refuse_unless(second_lies(yard, second, count), 24)?;
+    late_fault(yard, second, count, occ, a, long)
 }
 
 // ---- the visits
@@ -159,28 +131,14 @@ fn visits_pair(
         next: a.begin,
         changed: 0,
     };
-    let y = check::visits(
-        second,
-        Widths::Either,
+    let g = Given {
+        widths: Widths::Either,
         occ,
         blocking,
-        a,
-        low,
-        none,
-        report,
-        room,
-    );
-    check::visits(
-        yard,
-        Widths::Either,
-        occ,
-        blocking,
-        a,
-        high,
-        y,
-        report,
-        room,
-    )
+        args: a,
+    };
+    let y = check::visits(second, &g, low, none, report, room);
+    check::visits(yard, &g, high, y, report, room)
 }
 
 // Visits every slot from begin on, each in its yard. Refused by 2, 4, 5, 14, 24, 22, 15 and 16: then nothing is changed.
@@ -196,8 +154,7 @@ pub fn check_pair(
     ensures { pair_checked_of result yard.new second.new report.new
         ≡ pair_checked yard.old second.old count occ.now (args_of Either blocking.now a) report.old }
 {
-    let f = pair_fault(yard, second, count, occ, blocking, a, report.len());
-    if f.number != 0 {
+    if let Err(f) = pair_fault(yard, second, count, occ, blocking, a, report.len()) {
         return Answer::Refused(f);
     }
     let mut none = [0u8; 1];

@@ -25,34 +25,23 @@ fn part_end(yard: &[u8], t: u32) -> usize
     ensures { result ≡ part_end yard.now t }
 {
     if t < slot_count(yard) {
-        return part_begin(yard, t + 1) as usize;
+        part_begin(yard, t + 1) as usize
+    } else {
+        yard.len()
     }
-    yard.len()
 }
 
 // Within the yard, whatever the offsets are.
 pub(crate) fn part_from(yard: &[u8], t: u32) -> usize
     ensures { result ≡ part_from yard.now t }
 {
-    let b = part_begin(yard, t) as usize;
-    if b < yard.len() {
-        return b;
-    }
-    yard.len()
+    (part_begin(yard, t) as usize).min(yard.len())
 }
 
 pub(crate) fn part_until(yard: &[u8], t: u32) -> usize
     ensures { result ≡ part_until yard.now t }
 {
-    let a = part_from(yard, t);
-    let e = part_end(yard, t);
-    if e <= a {
-        return a;
-    }
-    if e < yard.len() {
-        return e;
-    }
-    yard.len()
+    part_from(yard, t).max(part_end(yard, t).min(yard.len()))
 }
 
 // ---- the slot's own part of the yard
@@ -66,15 +55,12 @@ pub fn part(yard: &[u8], t: TrainIdx) -> &[u8]
     &yard[a..e]
 }
 
-// Empty where the yard has no such slot.
+// Empty where the yard has no such slot, and no Option: its definition, which theorems name, is total.
 pub fn image_in(yard: &[u8], slot: TrainIdx) -> &[u8]
     ensures { result.now ≡ image_in yard.now slot.0 }
 {
-    if slot.0 < 1 {
-        return &yard[0..0];
-    }
-    if slot_count(yard) < slot.0 {
-        return &yard[0..0];
+    if slot.0 < 1 || slot_count(yard) < slot.0 {
+        return &yard[..0];
     }
     part(yard, slot)
 }
@@ -85,24 +71,13 @@ fn part_fits(yard: &[u8], t: u32) -> bool
     ensures { result ≡ part_fits yard.now t }
 {
     let b = part_begin(yard, t) as usize;
-    if part_end(yard, t) < b + 64 {
-        return false;
-    }
-    octets::u16_at(yard, b + 32) as u32 == t
+    b + 64 <= part_end(yard, t) && octets::u16_at(yard, b + 32) as u32 == t
 }
 
 fn parts_fit(yard: &[u8], slots: u32) -> bool
     ensures { result ≡ all_below slots (λ i. part_fits yard.now (i + 1)) }
 {
-    let mut i: u32 = 0;
-    while i < slots {
-        if part_fits(yard, i + 1) {
-            i += 1;
-        } else {
-            return false;
-        }
-    }
-    true
+    (0..slots).all(|i| part_fits(yard, i + 1))
 }
 
 // Whether the yard is as document 01 lays it out; where it is not, it is refused by 14.
@@ -110,17 +85,9 @@ pub fn yard_fits(yard: &[u8]) -> bool
     ensures { result ≡ yard_fits yard.now }
 {
     let slots = slot_count(yard);
-    if octets::u32_at(yard, 0) as usize != yard.len() {
-        return false;
-    }
-    if slots < 1 {
-        return false;
-    }
-    if 63 < slots {
-        return false;
-    }
-    if part_begin(yard, 1) != 8 + 4 * slots {
-        return false;
-    }
-    parts_fit(yard, slots)
+    octets::u32_at(yard, 0) as usize == yard.len()
+        && 1 <= slots
+        && slots <= 63
+        && part_begin(yard, 1) == 8 + 4 * slots
+        && parts_fit(yard, slots)
 }

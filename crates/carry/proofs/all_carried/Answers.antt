@@ -1,5 +1,4 @@
 use mathlib.Core.Path.{◌≡◌, refl, sym, ap, ◌∙◌}
-use mathlib.Core.Bool.{true}
 use Prim.Native.Nat.{ℕ}
 use native.Mathlib.Omega.{arith}
 use Rattle.link_rules.specs.Network.{all_below}
@@ -18,12 +17,12 @@ carried_fits-requires c = let p = c.requires in (p.0, p.1, omega (arith, p.2, c.
 pub loop-i-preserved : goal.loop-i-preserved
 loop-i-preserved c = let a = c.args in
     let l = c.loop-i in
-    (search rules, all_more (carried_fits a.yard.now a.wide.now) l.i l.invariant.1 (sym c.carried_fits.ensures ∙ c.if-carried_fits.true))
+    (search rules, all_more (carried_fits a.yard.now a.wide.now) l.i l.invariant.1 (sym c.carried_fits.ensures ∙ c.if-not-carried_fits.false))
 
-pub returns-else-carried_fits : goal.returns-else-carried_fits
-returns-else-carried_fits c = let a = c.args in
+pub returns-then-not-carried_fits : goal.returns-then-not-carried_fits
+returns-then-not-carried_fits c = let a = c.args in
     let l = c.loop-i in
-    sym (all_fails (carried_fits a.yard.now a.wide.now) a.count l.i (omega (arith, c.loop-i-test.true)) (sym c.carried_fits.ensures ∙ c.if-carried_fits.false))
+    sym (all_fails (carried_fits a.yard.now a.wide.now) a.count l.i (omega (arith, c.loop-i-test.true)) (sym c.carried_fits.ensures ∙ c.if-not-carried_fits.true))
 
 pub returns : goal.returns
 returns c = let a = c.args in

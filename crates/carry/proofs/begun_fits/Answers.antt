@@ -23,13 +23,13 @@ zero_from-requires c = let a = c.args in
 pub returns-then-all_carried : goal.returns-then-all_carried
 unfolding begun_fits
 returns-then-all_carried c = let a = c.args in
-    rw (sym c.header_fits.ensures ∙ c.if-header_fits.true, sym c.all_carried.ensures ∙ c.if-all_carried.true)
+    rw (sym c.header_fits.ensures ∙ c.if-not-header_fits.false, sym c.all_carried.ensures ∙ c.if-all_carried.true)
     (c.zero_from.ensures ∙ ap (λ (n : ℕ). zero_from n a.wide.now) c.wide_end.ensures.0)
 
 pub returns-else-all_carried : goal.returns-else-all_carried
 unfolding begun_fits
-returns-else-all_carried c = rw (sym c.header_fits.ensures ∙ c.if-header_fits.true, sym c.all_carried.ensures ∙ c.if-all_carried.false)
+returns-else-all_carried c = rw (sym c.header_fits.ensures ∙ c.if-not-header_fits.false, sym c.all_carried.ensures ∙ c.if-all_carried.false) c.if-all_carried.false
 
-pub returns-else-header_fits : goal.returns-else-header_fits
+pub returns-then-not-header_fits : goal.returns-then-not-header_fits
 unfolding begun_fits
-returns-else-header_fits c = rw (sym c.header_fits.ensures ∙ c.if-header_fits.false)
+returns-then-not-header_fits c = rw (sym c.header_fits.ensures ∙ c.if-not-header_fits.true)

@@ -28,6 +28,6 @@ returns c = let a = c.args in
     let p = c.requires in
     let A = c.wide_end-a.result in
     let E = c.wide_end-e.result in
-    rw (c.widen-f.ensures.1, Post-is A E a.wide.now (omega (arith, c.wide_end-a.ensures.0, c.wide_end-e.ensures.0, end_mono a.yard.now a.n (a.n + 1) (omega arith))))
+    rw (c.widen.ensures.1, Post-is A E a.wide.now (omega (arith, c.wide_end-a.ensures.0, c.wide_end-e.ensures.0, end_mono a.yard.now a.n (a.n + 1) (omega arith))))
     (into_part a.yard.now a.wide.now a.n A E c.part.result.now c.wide_end-a.ensures.0 (c.wide_end-e.ensures.0 ∙ ap (wide_end a.yard.now) (add-one a.n))
     (c.part.ensures ∙ ap (part_of a.yard.now) (add-one a.n)) p.4 p.2 p.3)

@@ -6,6 +6,3 @@ use Rattle.carry.proofs.images_fault.Given as goal
 
 abbrev pub invariant-loop-t : goal.invariant-loop-t
 invariant-loop-t l = images_fault l.yard l.l (l.slots - l.t) l.t ≡ images_fault l.yard l.l (slot_count l.yard - l.count) l.count
-
-abbrev pub decreases-loop-t : goal.decreases-loop-t
-decreases-loop-t l = l.slots - l.t

@@ -1,15 +1,25 @@
-use mathlib.Core.Path.{◌∙◌}
-use native.Mathlib.Omega.{arith}
-use Rattle.carry.proofs.LayoutLaws.{lengths_low, lengths_high, lengths_equal}
+use Rattle.std.proofs.Common.{◌≡◌, Err, rules, tests, sym, ◌∙◌, arith}
+use Rattle.link_rules.proofs.RefusalLaws.{raised_unless, first_unless, next_unless}
+use Rattle.carry.proofs.LayoutLaws.{lengths_by}
 use Rattle.carry.proofs.lengths_fault.Goals as goal
 
-pub returns-then-l-lt2 : goal.returns-then-l-lt2
-returns-then-l-lt2 c = let a = c.args in c.refused_unless.ensures ∙ lengths_low a.l a.m c.if-l-lt2.true
+pub returns-in_err-refuse_unless : goal.returns-in_err-refuse_unless
+returns-in_err-refuse_unless c =
+    let e : c.from_residual.result ≡ Err c.in_err-refuse_unless.field-0.0 = search (rules, tests) in
+    e ∙ first_unless _ 2 _ _ (λ z. absurd (omega arith)) (sym c.refuse_unless.ensures ∙ c.in_err-refuse_unless.was) ∙ lengths_by c.args.l c.args.m
 
-pub returns-then-l-gt4000 : goal.returns-then-l-gt4000
-returns-then-l-gt4000 c = let a = c.args in
-    c.refused_unless-then-l-gt4000.ensures ∙ lengths_high a.l a.m (omega (arith, c.if-l-lt2.false)) c.if-l-gt4000.true
+pub returns-in_err-refuse_unless-2 : goal.returns-in_err-refuse_unless-2
+returns-in_err-refuse_unless-2 c =
+    let e : c.from_residual-in_err-refuse_unless-2.result ≡ Err c.in_err-refuse_unless-2.field-0.0 = search (rules, tests) in
+    e
+    ∙ first_unless _ 2 _ _ (λ z. absurd (omega arith)) (sym c.refuse_unless-2.ensures ∙ c.in_err-refuse_unless-2.was)
+    ∙ next_unless _ 2 _ (λ z. absurd (omega arith)) (sym c.refuse_unless.ensures ∙ c.in_ok-refuse_unless.was)
+    ∙ lengths_by c.args.l c.args.m
 
 pub returns : goal.returns
-returns c = let a = c.args in
-    c.refused_unless-2.ensures ∙ lengths_equal a.l a.m (omega (arith, c.if-l-lt2.false)) (omega (arith, c.if-l-gt4000.false))
+returns c =
+    c.refuse_unless-3.ensures
+    ∙ raised_unless _ 2 (λ z. absurd (omega arith))
+    ∙ next_unless _ 2 _ (λ z. absurd (omega arith)) (sym c.refuse_unless-2.ensures ∙ c.in_ok-refuse_unless-2.was)
+    ∙ next_unless _ 2 _ (λ z. absurd (omega arith)) (sym c.refuse_unless.ensures ∙ c.in_ok-refuse_unless.was)
+    ∙ lengths_by c.args.l c.args.m

@@ -1,5 +1,4 @@
 use mathlib.Core.Path.{◌≡◌, refl, sym, ap, ◌∙◌}
-use mathlib.Core.Bool.{true}
 use Prim.Native.Nat.{ℕ}
 use native.Mathlib.Omega.{arith}
 use Rattle.link_rules.specs.Network.{all_below}
@@ -19,12 +18,12 @@ offset_fits-requires c = let p = c.requires in (p.0, p.1, omega (arith, c.slot_c
 pub loop-i-preserved : goal.loop-i-preserved
 loop-i-preserved c = let a = c.args in
     let l = c.loop-i in
-    (search rules, all_more (offset_fits a.yard.now a.wide.now) l.i l.invariant.1 (sym c.offset_fits.ensures ∙ c.if-offset_fits.true))
+    (search rules, all_more (offset_fits a.yard.now a.wide.now) l.i l.invariant.1 (sym c.offset_fits.ensures ∙ c.if-not-offset_fits.false))
 
-pub returns-else-offset_fits : goal.returns-else-offset_fits
-returns-else-offset_fits c = let a = c.args in
+pub returns-then-not-offset_fits : goal.returns-then-not-offset_fits
+returns-then-not-offset_fits c = let a = c.args in
     let l = c.loop-i in
-    sym (all_fails (offset_fits a.yard.now a.wide.now) (slot_count a.yard.now) l.i (omega (arith, c.slot_count-slots.ensures, c.loop-i-test.true)) (sym c.offset_fits.ensures ∙ c.if-offset_fits.false))
+    sym (all_fails (offset_fits a.yard.now a.wide.now) (slot_count a.yard.now) l.i (omega (arith, c.slot_count-slots.ensures, c.loop-i-test.true)) (sym c.offset_fits.ensures ∙ c.if-not-offset_fits.true))
 
 pub returns : goal.returns
 returns c = let a = c.args in

@@ -1,5 +1,4 @@
 use mathlib.Core.Path.{◌≡◌, refl, sym, ap, ◌∙◌}
-use mathlib.Core.Bool.{true}
 use Prim.Native.Nat.{ℕ, ◌-◌}
 use native.Mathlib.Omega.{arith}
 use lib.ListN.{length}
@@ -18,13 +17,13 @@ loop-i-init c = (search rules, omega (arith, c.requires), refl)
 pub loop-i-preserved : goal.loop-i-preserved
 loop-i-preserved c = let a = c.args in
     let l = c.loop-i in
-    (search rules, l.invariant.1, all_more (is_zero a.a a.bs.now) l.i l.invariant.2 (eq-eqb _ _ c.if-bs-a-eq0.true))
+    (search rules, l.invariant.1, all_more (is_zero a.a a.bs.now) l.i l.invariant.2 (eq-eqb _ _ c.if-bs-a-ne0.false))
 
-pub returns-else-bs-a-eq0 : goal.returns-else-bs-a-eq0
+pub returns-then-bs-a-ne0 : goal.returns-then-bs-a-ne0
 unfolding zero_from
-returns-else-bs-a-eq0 c = let a = c.args in
+returns-then-bs-a-ne0 c = let a = c.args in
     let l = c.loop-i in
-    sym (all_fails (is_zero a.a a.bs.now) (length a.bs.now - a.a) l.i (omega (arith, l.invariant.1, c.loop-i-test.true)) (ne_eqb _ _ c.if-bs-a-eq0.false))
+    sym (all_fails (is_zero a.a a.bs.now) (length a.bs.now - a.a) l.i (omega (arith, l.invariant.1, c.loop-i-test.true)) (ne_eqb _ _ c.if-bs-a-ne0.true))
 
 pub returns : goal.returns
 unfolding zero_from

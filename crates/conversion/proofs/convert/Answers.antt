@@ -1,4 +1,6 @@
-use mathlib.Core.Path.{◌≡◌, ap, ap₂, ◌∙◌}
+use mathlib.Core.Path.{◌≡◌, refl, ap, ap₂, ◌∙◌}
+use mathlib.Core.Bool.{Bool, true, false}
+use mir.Val.{bool_byte}
 use mathlib.Core.List.{List}
 use Prim.Native.Nat.{ℕ}
 use native.Mathlib.Omega.{arith}
@@ -6,12 +8,17 @@ use lib.ListN.{length, replicate, length-replicate}
 use Rattle.link_rules.specs.Octets.{put_le}
 use Rattle.disp_structs.specs.Listed.{listed}
 use Rattle.image.specs.Image.{is_wide, diverge_place, diverge_at}
+use Rattle.image.specs.Codec.{wide_number}
 use Rattle.image.proofs.WidthLaws.{words_twice}
 use Rattle.image_fault.specs.declared.Widths.TheVariants.{Either}
 use Rattle.image_fault.proofs.AcceptLaws.{accepted_in, fits-counts, good-image}
 use Rattle.image_store.specs.Stored.{diverges_into}
 use Rattle.conversion.proofs.ConvertedBytes.{written}
 use Rattle.conversion.proofs.convert.Goals as goal
+
+number : (wide : Bool) → bool_byte wide ≡ wide_number wide
+number true = refl
+number false = refl
 
 pub overflow_cast-size : goal.overflow_cast-size
 overflow_cast-size c = let a = c.args in
@@ -46,5 +53,5 @@ returns c = let a = c.args in
     (λ i. omega (arith, c.slice_known-5-1.given i)) (λ i. omega (arith, c.slice_known-6-1.given i))
     (c.zero_all.ensures ∙ ap (λ (n : ℕ). replicate n 0) p.1)
     copied.ensures.0 (λ i l. copied.ensures.1 i (omega (arith, front))) (λ i l. copied.ensures.2 i (omega (arith, front)))
-    (c.put_u16.ensures ∙ ap₂ (λ (w : ℕ) (x : List ℕ). put_le 2 w 42 x) c.wide_number.ensures (c.put_u32.ensures ∙ ap (λ (n : ℕ). put_le 4 n 0 o2) size))
+    (c.put_u16.ensures ∙ ap₂ (λ (w : ℕ) (x : List ℕ). put_le 2 w 42 x) (number a.wide) (c.put_u32.ensures ∙ ap (λ (n : ℕ). put_le 4 n 0 o2) size))
     (c.put_diverges.ensures ∙ ap (λ (m : ℕ). diverges_into (is_wide o4) (listed m (diverge_at img)) o4) c.diverge_count.ensures)

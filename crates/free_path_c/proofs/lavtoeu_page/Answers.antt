@@ -1,6 +1,9 @@
-use mathlib.Core.Path.{ap, ◌∙◌}
-use Rattle.free_path_c.specs.Words.{fault_word}
+use Rattle.std.proofs.Common.{ap, ◌∙◌}
+use Rattle.free_path_c.specs.Words.{answer_word}
+use Rattle.free_path_c.proofs.PlainLaws.{word_plain, plain_page}
 use Rattle.free_path_c.proofs.lavtoeu_page.Goals as goal
 
 pub returns : goal.returns
-returns c = let o = c.page in (c.fault_word.ensures ∙ ap fault_word o.ensures.0, o.ensures.1)
+returns c = let a = c.args in
+    let o = c.page.ensures in
+    (c.answer_word.ensures ∙ ap answer_word o.0 ∙ word_plain _ (plain_page a.image.now a.page.now), o.1)

@@ -1,12 +1,7 @@
-use mathlib.Core.Path.{◌∙◌, ap}
-use Rattle.ceiling.specs.declared.StepCeiling.{StepCeiling}
-use Rattle.free_path_c.specs.Words.{fault_word, ceiling_words}
+use Rattle.free_path_c.proofs.PlainLaws.{plain_yard_ceiling}
 use Rattle.free_path_c.proofs.lavtoeu_yard_ceiling.Goals as goal
 
 pub returns : goal.returns
 returns c = let a = c.args in
-    let e = c.yard_ceiling-c.ensures in
-    record {
-      word = c.fault_word.ensures ∙ ap (λ (k : StepCeiling). fault_word k.fault) e;
-      words = c.put_ceiling.ensures ∙ ap (λ (k : StepCeiling). ceiling_words k.fault.number k.steps a.answer.now) e;
-    }
+    let t = c.put_value.ensures _ _ c.yard_ceiling.ensures (plain_yard_ceiling a.yard.now a.limit) in
+    record { word = t.0; words = t.1 }

@@ -4,4 +4,4 @@ use Rattle.image_fault.proofs.diverge_train_fits.Goals as goal
 
 pub returns : goal.returns
 unfolding diverge_train_fits largest_of
-returns c = rw c.diverge_at-d.ensures
+returns c = rw c.diverge_at.ensures

@@ -1,46 +1,92 @@
-use mathlib.Core.Path.{sym, ap, ◌∙◌}
-use native.Mathlib.Omega.{arith}
-use borrow.Author.Tests.{eq-eqb, ne_eqb, le-leb, lt-leb}
-use Rattle.link_rules.specs.declared.refusal.Refusal.{Refusal}
+use Rattle.std.proofs.Common.{◌≡◌, rules, tests, sym, ◌∙◌, arith}
+use Rattle.link_rules.specs.Refusals.{Refused}
+use Rattle.link_rules.proofs.RefusalLaws.{none_raised, raised_first, raised_next, first_unless, next_unless, unless_done}
 use Rattle.image_fault.specs.ImageFault.{fault_with}
 use Rattle.image_fault.proofs.AcceptLaws.{fits-counts, fits-either, clean_link}
+use Rattle.link_rules.proofs.TableLaws.{both}
+use borrow.Author.Tests.{leb-true}
+use lib.Dec.{leb}
 use Rattle.image_fault.proofs.first_fault.Goals as goal
 
-pub returns-then-links-lt2 : goal.returns-then-links-lt2
+pub returns-in_err-refuse_unless : goal.returns-in_err-refuse_unless
 unfolding fault_with
-returns-then-links-lt2 c = rw (lt-leb 2 c.args.links (omega arith))
+returns-in_err-refuse_unless c f h =
+    let e : c.from_residual.result ≡ Refused c.in_err-refuse_unless.field-0.0 = search (rules, tests) in
+    rw (← c.links_fit.ensures) (e ∙ first_unless _ 2 _ _ (λ z. absurd (omega arith)) (sym c.refuse_unless.ensures ∙ c.in_err-refuse_unless.was))
 
-pub returns-then-links-gt4000 : goal.returns-then-links-gt4000
+pub returns-in_err-refuse_unless-2 : goal.returns-in_err-refuse_unless-2
 unfolding fault_with
-returns-then-links-gt4000 c = rw (le-leb 2 c.args.links (omega arith), lt-leb c.args.links 4000 (omega arith))
+returns-in_err-refuse_unless-2 c f h =
+    let e : c.from_residual-in_err-refuse_unless-2.result ≡ Refused c.in_err-refuse_unless-2.field-0.0 = search (rules, tests) in
+    rw (← c.links_fit.ensures, ← c.image_fits.ensures) (
+    e
+    ∙ first_unless _ 6 _ _ (λ z. absurd (omega arith)) (sym c.refuse_unless-2.ensures ∙ c.in_err-refuse_unless-2.was)
+    ∙ next_unless _ 2 _ (λ z. absurd (omega arith)) (sym c.refuse_unless.ensures ∙ c.in_ok-refuse_unless.was)
+    )
 
-pub returns-then-own-ne0 : goal.returns-then-own-ne0
+pub returns-in_err-own : goal.returns-in_err-own
 unfolding fault_with
-returns-then-own-ne0 c = rw (le-leb 2 c.args.links (omega arith), le-leb c.args.links 4000 (omega arith), ← c.image_fits.ensures, c.if-image_fits.true, ne_eqb _ _ c.if-own-ne0.true)
+returns-in_err-own c f h =
+    let e : c.from_residual-in_err-own.result ≡ Refused c.in_err-own.field-0.0 = search (rules, tests) in
+    rw (← c.links_fit.ensures, ← c.image_fits.ensures) (
+    e
+    ∙ raised_first f _ _ (sym h ∙ c.in_err-own.was)
+    ∙ next_unless _ 6 _ (λ z. absurd (omega arith)) (sym c.refuse_unless-2.ensures ∙ c.in_ok-refuse_unless-2.was)
+    ∙ next_unless _ 2 _ (λ z. absurd (omega arith)) (sym c.refuse_unless.ensures ∙ c.in_ok-refuse_unless.was)
+    )
 
-pub value_fault-f-requires : goal.value_fault-f-requires
-value_fault-f-requires c = fits-counts c.args.img.now (fits-either c.args.w c.args.img.now (sym c.image_fits.ensures ∙ c.if-image_fits.true)).1
+pub value_fault-requires : goal.value_fault-requires
+value_fault-requires c =
+    let fits = unless_done _ 6 (sym c.refuse_unless-2.ensures ∙ c.in_ok-refuse_unless-2.was) in
+    fits-counts c.args.img.now (fits-either c.args.w c.args.img.now (sym c.image_fits.ensures ∙ fits)).1
 
-pub returns-then-f-ne0 : goal.returns-then-f-ne0
+pub returns-in_err-value_fault : goal.returns-in_err-value_fault
 unfolding fault_with
-returns-then-f-ne0 c = rw (le-leb 2 c.args.links (omega arith), le-leb c.args.links 4000 (omega arith), ← c.image_fits.ensures, c.if-image_fits.true, eq-eqb _ _ c.if-own-ne0.false, ← c.value_fault-f.ensures, ne_eqb _ _ c.if-f-ne0.true)
+returns-in_err-value_fault c f h =
+    let e : c.from_residual-in_err-value_fault.result ≡ Refused c.in_err-value_fault.field-0.0 = search (rules, tests) in
+    rw (← c.links_fit.ensures, ← c.image_fits.ensures) (
+    e
+    ∙ raised_first _ _ _ (sym c.value_fault.ensures ∙ c.in_err-value_fault.was)
+    ∙ raised_next f _ (sym h ∙ c.in_ok-own.was)
+    ∙ next_unless _ 6 _ (λ z. absurd (omega arith)) (sym c.refuse_unless-2.ensures ∙ c.in_ok-refuse_unless-2.was)
+    ∙ next_unless _ 2 _ (λ z. absurd (omega arith)) (sym c.refuse_unless.ensures ∙ c.in_ok-refuse_unless.was)
+    )
 
-pub cycle_fault-g-requires : goal.cycle_fault-g-requires
-cycle_fault-g-requires c = let k = (fits-counts c.args.img.now (fits-either c.args.w c.args.img.now (sym c.image_fits.ensures ∙ c.if-image_fits.true)).1).few-est in (c.est_count.ensures, omega arith)
+pub cycle_fault-requires : goal.cycle_fault-requires
+cycle_fault-requires c =
+    let fits = unless_done _ 6 (sym c.refuse_unless-2.ensures ∙ c.in_ok-refuse_unless-2.was) in
+    let k = (fits-counts c.args.img.now (fits-either c.args.w c.args.img.now (sym c.image_fits.ensures ∙ fits)).1).few-est in
+    (c.est_count.ensures, omega arith)
 
-pub returns-then-g-ne0 : goal.returns-then-g-ne0
+pub returns-in_err-cycle_fault : goal.returns-in_err-cycle_fault
 unfolding fault_with
-returns-then-g-ne0 c = rw (le-leb 2 c.args.links (omega arith), le-leb c.args.links 4000 (omega arith), ← c.image_fits.ensures, c.if-image_fits.true, eq-eqb _ _ c.if-own-ne0.false, ← c.value_fault-f.ensures, eq-eqb _ _ c.if-f-ne0.false, ← c.cycle_fault-g.ensures, ne_eqb _ _ c.if-g-ne0.true)
+returns-in_err-cycle_fault c f h =
+    let e : c.from_residual-in_err-cycle_fault.result ≡ Refused c.in_err-cycle_fault.field-0.0 = search (rules, tests) in
+    rw (← c.links_fit.ensures, ← c.image_fits.ensures) (
+    e
+    ∙ raised_first _ _ _ (sym c.cycle_fault.ensures ∙ c.in_err-cycle_fault.was)
+    ∙ raised_next _ _ (sym c.value_fault.ensures ∙ c.in_ok-value_fault.was)
+    ∙ raised_next f _ (sym h ∙ c.in_ok-own.was)
+    ∙ next_unless _ 6 _ (λ z. absurd (omega arith)) (sym c.refuse_unless-2.ensures ∙ c.in_ok-refuse_unless-2.was)
+    ∙ next_unless _ 2 _ (λ z. absurd (omega arith)) (sym c.refuse_unless.ensures ∙ c.in_ok-refuse_unless.was)
+    )
 
 pub route_fault-requires : goal.route_fault-requires
-route_fault-requires c = let clean = sym (ap (λ (f : Refusal). f.number) c.value_fault-f.ensures) ∙ c.if-f-ne0.false in
-    let fits = (fits-either c.args.w c.args.img.now (sym c.image_fits.ensures ∙ c.if-image_fits.true)).1 in
-    (fits-counts c.args.img.now fits, omega arith, clean_link c.args.img.now c.args.links clean)
-
-pub returns-then-image_fits : goal.returns-then-image_fits
-unfolding fault_with
-returns-then-image_fits c = rw (le-leb 2 c.args.links (omega arith), le-leb c.args.links 4000 (omega arith), ← c.image_fits.ensures, c.if-image_fits.true, eq-eqb _ _ c.if-own-ne0.false, ← c.value_fault-f.ensures, eq-eqb _ _ c.if-f-ne0.false, ← c.cycle_fault-g.ensures, eq-eqb _ _ c.if-g-ne0.false, ← c.route_fault.ensures)
+route_fault-requires c =
+    let fits = unless_done _ 6 (sym c.refuse_unless-2.ensures ∙ c.in_ok-refuse_unless-2.was) in
+    let links = unless_done _ 2 (sym c.refuse_unless.ensures ∙ c.in_ok-refuse_unless.was) in
+    let clean = none_raised _ (sym c.value_fault.ensures ∙ c.in_ok-value_fault.was) in
+    let few = leb-true c.args.links 4000 (both (leb 2 c.args.links) (leb c.args.links 4000) (sym c.links_fit.ensures ∙ links)).1 in
+    (fits-counts c.args.img.now (fits-either c.args.w c.args.img.now (sym c.image_fits.ensures ∙ fits)).1, few, clean_link c.args.img.now c.args.links clean)
 
 pub returns : goal.returns
 unfolding fault_with
-returns c = rw (le-leb 2 c.args.links (omega arith), le-leb c.args.links 4000 (omega arith), ← c.image_fits.ensures, c.if-image_fits.false)
+returns c f h =
+    rw (← c.links_fit.ensures, ← c.image_fits.ensures) (
+    c.route_fault.ensures
+    ∙ raised_next _ _ (sym c.cycle_fault.ensures ∙ c.in_ok-cycle_fault.was)
+    ∙ raised_next _ _ (sym c.value_fault.ensures ∙ c.in_ok-value_fault.was)
+    ∙ raised_next f _ (sym h ∙ c.in_ok-own.was)
+    ∙ next_unless _ 6 _ (λ z. absurd (omega arith)) (sym c.refuse_unless-2.ensures ∙ c.in_ok-refuse_unless-2.was)
+    ∙ next_unless _ 2 _ (λ z. absurd (omega arith)) (sym c.refuse_unless.ensures ∙ c.in_ok-refuse_unless.was)
+    )

@@ -1,19 +1,17 @@
-use Rattle.image_fault.specs.ImageFault.{route_fault}
-use borrow.Author.Tests.{eq-eqb, ne_eqb}
-use native.Mathlib.Omega.{arith}
-use borrow.Author.Rules.{rules}
+use Rattle.std.proofs.Common.{◌≡◌, rules, tests, sym, ◌∙◌}
+use Rattle.link_rules.specs.Refusals.{Refused}
+use Rattle.link_rules.proofs.RefusalLaws.{raised_first, raised_next}
+use Rattle.image_fault.specs.ImageFault.{route_fault, diverge_fits}
 use Rattle.image_fault.proofs.route_fault.Goals as goal
 
-pub path_fault-f-requires : goal.path_fault-f-requires
-path_fault-f-requires c = let n = c.requires.0.few-path in let e = c.requires.0.few-est in (c.path_count.ensures, rw c.path_count.ensures (omega arith), c.requires.1, rw c.path_count.ensures c.requires.2)
-
-pub returns-then-f-ne0 : goal.returns-then-f-ne0
+pub returns-in_err-path_fault : goal.returns-in_err-path_fault
 unfolding route_fault
-returns-then-f-ne0 c = rw (← c.path_count.ensures, ← c.path_fault-f.ensures, ne_eqb _ _ c.if-f-ne0.true)
-
-pub diverge_fault-requires : goal.diverge_fault-requires
-diverge_fault-requires c = (c.is_wide.ensures, search rules)
+returns-in_err-path_fault c =
+    let e : c.from_residual.result ≡ Refused c.in_err-path_fault.field-0.0 = search (rules, tests) in
+    rw (← c.path_count.ensures) (e ∙ raised_first _ _ _ (sym c.path_fault.ensures ∙ c.in_err-path_fault.was))
 
 pub returns : goal.returns
 unfolding route_fault
-returns c = rw (← c.path_count.ensures, ← c.path_fault-f.ensures, eq-eqb _ _ c.if-f-ne0.false, ← c.diverge_count.ensures, ← c.diverge_fault.ensures)
+returns c =
+    let diverges = c.first_unfit.ensures (diverge_fits c.args.img.now) (λ i l b p. search rules) in
+    rw (← c.path_count.ensures, ← c.diverge_count.ensures) (diverges ∙ raised_next _ _ (sym c.path_fault.ensures ∙ c.in_ok-path_fault.was))

@@ -1,13 +1,7 @@
-use mathlib.Core.Path.{ap, ◌∙◌}
-use Rattle.disp_structs.specs.Floats.{in_reach}
-use Rattle.disp_structs.specs.declared.DispNode.{DispNode}
 use Rattle.image.specs.Image.{node_at}
 use Rattle.text.proofs.TextLaws.{put_is}
 use Rattle.path_page.proofs.PageLaws.{line_by}
 use Rattle.path_page.proofs.put_node_line.Goals as goal
-
-pub whole_metres-offset-requires : goal.whole_metres-offset-requires
-whole_metres-offset-requires c = ap (λ (x : DispNode). in_reach x.offset.0) c.node_of-x.ensures ∙ c.requires
 
 pub returns : goal.returns
 returns c = let a = c.args in

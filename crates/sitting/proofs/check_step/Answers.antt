@@ -6,7 +6,7 @@ use Rattle.sitting.proofs.check_step.Goals as goal
 
 -- src/lib.rt:235:9
 pub slice_bounds-check_read-end : goal.slice_bounds-check_read-end
-slice_bounds-check_read-end c = sym (length-take-le _ c.links_room-blocking.result (omega (arith, c.links_read-n.ensures, c.links_room-blocking.ensures)))
+slice_bounds-check_read-end c = sym (length-take-le _ c.links_room-blocking.result (omega (arith, c.min-n.ensures, c.links_room-blocking.ensures)))
 
 -- src/lib.rt:229:5
 pub slice_bounds-check_read-end-2 : goal.slice_bounds-check_read-end-2
@@ -14,6 +14,6 @@ slice_bounds-check_read-end-2 c = sym (length-take-le _ c.report_room-report.res
 
 pub returns : goal.returns
 returns c = let a = c.args in
-    let n = c.links_read-n.ensures in
+    let n = c.min-n.ensures in
     check_whole a.recording.now a.s a.yard.now a.occupancy.now _ a.rows _ _ n
     (check-lent a.recording.now a.s a.yard.now a.occupancy.now _ a.rows c.links_room-blocking.result c.report_room-report.result _ _ (omega (arith, n, c.links_room-blocking.ensures)) (omega (arith, c.requires, c.report_room-report.ensures)) c.check_read.ensures)

@@ -15,6 +15,6 @@ returns-then-s-eq0 c = let a = c.args in
 pub check_step-requires : goal.check_step-requires
 check_step-requires c = c.requires.room
 
-pub returns : goal.returns
-returns c = let a = c.args in
+pub returns-else-s-eq0 : goal.returns-else-s-eq0
+returns-else-s-eq0 c = let a = c.args in
     step_checked a.recording.now a.s a.yard.now a.occupancy.now a.j.report a.table.now _ _ c.if-s-eq0.false c.check_step.ensures

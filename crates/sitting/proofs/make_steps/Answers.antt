@@ -13,18 +13,18 @@ loop-i-init c = let a = c.args in
     (omega arith, refl, refl, refl, n.0, n.1)
 
 -- src/lib.rt:288:9
-pub make_step-number-requires : goal.make_step-number-requires
-make_step-number-requires c = c.requires.0
+pub make_step-requires : goal.make_step-requires
+make_step-requires c = c.requires.0
 
 -- src/lib.rt:273:1
 pub loop-i-preserved : goal.loop-i-preserved
 loop-i-preserved c = let a = c.args in
     let l = c.loop-i in
     let w₀ = world_of a.table.now a.occupancy.now a.yard.now in
-    let m = c.make_step-number.ensures in
+    let m = c.make_step.ensures in
     let e = c.step_at-s.ensures in (
       omega (arith, l.invariant.0, l.invariant.1, c.loop-i-test.true),
-      omega (arith, length-set l.list l.i c.make_step-number.result, l.invariant.1),
+      omega (arith, length-set l.list l.i c.make_step.result, l.invariant.1),
       search rules,
       search rules,
       world-turn a.recording.now a.j.report w₀ a.table.now l.occupancy l.yard l.i l.invariant.4 _ _ _ _ e m,

@@ -1,26 +1,20 @@
-use Prim.Native.Nat.{ℕ, ◌+◌, ◌*◌}
-use mathlib.Core.Path.{refl, ap, ◌∙◌}
-use borrow.Author.Rules.{rules}
-use lib.ListN.{length, length-set}
+use Rattle.std.proofs.Common.{ℕ, ◌+◌, ◌*◌, length, ap, ◌∙◌, arith}
 use Rattle.link_rules.specs.Octets.{le_at}
 use Rattle.disp_structs.specs.Listed.{listed}
 use Rattle.sheet_text.proofs.BundleLaws.{fill_turn, fill_end, fill_none}
 use Rattle.sitting.proofs.read_links.Goals as goal
 
--- src/lib.rt:162:54
 pub loop-i-init : goal.loop-i-init
-loop-i-init c = let a = c.args in (search rules, refl, fill_none a.blocking.now (λ j. le_at 4 a.recording.now (12 + 20 * c.u32_at.result + 4 * a.first + 4 * j)))
+loop-i-init c = let a = c.args in fill_none a.blocking.now (λ j. le_at 4 a.recording.now (12 + 20 * c.u32_at.result + 4 * a.first + 4 * j))
 
--- src/lib.rt:156:1
 pub loop-i-preserved : goal.loop-i-preserved
 loop-i-preserved c = let a = c.args in
-    let b = a.recording.now in
     let l = c.loop-i in
-    let at = 12 + 20 * c.u32_at.result + 4 * a.first in
-    (search rules, length-set l.blocking l.i c.u32_at-in-loop-i.result ∙ l.invariant.1, fill_turn l.blocking (λ j. le_at 4 b (at + 4 * j)) l.i c.u32_at-in-loop-i.result (search rules) c.u32_at-in-loop-i.ensures l.invariant.2)
+    let v = c.u32_at-in-loop-i in
+    fill_turn l.blocking (λ j. le_at 4 a.recording.now (12 + 20 * c.u32_at.result + 4 * a.first + 4 * j)) l.i v.result (omega arith) v.ensures l.invariant
 
 pub returns : goal.returns
 returns c = let a = c.args in
     let l = c.loop-i in
-    fill_end l.blocking (λ j. le_at 4 a.recording.now (12 + 20 * c.u32_at.result + 4 * a.first + 4 * j)) l.i (length a.blocking.now) l.invariant.1 l.invariant.0 (search rules) l.invariant.2
+    fill_end l.blocking (λ j. le_at 4 a.recording.now (12 + 20 * c.u32_at.result + 4 * a.first + 4 * j)) l.i (length a.blocking.now) l.auto.blocking l.auto.i-end (omega arith) l.invariant
     ∙ ap (λ (n : ℕ). listed (length a.blocking.now) (λ j. le_at 4 a.recording.now (12 + 20 * n + 4 * a.first + 4 * j))) c.u32_at.ensures

@@ -1,37 +1,54 @@
-use mathlib.Core.Path.{◌≡◌, sym, ap, ap₂, ◌∙◌}
-use mathlib.Core.Bool.{Bool}
+use Rattle.std.proofs.Common.{◌≡◌, rules, tests, sym, ◌∙◌, arith}
 use lib.ListN.{length}
-use Rattle.link_rules.specs.Refusals.{or_else, refused_unless}
-use Rattle.link_rules.specs.declared.refusal.Refusal.{Refusal}
-use Rattle.train_disp.specs.TrainDisp.{train_fault, sizes_fit, size_fault, lay_out_fault}
-use Rattle.train_disp.proofs.LayOutLaws.{or_stop, or_on, sizes_clean, sizes_give}
+use Rattle.link_rules.specs.Refusals.{Refused}
+use Rattle.link_rules.proofs.RefusalLaws.{raised_unless, raised_first, raised_next, first_unless, next_unless, unless_done}
+use Rattle.train_disp.specs.TrainDisp.{lay_out_fault}
+use Rattle.train_disp.proofs.LayOutLaws.{sizes_give}
 use Rattle.train_disp.proofs.lay_out_fault.Goals as goal
 
-pub returns-then-first-ne0 : goal.returns-then-first-ne0
+pub returns-in_err-refuse_unless : goal.returns-in_err-refuse_unless
 unfolding lay_out_fault
-returns-then-first-ne0 c = let a = c.args in
-    let first : c.or_else-first.result ≡ or_else (train_fault a.settings) (size_fault a.est.now a.settings a.size) =
-    c.or_else-first.ensures ∙ ap₂ or_else c.refused_unless-bad_train.ensures (c.refused_unless-bad_size.ensures ∙ ap (λ (t : Bool). refused_unless t 6) c.sizes_fit.ensures) in
-    first ∙ sym (or_stop (train_fault a.settings) (size_fault a.est.now a.settings a.size) _ (λ z. c.if-first-ne0.true (ap (λ (r : Refusal). r.number) first ∙ z)))
+returns-in_err-refuse_unless c =
+    let e : c.from_residual.result ≡ Refused c.in_err-refuse_unless.field-0.0 = search (rules, tests) in
+    e ∙ first_unless _ 5 _ _ (λ z. absurd (omega arith)) (sym c.refuse_unless.ensures ∙ c.in_err-refuse_unless.was)
 
-pub judge-bad_records-requires : goal.judge-bad_records-requires
-judge-bad_records-requires c = let a = c.args in
-    let first : c.or_else-first.result ≡ or_else (train_fault a.settings) (size_fault a.est.now a.settings a.size) =
-    c.or_else-first.ensures ∙ ap₂ or_else c.refused_unless-bad_train.ensures (c.refused_unless-bad_size.ensures ∙ ap (λ (t : Bool). refused_unless t 6) c.sizes_fit.ensures) in
-    sizes_give (length a.est.now) a.settings a.size (sizes_clean (train_fault a.settings) (sizes_fit (length a.est.now) a.settings a.size) (ap (λ (r : Refusal). r.number) (sym first) ∙ c.if-first-ne0.false))
+pub returns-in_err-refuse_unless-2 : goal.returns-in_err-refuse_unless-2
+unfolding lay_out_fault
+returns-in_err-refuse_unless-2 c =
+    let e : c.from_residual-in_err-refuse_unless-2.result ≡ Refused c.in_err-refuse_unless-2.field-0.0 = search (rules, tests) in
+    rw (← c.sizes_fit.ensures) (
+    e
+    ∙ first_unless _ 6 _ _ (λ z. absurd (omega arith)) (sym c.refuse_unless-2.ensures ∙ c.in_err-refuse_unless-2.was)
+    ∙ next_unless _ 5 _ (λ z. absurd (omega arith)) (sym c.refuse_unless.ensures ∙ c.in_ok-refuse_unless.was)
+    )
+
+pub judge-requires : goal.judge-requires
+judge-requires c =
+    sizes_give (length c.args.est.now) c.args.settings c.args.size (sym c.sizes_fit.ensures ∙ unless_done _ 6 (sym c.refuse_unless-2.ensures ∙ c.in_ok-refuse_unless-2.was))
+
+pub returns-in_err-judge : goal.returns-in_err-judge
+unfolding lay_out_fault
+returns-in_err-judge c =
+    let e : c.from_residual-in_err-judge.result ≡ Refused c.in_err-judge.field-0.0 = search (rules, tests) in
+    rw (← c.sizes_fit.ensures) (
+    e
+    ∙ raised_first _ _ _ (sym c.judge.ensures ∙ c.in_err-judge.was)
+    ∙ next_unless _ 6 _ (λ z. absurd (omega arith)) (sym c.refuse_unless-2.ensures ∙ c.in_ok-refuse_unless-2.was)
+    ∙ next_unless _ 5 _ (λ z. absurd (omega arith)) (sym c.refuse_unless.ensures ∙ c.in_ok-refuse_unless.was)
+    )
 
 pub offsets_fit-requires : goal.offsets_fit-requires
-offsets_fit-requires c = let a = c.args in
-    let first : c.or_else-first.result ≡ or_else (train_fault a.settings) (size_fault a.est.now a.settings a.size) =
-    c.or_else-first.ensures ∙ ap₂ or_else c.refused_unless-bad_train.ensures (c.refused_unless-bad_size.ensures ∙ ap (λ (t : Bool). refused_unless t 6) c.sizes_fit.ensures) in
-    let s = sizes_give (length a.est.now) a.settings a.size (sizes_clean (train_fault a.settings) (sizes_fit (length a.est.now) a.settings a.size) (ap (λ (r : Refusal). r.number) (sym first) ∙ c.if-first-ne0.false)) in
+offsets_fit-requires c =
+    let s = sizes_give (length c.args.est.now) c.args.settings c.args.size (sym c.sizes_fit.ensures ∙ unless_done _ 6 (sym c.refuse_unless-2.ensures ∙ c.in_ok-refuse_unless-2.was)) in
     s.few-est
 
 pub returns : goal.returns
 unfolding lay_out_fault
-returns c = let a = c.args in
-    let first : c.or_else-first.result ≡ or_else (train_fault a.settings) (size_fault a.est.now a.settings a.size) =
-    c.or_else-first.ensures ∙ ap₂ or_else c.refused_unless-bad_train.ensures (c.refused_unless-bad_size.ensures ∙ ap (λ (t : Bool). refused_unless t 6) c.sizes_fit.ensures) in
-    c.or_else.ensures
-    ∙ ap₂ or_else c.judge-bad_records.ensures (c.refused_unless-beyond.ensures ∙ ap (λ (t : Bool). refused_unless t 11) c.offsets_fit.ensures)
-    ∙ sym (or_on (train_fault a.settings) (size_fault a.est.now a.settings a.size) _ (ap (λ (r : Refusal). r.number) (sym first) ∙ c.if-first-ne0.false))
+returns c =
+    rw (← c.sizes_fit.ensures, ← c.offsets_fit.ensures) (
+    c.refuse_unless-3.ensures
+    ∙ raised_unless _ 11 (λ z. absurd (omega arith))
+    ∙ raised_next _ _ (sym c.judge.ensures ∙ c.in_ok-judge.was)
+    ∙ next_unless _ 6 _ (λ z. absurd (omega arith)) (sym c.refuse_unless-2.ensures ∙ c.in_ok-refuse_unless-2.was)
+    ∙ next_unless _ 5 _ (λ z. absurd (omega arith)) (sym c.refuse_unless.ensures ∙ c.in_ok-refuse_unless.was)
+    )

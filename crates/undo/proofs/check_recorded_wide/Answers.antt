@@ -1,31 +1,27 @@
-use mathlib.Core.Path.{sym, ap, ◌∙◌}
-use native.Mathlib.Omega.{arith}
-use Rattle.link_rules.specs.declared.refusal.Refusal.{Refusal}
+use mathlib.Core.Path.{◌≡◌, refl, sym, ◌∙◌}
 use Rattle.image_fault.specs.declared.Widths.TheVariants.{Either}
-use Rattle.yard_check.specs.Check.{CheckArgs}
-use Rattle.undo.proofs.UndoLaws.{recorded-refused, recorded-room, copied_around}
+use Rattle.yard_check.specs.Check.{CheckArgs, checked_with}
+use Rattle.yard_check.specs.Checks.{checked_of}
+use Rattle.std.proofs.Common.{rules, tests}
+use lib.ListN.{length}
+use Rattle.link_rules.proofs.RefusalLaws.{none_raised}
+use Rattle.undo.proofs.UndoLaws.{recorded_is, recorded-refused, recorded-room, copied_around}
 use Rattle.undo.proofs.check_recorded_wide.Goals as goal
 
-pub returns-then-f-ne0 : goal.returns-then-f-ne0
-returns-then-f-ne0 c = let a = c.args in
+pub returns-in-Err : goal.returns-in-Err
+returns-in-Err c = let a = c.args in
     let A : CheckArgs = record { widths = Either; blocking = a.blocking.now; moved = a.moved.0; begin = a.begin; local = a.local; limit = a.limit } in
-    let f = c.recorded_wide_fault-f in
-    recorded-refused a.yard.now a.occ.now A a.report.now a.undo_record.now f.result f.ensures c.if-f-ne0.true
+    recorded-refused a.yard.now a.occ.now A a.report.now a.undo_record.now c.in-Err.f (sym (recorded_is a.yard.now a.occ.now A (length a.report.now) (length a.undo_record.now) c.recorded_fault.result (c.recorded_fault.ensures _ c.check_wide_fault-own.ensures)) ∙ c.in-Err.is)
 
-pub put_old-requires : goal.put_old-requires
-put_old-requires c = let a = c.args in
+pub recorded-requires-clause-room : goal.recorded-requires-clause-room
+recorded-requires-clause-room c = let a = c.args in
     let A : CheckArgs = record { widths = Either; blocking = a.blocking.now; moved = a.moved.0; begin = a.begin; local = a.local; limit = a.limit } in
-    recorded-room a.yard.now a.occ.now A a.report.now a.undo_record.now (ap (λ (x : Refusal). x.number) (sym c.recorded_wide_fault-f.ensures) ∙ c.if-f-ne0.false)
-
-pub put_written-requires : goal.put_written-requires
-put_written-requires c = let a = c.args in
-    let A : CheckArgs = record { widths = Either; blocking = a.blocking.now; moved = a.moved.0; begin = a.begin; local = a.local; limit = a.limit } in
-    let k = recorded-room a.yard.now a.occ.now A a.report.now a.undo_record.now (ap (λ (x : Refusal). x.number) (sym c.recorded_wide_fault-f.ensures) ∙ c.if-f-ne0.false) in
-    omega (arith, k.0, c.check_wide-x.auto.yard, c.put_old.auto.to)
+    recorded-room a.yard.now a.occ.now A a.report.now a.undo_record.now (none_raised _ (sym (recorded_is a.yard.now a.occ.now A (length a.report.now) (length a.undo_record.now) c.recorded_fault.result (c.recorded_fault.ensures _ c.check_wide_fault-own.ensures)) ∙ c.in_default.is))
 
 pub returns : goal.returns
 returns c = let a = c.args in
     let A : CheckArgs = record { widths = Either; blocking = a.blocking.now; moved = a.moved.0; begin = a.begin; local = a.local; limit = a.limit } in
-    let e = ap (λ (x : Refusal). x.number) (sym c.recorded_wide_fault-f.ensures) ∙ c.if-f-ne0.false in
-    let w = c.check_wide-x in
-    copied_around a.yard.now a.occ.now A a.report.now a.undo_record.now e w.result _ _ _ _ c.put_old.ensures w.ensures c.put_written.ensures
+    let e = none_raised _ (sym (recorded_is a.yard.now a.occ.now A (length a.report.now) (length a.undo_record.now) c.recorded_fault.result (c.recorded_fault.ensures _ c.check_wide_fault-own.ensures)) ∙ c.in_default.is) in
+    let w = c.recorded in
+    let k : checked_of w.result w.new.yard w.new.report ≡ checked_with a.yard.now a.occ.now A a.report.now = search (rules, tests) in
+    copied_around a.yard.now a.occ.now A a.report.now a.undo_record.now e w.result _ _ _ _ refl k w.ensures.copies

@@ -24,7 +24,7 @@ answered-requires c = let a = c.args in
     let copied = k.ensures ∙ put_all a.image.now a.scratch.now (sym c.requires.1) in
     let r = c.run-r in
     let bytes : ((i : ℕ) → get_or a.image.now i 0 < 256) = λ i. omega (arith, c.slice_known-1.given i) in
-    (r.ensures.named, r.ensures.faultless, λ q. store_fits a.image.now a.occ.now a.h c.requires.0 bytes r.new.img k.new.to copied (r.ensures.kept q) r.result.header r.result.same_path (r.ensures.path q))
+    (r.ensures.faultless, λ q. store_fits a.image.now a.occ.now a.h c.requires.0 bytes r.new.img k.new.to copied (r.ensures.kept q) r.result.header r.result.same_path (r.ensures.path q))
 
 pub shape_of-scratch : goal.shape_of-scratch
 shape_of-scratch c = c.scratch-2-1.given ∙ c.scratch-1.given

@@ -6,10 +6,7 @@ use Rattle.update_free_path.specs.Updates.{UpdateBegins, update_of}
 use Rattle.update_free_path.proofs.update_widened.Goals as goal
 
 pub update_begun-requires : goal.update_begun-requires
-update_begun-requires c = let a = c.args in
-    let h = c.path_header-h in
-    subst (λ (xs : List ℕ). UpdateBegins a.image.now xs h.result) (sym (c.widen.ensures c.requires.1))
-    (subst (UpdateBegins a.image.now a.occ.now) (sym h.ensures) c.requires.0)
+update_begun-requires c = let a = c.args in subst (λ (xs : List ℕ). UpdateBegins a.image.now xs a.h) (sym (c.widen.ensures c.requires.1)) c.requires.0
 
 pub returns : goal.returns
 returns c = let a = c.args in

@@ -1,5 +1,5 @@
 use mathlib.Core.Path.{◌≡◌}
-use Prim.Native.Nat.{◌+◌, ◌-◌, ◌≤◌, ◌<◌}
+use Prim.Native.Nat.{◌+◌, ◌≤◌, ◌<◌}
 use lib.ListN.{drop}
 use Rattle.disp_structs.specs.Listed.{listed}
 use Rattle.image.specs.Image.{node_at}
@@ -9,6 +9,3 @@ use Rattle.validate.proofs.conflicts.Given as goal
 
 abbrev pub invariant-loop-i : goal.invariant-loop-i
 invariant-loop-i l = (l.k ≤ l.i) × (l.i < 4294967296) × (l.k + count (in_conflict l.occ) (drop l.i (listed l.n (node_at l.img))) ≡ count (in_conflict l.occ) (drop l.free (listed l.n (node_at l.img))))
-
-abbrev pub decreases-loop-i : goal.decreases-loop-i
-decreases-loop-i l = l.n - l.i

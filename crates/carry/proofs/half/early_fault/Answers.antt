@@ -1,33 +1,34 @@
-use mathlib.Core.Path.{◌≡◌, refl, sym, ap, ◌∙◌}
-use mathlib.Core.Bool.{Bool, true, false}
-use native.Mathlib.Omega.{arith}
-use borrow.Author.Tests.{eq-eqb, ne_eqb}
-use Rattle.link_rules.specs.Refusals.{refused_unless}
-use Rattle.yard_check.specs.Yard.{yard_fits}
+use Rattle.std.proofs.Common.{◌≡◌, Err, rules, tests, refl, sym, ◌∙◌, arith}
+use Rattle.link_rules.proofs.RefusalLaws.{raised_unless, raised_first, raised_next, first_unless, next_unless, unless_done}
+use Rattle.update_definition.specs.UpdateImage.{call_fault}
 use Rattle.carry.specs.HalfCheck.{early_fault}
 use Rattle.carry.proofs.LayoutLaws.{yard-few}
 use Rattle.carry.proofs.half.early_fault.Goals as goal
 
-pub returns-then-f-ne0 : goal.returns-then-f-ne0
+pub returns-in_err-call_fault : goal.returns-in_err-call_fault
 unfolding early_fault
-returns-then-f-ne0 c = let a = c.args in
-    let f = c.call_fault-f in
-    λ begin local. rw (← f.ensures a.occupancy.now refl, ne_eqb f.result.number 0 c.if-f-ne0.true)
+returns-in_err-call_fault c = let a = c.args in
+    let e : c.from_residual.result ≡ Err c.in_err-call_fault.field-0.0 = search (rules, tests) in
+    λ begin local. e ∙ raised_first (call_fault a.occupancy.now a.blocking.now a.moved.0 a.limit) _ _ (sym (c.call_fault.ensures a.occupancy.now refl) ∙ c.in_err-call_fault.was)
+
+pub returns-in_err-refuse_unless : goal.returns-in_err-refuse_unless
+unfolding early_fault
+returns-in_err-refuse_unless c = let a = c.args in
+    let e : c.from_residual-in_err-refuse_unless.result ≡ Err c.in_err-refuse_unless.field-0.0 = search (rules, tests) in
+    λ begin local. rw (← c.yard_fits.ensures)
+    (e
+    ∙ first_unless _ 14 _ _ (λ z. absurd (omega arith)) (sym c.refuse_unless.ensures ∙ c.in_err-refuse_unless.was)
+    ∙ raised_next (call_fault a.occupancy.now a.blocking.now a.moved.0 a.limit) _ (sym (c.call_fault.ensures a.occupancy.now refl) ∙ c.in_ok-call_fault.was))
 
 pub half_fits-requires : goal.half_fits-requires
 half_fits-requires c = let a = c.args in
-    yard-few a.yard.now (λ i. omega (arith, c.shared_slice_known-1.given i)) (sym c.yard_fits.ensures ∙ c.if-yard_fits.true)
-
-pub returns-then-yard_fits : goal.returns-then-yard_fits
-unfolding early_fault
-returns-then-yard_fits c = let a = c.args in
-    let f = c.call_fault-f in
-    let ok : yard_fits a.yard.now ≡ true = sym c.yard_fits.ensures ∙ c.if-yard_fits.true in
-    λ begin local. rw (← f.ensures a.occupancy.now refl, eq-eqb f.result.number 0 c.if-f-ne0.false, ok) (c.refused_unless.ensures ∙ ap (λ (x : Bool). refused_unless x 24) c.half_fits.ensures)
+    yard-few a.yard.now (λ i. omega (arith, c.shared_slice_known-1.given i)) (sym c.yard_fits.ensures ∙ unless_done c.yard_fits.result 14 (sym c.refuse_unless.ensures ∙ c.in_ok-refuse_unless.was))
 
 pub returns : goal.returns
 unfolding early_fault
 returns c = let a = c.args in
-    let f = c.call_fault-f in
-    let bad : yard_fits a.yard.now ≡ false = sym c.yard_fits.ensures ∙ c.if-yard_fits.false in
-    λ begin local. rw (← f.ensures a.occupancy.now refl, eq-eqb f.result.number 0 c.if-f-ne0.false, bad) c.refused_unless-2.ensures
+    λ begin local. rw (← c.yard_fits.ensures, ← c.half_fits.ensures)
+    (c.refuse_unless-2.ensures
+    ∙ raised_unless _ 24 (λ z. absurd (omega arith))
+    ∙ next_unless _ 14 _ (λ z. absurd (omega arith)) (sym c.refuse_unless.ensures ∙ c.in_ok-refuse_unless.was)
+    ∙ raised_next (call_fault a.occupancy.now a.blocking.now a.moved.0 a.limit) _ (sym (c.call_fault.ensures a.occupancy.now refl) ∙ c.in_ok-call_fault.was))

@@ -1,3 +1,4 @@
+use lib.Ieee.{ne}
 use Rattle.disp_structs.specs.Floats.{near_float}
 use Rattle.disp_structs.proofs.floats.near.Goals as goal
 
@@ -6,9 +7,9 @@ unfolding near_float
 returns-then-magnitude c = rw (← c.magnitude.ensures, c.if-magnitude.true)
 
 pub returns-then-s : goal.returns-then-s
-unfolding near_float
-returns-then-s c = rw (← c.magnitude.ensures, c.if-magnitude.false, c.if-s.true)
+unfolding near_float ne
+returns-then-s c = rw (← c.magnitude.ensures, c.if-magnitude.false, c.if-s.true, ← c.magnitude-then-s.ensures)
 
-pub returns : goal.returns
-unfolding near_float
-returns c = rw (← c.magnitude.ensures, c.if-magnitude.false, c.if-s.false, ← c.magnitude-2.ensures)
+pub returns-else-s : goal.returns-else-s
+unfolding near_float ne
+returns-else-s c = rw (← c.magnitude.ensures, c.if-magnitude.false, c.if-s.false)

@@ -1,17 +1,22 @@
-use Rattle.std.proofs.Common.{◌+◌, cond, drop, sym, refl, ap, ◌∙◌, arith, rules}
-use Rattle.link_rules.specs.declared.link_idx.LinkIdx.{LinkIdx}
-use Rattle.free_path.specs.Columns.{links, flagged, flag_link, flag_links, kept}
+use Rattle.std.proofs.Common.{◌≡◌, ◌+◌, cond, drop, sym, ap, ◌∙◌, arith}
+use Rattle.free_path.specs.Columns.{links, link_at, flagged, flag_link, flag_links, kept}
 use Rattle.free_path.proofs.ColumnLaws.{known-turn, known-end}
 use Rattle.free_path.proofs.columns.flag_known.Goals as goal
+use Rattle.free_path.proofs.columns.flag_known.Goals.{then-is_flagged, else-is_flagged}
 
-pub loop-i-init : goal.loop-i-init
-loop-i-init c = (refl, refl)
-
-pub loop-i-preserved : goal.loop-i-preserved
-loop-i-preserved c = let a = c.args in
+pub loop-x-preserved : goal.loop-x-preserved
+loop-x-preserved c = let a = c.args in
+    let g = c.loop-x in
     let on = flagged a.on.now in
-    (search rules, ap (flag_links (kept on (drop (c.loop-i.i + 1) (links a.blocking.now)))) (c.flag_if.ensures ∙ ap (λ (l : LinkIdx). cond (on l) (flag_link l c.loop-i.flags) c.loop-i.flags) c.link_of-l.ensures) ∙ known-turn on a.blocking.now c.loop-i.i c.loop-i.flags (omega arith) ∙ c.loop-i.invariant.1)
+    let l = link_at a.blocking.now g.x-index in
+    let e : c.if-is_flagged.flags ≡ cond (on l) (flag_link l g.flags) g.flags =
+    elim c.if-is_flagged.branch [
+      | then-is_flagged w ↦ w.flags-is ∙ w.flag_link.ensures ∙ ap (λ t. cond t (flag_link l g.flags) g.flags) (sym w.if-is_flagged.true ∙ c.is_flagged.ensures)
+      | else-is_flagged w ↦ w.flags-is ∙ ap (λ t. cond t (flag_link l g.flags) g.flags) (sym w.if-is_flagged.false ∙ c.is_flagged.ensures)
+    ]
+    in
+    ap (flag_links (kept on (drop (g.x-index + 1) (links a.blocking.now)))) e ∙ known-turn on a.blocking.now g.x-index g.flags (omega arith) ∙ g.invariant
 
 pub returns : goal.returns
 returns c = let a = c.args in
-    sym (known-end (flagged a.on.now) a.blocking.now c.loop-i.i c.loop-i.flags (omega arith)) ∙ c.loop-i.invariant.1
+    sym (known-end (flagged a.on.now) a.blocking.now c.loop-x.x-index c.loop-x.flags (omega arith)) ∙ c.loop-x.invariant

@@ -1,27 +1,36 @@
-use Rattle.std.proofs.Common.{◌<◌, ◌≤◌, subst}
-use Rattle.free_path.proofs.SearchLimitLaws.{first_nan, second_nan, second-larger, first-larger, plus-first, minus-second}
+use Rattle.std.proofs.Common.{sym, ◌∙◌}
+use borrow.Author.Tests.{clash, not-true, not-false}
+use Rattle.free_path.specs.SearchLimit.{maximum_number}
+use Rattle.free_path.proofs.SearchLimitLaws.{minus-is}
 use Rattle.free_path.proofs.search_limit.maximum.Goals as goal
+use Rattle.free_path.proofs.search_limit.maximum.Goals.{then-b-a, else-b-a}
 
-pub returns-then-a : goal.returns-then-a
-returns-then-a c = let a = c.args in
-    first_nan a.a a.b c.if-a.true
+pub returns-then-is_nan : goal.returns-then-is_nan
+unfolding maximum_number
+returns-then-is_nan c = rw (sym c.is_nan.ensures.value ∙ c.if-is_nan.true)
 
-pub returns-then-b : goal.returns-then-b
-returns-then-b c = let a = c.args in
-    second_nan a.a a.b c.if-a.false c.if-b.true
+pub returns-then-is_nan-2 : goal.returns-then-is_nan-2
+unfolding maximum_number
+returns-then-is_nan-2 c = rw (sym c.is_nan.ensures.value ∙ c.if-is_nan.false, sym c.is_nan-2.ensures.value ∙ c.if-is_nan-2.true)
 
 pub returns-then-a-b : goal.returns-then-a-b
-returns-then-a-b c = let a = c.args in
-    second-larger a.a a.b c.if-a.false c.if-b.false c.if-a-b.true
+unfolding maximum_number
+returns-then-a-b c = rw (sym c.is_nan.ensures.value ∙ c.if-is_nan.false, sym c.is_nan-2.ensures.value ∙ c.if-is_nan-2.false, c.if-a-b.true)
 
-pub returns-then-b-a : goal.returns-then-b-a
-returns-then-b-a c = let a = c.args in
-    first-larger a.a a.b c.if-a.false c.if-b.false c.if-a-b.false c.if-b-a.true
+pub returns-then-is_sign_positive : goal.returns-then-is_sign_positive
+unfolding maximum_number
+returns-then-is_sign_positive c =
+    rw (sym c.is_nan.ensures.value ∙ c.if-is_nan.false, sym c.is_nan-2.ensures.value ∙ c.if-is_nan-2.false, c.if-a-b.false)
+    (elim c.if-b-a.branch [
+      | then-b-a w ↦ rw w.if-b-a.true
+      | else-b-a w ↦ rw (w.if-b-a.false, minus-is c.args.a ∙ not-true _ (sym w.is_sign_positive.ensures ∙ sym w.value-is ∙ c.if-is_sign_positive.true))
+    ])
 
-pub returns-then-bits_of-lt9223372036854775808 : goal.returns-then-bits_of-lt9223372036854775808
-returns-then-bits_of-lt9223372036854775808 c = let a = c.args in
-    plus-first a.a a.b c.if-a.false c.if-b.false (rw c.well_formed.0.1 tt) c.if-a-b.false c.if-b-a.false (subst (λ n. n < 0x8000_0000_0000_0000) c.bits_of.ensures c.if-bits_of-lt9223372036854775808.true)
-
-pub returns-else-bits_of-lt9223372036854775808 : goal.returns-else-bits_of-lt9223372036854775808
-returns-else-bits_of-lt9223372036854775808 c = let a = c.args in
-    minus-second a.a a.b c.if-a.false c.if-b.false (rw c.well_formed.0.1 tt) c.if-a-b.false c.if-b-a.false (subst (λ n. 0x8000_0000_0000_0000 ≤ n) c.bits_of.ensures c.if-bits_of-lt9223372036854775808.false)
+pub returns-else-is_sign_positive : goal.returns-else-is_sign_positive
+unfolding maximum_number
+returns-else-is_sign_positive c =
+    rw (sym c.is_nan.ensures.value ∙ c.if-is_nan.false, sym c.is_nan-2.ensures.value ∙ c.if-is_nan-2.false, c.if-a-b.false)
+    (elim c.if-b-a.branch [
+      | then-b-a w ↦ absurd (clash (sym c.if-is_sign_positive.false ∙ w.value-is ∙ w.if-b-a.true))
+      | else-b-a w ↦ rw (w.if-b-a.false, minus-is c.args.a ∙ not-false _ (sym w.is_sign_positive.ensures ∙ sym w.value-is ∙ c.if-is_sign_positive.false))
+    ])

@@ -1,19 +1,26 @@
-use Rattle.std.proofs.Common.{eq-eqb, ne_eqb}
+use Rattle.std.proofs.Common.{◌≡◌, true, false, not, sym, ap, ◌∙◌, eq-eqb, ne_eqb}
+use borrow.Author.Tests.{clash}
 use Rattle.link_rules.specs.LinkIdx.{occupied}
 use Rattle.free_path.specs.Validate.{stray_link}
-use Rattle.free_path.proofs.ColumnLaws.{and-true, and-false}
 use Rattle.free_path.proofs.strays.is_stray.Goals as goal
+use Rattle.free_path.proofs.strays.is_stray.Goals.{then-l-ne0, else-l-ne0}
 
-pub returns-then-l-eq0 : goal.returns-then-l-eq0
+pub returns-then-is_occupied : goal.returns-then-is_occupied
 unfolding stray_link
-returns-then-l-eq0 c = rw (eq-eqb c.args.l.0 0 c.if-l-eq0.true)
+returns-then-is_occupied c = let a = c.args in
+    elim c.if-l-ne0.branch [
+      | then-l-ne0 w ↦
+          let o : occupied a.occ.now a.l ≡ true = sym w.is_occupied.ensures ∙ sym w.value-is ∙ c.if-is_occupied.true in
+          rw (ne_eqb a.l.0 0 w.if-l-ne0.true, o) (ap not c.is_flagged.ensures)
+      | else-l-ne0 w ↦ absurd (clash (sym (ap not (eq-eqb a.l.0 0 w.if-l-ne0.false)) ∙ sym w.value-is ∙ c.if-is_occupied.true))
+    ]
 
-pub returns-then-is_flagged : goal.returns-then-is_flagged
+pub returns-else-is_occupied : goal.returns-else-is_occupied
 unfolding stray_link
-returns-then-is_flagged c = let a = c.args in
-    rw (ne_eqb a.l.0 0 c.if-l-eq0.false, ← c.is_flagged.ensures, c.if-is_flagged.true, and-false (occupied a.occ.now a.l))
-
-pub returns : goal.returns
-unfolding stray_link
-returns c = let a = c.args in
-    rw (ne_eqb a.l.0 0 c.if-l-eq0.false, ← c.is_flagged.ensures, c.if-is_flagged.false, and-true (occupied a.occ.now a.l)) c.is_occupied.ensures
+returns-else-is_occupied c = let a = c.args in
+    elim c.if-l-ne0.branch [
+      | then-l-ne0 w ↦
+          let o : occupied a.occ.now a.l ≡ false = sym w.is_occupied.ensures ∙ sym w.value-is ∙ c.if-is_occupied.false in
+          rw (c.if-is_occupied.false, ne_eqb a.l.0 0 w.if-l-ne0.true, o)
+      | else-l-ne0 w ↦ rw (c.if-is_occupied.false, eq-eqb a.l.0 0 w.if-l-ne0.false)
+    ]

@@ -1,4 +1,4 @@
-use Rattle.std.proofs.Common.{◌≡◌, ◌+◌, ◌-◌, ◌≤◌, drop}
+use Rattle.std.proofs.Common.{◌≡◌, ◌+◌, ◌≤◌, drop}
 use Rattle.free_path.specs.Base.{count}
 use Rattle.free_path.specs.Validate.{stray_link}
 use Rattle.free_path.specs.Columns.{link_at, flagged}
@@ -7,6 +7,3 @@ use Rattle.free_path.proofs.strays.strays.Given as goal
 
 abbrev pub invariant-loop-i : goal.invariant-loop-i
 invariant-loop-i l = (l.k + l.free ≤ l.i) × (l.k + count (stray_link l.occ (flagged l.known)) (drop l.i (listed l.n (link_at l.col))) ≡ count (stray_link l.occ (flagged l.known)) (drop l.free (listed l.n (link_at l.col))))
-
-abbrev pub decreases-loop-i : goal.decreases-loop-i
-decreases-loop-i l = l.n - l.i

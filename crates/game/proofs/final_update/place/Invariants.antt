@@ -1,6 +1,6 @@
 use mathlib.Core.Path.{◌≡◌}
 use mathlib.Core.List.{◌++◌}
-use Prim.Native.Nat.{◌-◌, ◌≤◌}
+use Prim.Native.Nat.{◌≤◌}
 use lib.ListN.{length, take, drop}
 use Rattle.game.specs.Game.{held_by}
 use Rattle.game.specs.Sets.{links_in}
@@ -14,6 +14,3 @@ invariant-loop-i l = (l.i ≤ length l.links)
     × (length l.occ ≡ length l.initial.occ)
     × (held_by l.moved (links_in (drop l.i l.links) l.rest) l.occ ≡ held_by l.moved (links_in l.links l.c) l.initial.occ)
     × (take l.n l.blocking ++ links_in (drop l.i l.links) l.rest ≡ links_in l.links l.c)
-
-abbrev pub decreases-loop-i : goal.decreases-loop-i
-decreases-loop-i l = length l.links - l.i

@@ -12,10 +12,10 @@ use Rattle.game.proofs.PositionLaws.{links-below, closed_in}
 use Rattle.game.proofs.final_update.wins_with.Goals as goal
 
 pub place-count-requires : goal.place-count-requires
-place-count-requires c = let w = c.copy_entries in (
+place-count-requires c = let w = c.copy_from_slice in (
   c.requires.accepted.few,
   refl,
-  λ i l. subst (λ (z : List ℕ). get_or c.args.links.now i 0 < length z) (sym w.ensures) (links-below (length c.args.occ.now) c.args.links.now c.requires.accepted.fitting i l),
+  λ i l. subst (λ (z : List ℕ). get_or c.args.links.now i 0 < length z) (sym w.ensures.after) (links-below (length c.args.occ.now) c.args.links.now c.requires.accepted.fitting i l),
 )
 
 pub slice_bounds-blocking-end : goal.slice_bounds-blocking-end
@@ -29,7 +29,7 @@ unfolding closer_wins
 returns c = let a = c.args in
     let u = c.update_wide-x in
     let p = c.place-count in
-    let w = c.copy_entries in
+    let w = c.copy_from_slice in
     let m = c.put_bytes in
     let g = game_of a.image.now a.occ.now a.o a.links.now in
     let links = a.links.now in
@@ -38,6 +38,6 @@ returns c = let a = c.args in
     ∙ ap is_blocked (ap (λ (x : UpdatedImage). x.answer.status) u.ensures
     ∙ ap (λ (z : List ℕ). ends z p.new.occ (take p.result p.new.blocking)) (m.ensures ∙ put_all a.image.now a.img.now (omega (arith, c.requires.img_len)))
     ∙ ap (λ (z : List ℕ). ends a.image.now z (take p.result p.new.blocking)) p.ensures.0.held
-    ∙ ap (λ (z : List ℕ). ends a.image.now (held_by a.o.moved.0 (links_in links a.c) z) (take p.result p.new.blocking)) w.ensures
+    ∙ ap (λ (z : List ℕ). ends a.image.now (held_by a.o.moved.0 (links_in links a.c) z) (take p.result p.new.blocking)) w.ensures.after
     ∙ ap (λ (z : List ℕ). ends a.image.now (held_by a.o.moved.0 (links_in links a.c) a.occ.now) z) p.ensures.0.listed
     ∙ ap (final_status g) (sym (closed_in (length a.occ.now) links c.requires.accepted.fitting a.c)))

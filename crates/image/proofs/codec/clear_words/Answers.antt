@@ -5,8 +5,8 @@ use borrow.Rule.Slice.PartMut.{mid_len, Post-is}
 use Rattle.image.proofs.Writers.{zero_run}
 use Rattle.image.proofs.codec.clear_words.Goals as goal
 
-pub returns : goal.returns
-returns c = let a = c.args in
+pub returns-else-img-end : goal.returns-else-img-end
+returns-else-img-end c = let a = c.args in
     let bs = a.img.now in
     let e = a.at + 4 * a.k in
     let d : e - a.at ≡ 4 * a.k = omega arith in

@@ -22,10 +22,10 @@ returns-then-wide c = let a = c.args in
     ∙ ap (diverge_from true bs) c.diverge_place-at.ensures
     ∙ ap (λ (v : Bool). diverge_from v bs (diverge_place a.wide a.e a.i)) (sym c.if-wide.true)
 
-pub returns : goal.returns
+pub returns-else-wide : goal.returns-else-wide
 unfolding diverge_from diverge_words
-returns c = let a = c.args in
+returns-else-wide c = let a = c.args in
     let bs = a.img.now in
-    ap₂ (λ (t n : ℕ). node_of t n) c.u16_at-2.ensures c.u16_at-3.ensures
+    ap₂ (λ (t n : ℕ). node_of t n) c.u16_at-else-wide.ensures c.u16_at-else-wide-2.ensures
     ∙ ap (diverge_from false bs) c.diverge_place-at.ensures
     ∙ ap (λ (v : Bool). diverge_from v bs (diverge_place a.wide a.e a.i)) (sym c.if-wide.false)

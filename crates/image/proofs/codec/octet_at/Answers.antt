@@ -4,9 +4,9 @@ use Rattle.link_rules.proofs.OctetLaws.{le_past}
 use mathlib.Core.Path.{sym}
 use Rattle.image.proofs.codec.octet_at.Goals as goal
 
-pub returns-then-s-at : goal.returns-then-s-at
-returns-then-s-at c = sym (le_past 1 _ _ c.if-s-at.true)
+pub returns-else-at-s : goal.returns-else-at-s
+returns-else-at-s c = sym (le_past 1 _ _ c.if-at-s.false)
 
-pub returns : goal.returns
+pub returns-then-at-s : goal.returns-then-at-s
 unfolding le_at
-returns c = omega arith
+returns-then-at-s c = omega arith

@@ -33,15 +33,15 @@ returns-then-wide c = let a = c.args in
     ∙ ap (λ (k : ℕ). put_diverge true a.x k bs) p.ensures
     ∙ ap (λ (v : Bool). put_diverge v a.x (diverge_place a.wide a.e a.i) bs) (sym c.if-wide.true)
 
-pub returns : goal.returns
+pub returns-else-wide : goal.returns-else-wide
 unfolding put_diverge diverge_words
-returns c = let a = c.args in
+returns-else-wide c = let a = c.args in
     let bs = a.img.now in
     let p = c.diverge_place-at in
     let n = a.x.disp_node_idx in
-    c.put_u16-3.ensures
+    c.put_u16-else-wide-2.ensures
     ∙ put_mod 2 n (p.result + 2) _
-    ∙ ap (put_le 2 n (p.result + 2)) (c.put_u16-2.ensures ∙ put_mod 2 a.x.train_idx.0 p.result bs)
+    ∙ ap (put_le 2 n (p.result + 2)) (c.put_u16-else-wide.ensures ∙ put_mod 2 a.x.train_idx.0 p.result bs)
     ∙ sym (put-none (p.result + 4) (put_le 2 n (p.result + 2) (put_le 2 a.x.train_idx.0 p.result bs)))
     ∙ ap (λ (k : ℕ). put_diverge false a.x k bs) p.ensures
     ∙ ap (λ (v : Bool). put_diverge v a.x (diverge_place a.wide a.e a.i) bs) (sym c.if-wide.false)

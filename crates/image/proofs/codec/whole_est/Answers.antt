@@ -1,4 +1,3 @@
-use Rattle.image.specs.Image.{est_from}
 use mathlib.Core.Path.{sym, ◌∙◌}
 use native.Mathlib.Omega.{arith}
 use Rattle.image.proofs.RecordLaws.{whole-est, whole_est_past}
@@ -7,6 +6,5 @@ use Rattle.image.proofs.codec.whole_est.Goals as goal
 pub returns-then-img-at : goal.returns-then-img-at
 returns-then-img-at c = c.zero_est.ensures ∙ sym (whole_est_past c.args.img.now c.args.i (omega (arith, c.if-img-at.true, c.est_place-at.ensures)))
 
-pub returns : goal.returns
-unfolding est_from
-returns c = rw (whole-est c.args.img.now c.args.i (omega (arith, c.if-img-at.false, c.est_place-at.ensures))) (cc)
+pub returns-else-img-at : goal.returns-else-img-at
+returns-else-img-at c = rw (whole-est c.args.img.now c.args.i (omega (arith, c.if-img-at.false, c.est_place-at.ensures))) (cc)

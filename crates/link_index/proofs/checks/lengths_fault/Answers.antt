@@ -1,15 +1,16 @@
-use mathlib.Core.Path.{ap, ap₂, ◌∙◌}
-use mathlib.Core.Bool.{Bool, ◌&&◌}
-use lib.Dec.{leb}
-use borrow.Author.Tests.{le-leb, lt-leb}
-use Rattle.link_index.proofs.CallLaws.{links_unfit, links_fit}
+use Rattle.std.proofs.Common.{◌≡◌, Err, rules, tests, sym, ◌∙◌, arith}
+use Rattle.link_rules.proofs.RefusalLaws.{raised_unless, first_unless, next_unless}
+use Rattle.link_index.specs.Indexed.{lengths_fault}
 use Rattle.link_index.proofs.checks.lengths_fault.Goals as goal
 
-pub returns-then-l-lt2 : goal.returns-then-l-lt2
-returns-then-l-lt2 c = let a = c.args in c.refused_unless.ensures ∙ links_unfit a.l a.m (ap (λ (b : Bool). b && leb a.l 4000) (lt-leb 2 a.l c.if-l-lt2.true))
-
-pub returns-then-l-gt4000 : goal.returns-then-l-gt4000
-returns-then-l-gt4000 c = let a = c.args in c.refused_unless-then-l-gt4000.ensures ∙ links_unfit a.l a.m (ap₂ (λ (x y : Bool). x && y) (le-leb 2 a.l c.if-l-lt2.false) (lt-leb a.l 4000 c.if-l-gt4000.true))
+pub returns-in_err-refuse_unless : goal.returns-in_err-refuse_unless
+unfolding lengths_fault
+returns-in_err-refuse_unless c =
+    let e : c.from_residual.result ≡ Err c.in_err-refuse_unless.field-0.0 = search (rules, tests) in
+    rw (← c.length_fits.ensures) (e ∙ first_unless _ 2 _ _ (λ z. absurd (omega arith)) (sym c.refuse_unless.ensures ∙ c.in_err-refuse_unless.was))
 
 pub returns : goal.returns
-returns c = let a = c.args in c.refused_unless-2.ensures ∙ links_fit a.l a.m c.if-l-lt2.false c.if-l-gt4000.false
+unfolding lengths_fault
+returns c =
+    rw (← c.length_fits.ensures)
+    (c.refuse_unless-2.ensures ∙ raised_unless _ 25 (λ z. absurd (omega arith)) ∙ next_unless _ 2 _ (λ z. absurd (omega arith)) (sym c.refuse_unless.ensures ∙ c.in_ok-refuse_unless.was))

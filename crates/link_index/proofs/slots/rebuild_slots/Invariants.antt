@@ -1,5 +1,5 @@
 use mathlib.Core.Path.{◌≡◌}
-use Prim.Native.Nat.{◌-◌, ◌≤◌}
+use Prim.Native.Nat.{◌≤◌}
 use lib.ListN.{length}
 use Rattle.link_index.specs.Bits.{bit_of}
 use Rattle.link_index.specs.Slots.{slots_done}
@@ -7,6 +7,3 @@ use Rattle.link_index.proofs.slots.rebuild_slots.Given as goal
 
 abbrev pub invariant-loop-t : goal.invariant-loop-t
 invariant-loop-t l = (l.t ≤ 64) × (length l.index ≡ length l.initial.index) × (l.index ≡ slots_done (bit_of l.set) l.yard l.t l.initial.index)
-
-abbrev pub decreases-loop-t : goal.decreases-loop-t
-decreases-loop-t l = 64 - l.t

@@ -1,21 +1,15 @@
-use Rattle.std.proofs.Common.{ℕ, sym, refl, ◌∙◌, ap₂, add-zero, arith, rules}
-use Rattle.link_rules.specs.LinkIdx.{wide_train}
-use native.Mathlib.Nat.{sub-zero}
-use Rattle.link_rules.specs.Network.{lockouts}
-use Rattle.link_rules.specs.AdvanceRewind.{hold_all}
+use Rattle.std.proofs.Common.{map, sym, ◌∙◌, arith}
 use Rattle.link_rules.proofs.MarkLaws.{hold-turn, hold-end}
 use Rattle.link_rules.proofs.advance_rewind.hold_lockouts.Goals as goal
 
-pub loop-j-init : goal.loop-j-init
-loop-j-init c = (search rules, refl, rw (sub-zero, add-zero))
-
 pub loop-j-preserved : goal.loop-j-preserved
-loop-j-preserved c = let a = c.args in
-    (search rules, search rules, rw (c.hold.ensures, c.lockout_at.ensures) (sym (hold-turn a.table.now c.count_at-n.result c.start_at-start.result c.loop-j.j c.loop-j.occupancy (wide_train a.train) (omega arith)) ∙ c.loop-j.invariant.2))
+loop-j-preserved g c = let num = g.E.Entry.number in
+    rw (c.hold.ensures, c.lockout_at.ensures) (
+    sym (hold-turn c.args.table.now c.count_at-n.result c.start_at-start.result c.loop-j.j (map num c.loop-j.occupancy) (record { 0 = num c.args.train }) (omega arith))
+    ∙ c.loop-j.invariant
+    )
 
 pub returns : goal.returns
-returns c = let a = c.args in
-    let n = c.count_at-n in
-    let s = c.start_at-start in
-    sym (hold-end a.table.now n.result s.result c.loop-j.j c.loop-j.occupancy (wide_train a.train) (omega arith))
-    ∙ c.loop-j.invariant.2 ∙ ap₂ (λ (x y : ℕ). hold_all a.occupancy.now (lockouts a.table.now x y) (wide_train a.train)) n.ensures s.ensures
+returns g c = let num = g.E.Entry.number in
+    sym (hold-end c.args.table.now c.count_at-n.result c.start_at-start.result c.loop-j.j (map num c.loop-j.occupancy) (record { 0 = num c.args.train }) (omega arith))
+    ∙ c.loop-j.invariant

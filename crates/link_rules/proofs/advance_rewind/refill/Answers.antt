@@ -1,36 +1,32 @@
-use Rattle.std.proofs.Common.{◌≡◌, ℕ, ◌+◌, List, get_or, set, sym, refl, ◌∙◌, ap₂, add-zero, arith, rules}
-use native.Mathlib.Nat.{sub-zero}
-use Rattle.link_rules.specs.Network.{lockouts, lockout_at}
-use Rattle.link_rules.specs.AdvanceRewind.{refilled}
+use Rattle.std.proofs.Common.{◌≡◌, ℕ, ◌+◌, map, get_or, set, sym, ap, ap₂, ◌∙◌, arith, eqb-true}
+use borrow.Author.Tests.{eqb-false}
+use Rattle.link_rules.specs.Network.{lockout_at}
 use Rattle.link_rules.proofs.MarkLaws.{refill_on, refill_stop, refill_end}
 use Rattle.link_rules.proofs.advance_rewind.refill.Goals as goal
 
-pub loop-j-init : goal.loop-j-init
-loop-j-init c = (search rules, refl, rw (sub-zero, add-zero))
-
-pub returns-then-t-ne0 : goal.returns-then-t-ne0
-returns-then-t-ne0 c = let a = c.args in
-    let n = c.count_at-n in
-    let s = c.start_at-start in
-    let at = lockout_at a.table.now (s.result + c.loop-j.j) in
-    let e : c.train_at-t.result ≡ get_or a.occupancy.now at 0 = c.train_at-t.ensures ∙ ap₂ (λ (xs : List ℕ) (x : ℕ). get_or xs x 0) c.loop-j.invariant.1 c.lockout_at.ensures in
+pub returns-then-not-is_none : goal.returns-then-not-is_none
+returns-then-not-is_none g c = let a = c.args in
+    let num = g.E.Entry.number in
+    let occ = map num a.occupancy.now in
+    let i = c.start_at-start.result + c.loop-j.j in
+    let e : num c.train_at-t.result ≡ get_or occ (lockout_at a.table.now i) 0 = rw (c.loop-j.invariant.0, c.lockout_at.ensures) at c.train_at-t.ensures in
     c.hold.ensures
-    ∙ ap₂ (λ (xs : List ℕ) (x : ℕ). set xs a.link.0 x) c.loop-j.invariant.1 e
-    ∙ sym (refill_stop a.table.now n.result s.result c.loop-j.j a.occupancy.now a.link (omega arith) (λ z. c.if-t-ne0.true (e ∙ z)))
-    ∙ c.loop-j.invariant.2 ∙ ap₂ (λ (x y : ℕ). refilled a.occupancy.now a.link (lockouts a.table.now x y)) n.ensures s.ensures
+    ∙ ap₂ (λ xs (x : ℕ). set (map num xs) a.link.0 x) c.loop-j.invariant.0 e
+    ∙ sym (refill_stop a.table.now c.count_at-n.result c.start_at-start.result c.loop-j.j occ a.link (omega arith) (λ z. eqb-false _ 0 (sym c.is_none.ensures ∙ c.if-not-is_none.true) (e ∙ z)))
+    ∙ c.loop-j.invariant.1
 
 pub loop-j-preserved : goal.loop-j-preserved
-loop-j-preserved c = let a = c.args in
-    let n = c.count_at-n in
-    let s = c.start_at-start in
-    let at = lockout_at a.table.now (s.result + c.loop-j.j) in
-    let e : c.train_at-t.result ≡ get_or a.occupancy.now at 0 = c.train_at-t.ensures ∙ ap₂ (λ (xs : List ℕ) (x : ℕ). get_or xs x 0) c.loop-j.invariant.1 c.lockout_at.ensures in
-    (search rules, c.loop-j.invariant.1, sym (refill_on a.table.now n.result s.result c.loop-j.j a.occupancy.now a.link (omega arith) (sym e ∙ c.if-t-ne0.false)) ∙ c.loop-j.invariant.2)
+loop-j-preserved g c = let a = c.args in
+    let num = g.E.Entry.number in
+    let occ = map num a.occupancy.now in
+    let i = c.start_at-start.result + c.loop-j.j in
+    let e : num c.train_at-t.result ≡ get_or occ (lockout_at a.table.now i) 0 = rw (c.loop-j.invariant.0, c.lockout_at.ensures) at c.train_at-t.ensures in (
+      c.loop-j.invariant.0,
+      sym (refill_on a.table.now c.count_at-n.result c.start_at-start.result c.loop-j.j occ a.link (omega arith) (sym e ∙ eqb-true _ 0 (sym c.is_none.ensures ∙ c.if-not-is_none.false))) ∙ c.loop-j.invariant.1,
+    )
 
 pub returns : goal.returns
-returns c = let a = c.args in
-    let n = c.count_at-n in
-    let s = c.start_at-start in
-    c.loop-j.invariant.1
-    ∙ sym (refill_end a.table.now n.result s.result c.loop-j.j a.occupancy.now a.link (omega arith))
-    ∙ c.loop-j.invariant.2 ∙ ap₂ (λ (x y : ℕ). refilled a.occupancy.now a.link (lockouts a.table.now x y)) n.ensures s.ensures
+returns g c = let a = c.args in
+    ap (map g.E.Entry.number) c.loop-j.invariant.0
+    ∙ sym (refill_end a.table.now c.count_at-n.result c.start_at-start.result c.loop-j.j (map g.E.Entry.number a.occupancy.now) a.link (omega arith))
+    ∙ c.loop-j.invariant.1

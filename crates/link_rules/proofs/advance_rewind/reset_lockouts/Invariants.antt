@@ -1,10 +1,9 @@
-use Rattle.std.proofs.Common.{◌≡◌, ◌+◌, ◌-◌, ◌≤◌, length}
-use Rattle.link_rules.specs.Network.{lockouts}
+use Rattle.std.proofs.Common.{◌≡◌, ◌+◌, ◌-◌, map}
+use Rattle.link_rules.specs.Network.{lockouts, link_at}
 use Rattle.link_rules.specs.AdvanceRewind.{reset_all}
 use Rattle.link_rules.proofs.advance_rewind.reset_lockouts.Given as goal
 
 abbrev pub invariant-loop-j : goal.invariant-loop-j
-invariant-loop-j l = (l.j ≤ l.n) × (length l.occupancy ≡ length l.initial.occupancy) × (reset_all l.table l.occupancy (lockouts l.table (l.n - l.j) (l.start + l.j)) ≡ reset_all l.table l.initial.occupancy (lockouts l.table l.n l.start))
-
-abbrev pub decreases-loop-j : goal.decreases-loop-j
-decreases-loop-j l = l.n - l.j
+invariant-loop-j g l =
+    reset_all l.table (map g.E.Entry.number l.occupancy) (lockouts l.table (l.n - l.j) (l.start + l.j))
+    ≡ reset_all l.table (map g.E.Entry.number l.initial.occupancy) (link_at l.table l.fn.link).link_idxs_lockout

@@ -7,9 +7,9 @@ use Rattle.link_rules.proofs.network.record_fits.Goals as goal
 pub returns : goal.returns
 unfolding record_fits
 returns c = let a = c.args in
-    let pre = c.requires in
     let t = a.table.now in
     let s : 16 + 12 * a.l + 4 ≡ 20 + 12 * a.l = omega arith in
     let n : 16 + 12 * a.l + 8 ≡ 24 + 12 * a.l = omega arith in
-    let span = span_within c.u32_in-start.result c.u32_in-count.result a.lockouts c.wrapping_sub_u32-left.result (omega arith) (omega arith) c.wrapping_sub_u32-left.ensures.value in
-    c.both-2.ensures ∙ ap₂ ◌&&◌ (ap₂ ltb c.u32_in-flip.ensures pre.0) (c.both.ensures ∙ span ∙ ap₂ leb (ap₂ ◌+◌ (c.u32_in-start.ensures ∙ ap (le_at 4 t) s) (c.u32_in-count.ensures ∙ ap (le_at 4 t) n)) pre.1)
+    ap₂ ◌&&◌ (ap₂ ltb c.u32_in-flip.ensures c.requires.0)
+    (span_within c.u32_in-start.result c.u32_in-count.result a.lockouts _ (omega arith) (omega arith) (omega arith)
+    ∙ ap₂ leb (ap₂ ◌+◌ (c.u32_in-start.ensures ∙ ap (le_at 4 t) s) (c.u32_in-count.ensures ∙ ap (le_at 4 t) n)) c.requires.1)

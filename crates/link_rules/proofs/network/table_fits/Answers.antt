@@ -1,21 +1,20 @@
-use Rattle.std.proofs.Common.{sym, ◌∙◌}
+use Rattle.std.proofs.Common.{refl}
 use Rattle.link_rules.specs.Network.{table_fits}
+use Rattle.link_rules.proofs.network.table_fits.Goals.{then-header_fits, else-header_fits}
 use Rattle.link_rules.proofs.network.table_fits.Goals as goal
 
-pub returns-then-not-header_fits : goal.returns-then-not-header_fits
+pub returns-then-records_fit : goal.returns-then-records_fit
 unfolding table_fits
-returns-then-not-header_fits c = rw (sym c.header_fits.ensures ∙ c.if-not-header_fits.true)
+returns-then-records_fit c =
+    elim c.if-header_fits.branch [
+      | then-header_fits w ↦ rw (← c.header_fits.ensures, w.if-header_fits.true, ← w.records_fit.ensures, ← w.value-is, c.if-records_fit.true) c.lockouts_fit.ensures
+      | else-header_fits w ↦ (cc)
+    ]
 
-pub records_fit-requires : goal.records_fit-requires
-records_fit-requires c = sym c.header_fits.ensures ∙ c.if-not-header_fits.false
-
-pub returns-then-not-records_fit : goal.returns-then-not-records_fit
+pub returns-else-records_fit : goal.returns-else-records_fit
 unfolding table_fits
-returns-then-not-records_fit c = rw (sym c.header_fits.ensures ∙ c.if-not-header_fits.false, sym c.records_fit.ensures ∙ c.if-not-records_fit.true)
-
-pub lockouts_fit-requires : goal.lockouts_fit-requires
-lockouts_fit-requires c = sym c.header_fits.ensures ∙ c.if-not-header_fits.false
-
-pub returns : goal.returns
-unfolding table_fits
-returns c = rw (sym c.header_fits.ensures ∙ c.if-not-header_fits.false, sym c.records_fit.ensures ∙ c.if-not-records_fit.false) c.lockouts_fit.ensures
+returns-else-records_fit c =
+    elim c.if-header_fits.branch [
+      | then-header_fits w ↦ rw (← c.header_fits.ensures, w.if-header_fits.true, ← w.records_fit.ensures, ← w.value-is, c.if-records_fit.false) refl
+      | else-header_fits w ↦ rw (w.value-is, ← c.header_fits.ensures, w.if-header_fits.false) refl
+    ]

@@ -13,4 +13,4 @@ returns-then-to-k-2 c = let a = c.args in sym (put-none a.k a.from.now a.to.now 
 pub returns : goal.returns
 unfolding put_bytes
 returns c = let a = c.args in
-    rw (c.copy.ensures, Post-is a.k (a.k + length a.from.now) a.to.now (omega arith), put_some a.k a.from.now a.to.now (omega (arith, c.if-to-k.false, c.if-to-k-2.false)))
+    rw (c.copy_from_slice.ensures.after, Post-is a.k (a.k + length a.from.now) a.to.now (omega arith), put_some a.k a.from.now a.to.now (omega (arith, c.if-to-k.false, c.if-to-k-2.false)))

@@ -1,4 +1,4 @@
-use mathlib.Core.Path.{refl, sym, ap, ◌∙◌}
+use mathlib.Core.Path.{sym, ap, ◌∙◌}
 use mathlib.Core.Bool.{not}
 use native.Mathlib.Omega.{arith}
 use Rattle.disp_structs.specs.Values.{is_fake}
@@ -7,9 +7,6 @@ use Rattle.image.specs.Image.{node_at}
 use Rattle.splice.proofs.ListLaws.{walk_hit, walk_miss, walk_none}
 use Rattle.update_definition.specs.Moves.{not_fake}
 use Rattle.search.proofs.fakes.walk_fakes.Goals as goal
-
-pub loop-k-init : goal.loop-k-init
-loop-k-init c = refl
 
 pub returns-then-not-is_fake : goal.returns-then-not-is_fake
 returns-then-not-is_fake c = let a = c.args in

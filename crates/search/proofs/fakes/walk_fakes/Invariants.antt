@@ -1,5 +1,4 @@
 use mathlib.Core.Path.{◌≡◌}
-use Prim.Native.Nat.{◌-◌}
 use Rattle.image.specs.Image.{path_of}
 use Rattle.free_path.specs.Base.{walk_from}
 use Rattle.update_definition.specs.Moves.{not_fake}
@@ -7,6 +6,3 @@ use Rattle.search.proofs.fakes.walk_fakes.Given as goal
 
 abbrev pub invariant-loop-k : goal.invariant-loop-k
 invariant-loop-k l = walk_from not_fake (path_of l.img l.n) l.k ≡ walk_from not_fake (path_of l.img l.n) l.from
-
-abbrev pub decreases-loop-k : goal.decreases-loop-k
-decreases-loop-k l = l.n - l.k

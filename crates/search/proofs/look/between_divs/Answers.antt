@@ -1,15 +1,14 @@
 use Rattle.search.proofs.LookLaws.{rising_zero, rising_out, rising_in}
 use Rattle.search.proofs.look.between_divs.Goals as goal
+use Rattle.search.proofs.look.between_divs.Goals.{then-i-eq0-via-then-i-eq0, then-i-eq0-via-else-i-eq0+then-m-i}
 
 pub returns-then-i-eq0 : goal.returns-then-i-eq0
 returns-then-i-eq0 c = λ t.
     let a = c.args in
-    rising_zero a.m t a.dn.now a.i c.if-i-eq0.true
-
-pub returns-then-m-i : goal.returns-then-m-i
-returns-then-m-i c = λ t.
-    let a = c.args in
-    rising_out a.m t a.dn.now a.i c.if-i-eq0.false c.if-m-i.true
+    elim c.then-i-eq0.branch [
+      | then-i-eq0-via-then-i-eq0 w ↦ rising_zero a.m t a.dn.now a.i w.if-i-eq0.true
+      | then-i-eq0-via-else-i-eq0+then-m-i w ↦ rising_out a.m t a.dn.now a.i w.if-i-eq0.false w.if-m-i.true
+    ]
 
 pub returns : goal.returns
 returns c = λ t.

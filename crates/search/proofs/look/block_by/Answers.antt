@@ -10,7 +10,7 @@ use Rattle.search.proofs.look.block_by.Goals as goal
 pub returns-then-from-k-gt2048 : goal.returns-then-from-k-gt2048
 returns-then-from-k-gt2048 c = let a = c.args in
     let s = c.requires in
-    record { is = λ new divs. block_full a.p new divs a.pool.now (views_of a.n a.begins.now a.ends.now) a.e (trains_from a.col.now a.a a.k) s.1.trains s.0.pool a.k (listed-length a.k (λ j. tr (get_or a.col.now (a.a + j) 0))) c.if-from-k-gt2048.true; small = s.0; kept = refl }
+    record { is = λ new divs. block_full a.p new divs a.pool.now (views_of a.n a.begins.now a.ends.now) a.e (trains_from a.col.now a.a a.k) s.1.trains s.0.pool a.k (listed-length a.k (λ j. tr (get_or a.col.now (a.a + j) 0))) c.if-from-k-gt2048.true; small = tt; kept = tt }
 
 pub returns : goal.returns
 returns c = let a = c.args in

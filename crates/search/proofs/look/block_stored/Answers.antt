@@ -7,7 +7,7 @@ pub returns-then-not-is_blocked : goal.returns-then-not-is_blocked
 returns-then-not-is_blocked c = let a = c.args in
     let s = c.requires in
     λ t occ img dn met.
-    record { is = λ new divs. hold_open (round_of t occ img a.dt.now dn a.r) (here_of a.h) (search_in a.r.est_count a.p new divs (arrays a.pool.now a.begins.now a.ends.now)) (record { div_idx_split = a.div; met = met }) (sym (c.is_blocked.ensures a.begins.now) ∙ c.if-not-is_blocked.true); small = s.0; kept = refl }
+    record { is = λ new divs. hold_open (round_of t occ img a.dt.now dn a.r) (here_of a.h) (search_in a.r.est_count a.p new divs (arrays a.pool.now a.begins.now a.ends.now)) (record { div_idx_split = a.div; met = met }) (sym (c.is_blocked.ensures a.begins.now) ∙ c.if-not-is_blocked.true); small = tt; kept = tt }
 
 pub returns : goal.returns
 returns c = let a = c.args in

@@ -33,9 +33,9 @@ returns-then-r-p-2 c = let a = c.args in
 pub returns-then-same_event : goal.returns-then-same_event
 returns-then-same_event c = let a = c.args in
     λ t occ dt dn b new divs pool mk.
-    L.move_saved (round_of t occ a.img.now dt dn a.r) (here_of a.h) (search_of a.p new divs pool (views_of a.r.est_count b a.ends.now)) (sym (c.is_blocked.ensures b) ∙ c.if-is_blocked.false) (sym (mk a.h.est_curr.idx_next) ∙ sym c.is_on_path.ensures ∙ c.if-is_on_path.false) c.if-r-p.false (node_at a.img.now a.p.idx_save) (listed_read a.r.path_count (node_at a.img.now) a.p.idx_save c.if-r-p-2.false) (sym (c.same_event.ensures ∙ ap (λ (x : LinkEvent). same_event a.h.est_next.link_event x) c.node_link_event.ensures) ∙ c.if-same_event.true)
+    L.move_saved (round_of t occ a.img.now dt dn a.r) (here_of a.h) (search_of a.p new divs pool (views_of a.r.est_count b a.ends.now)) (sym (c.is_blocked.ensures b) ∙ c.if-is_blocked.false) (sym (mk a.h.est_curr.idx_next) ∙ sym c.is_on_path.ensures ∙ c.if-is_on_path.false) c.if-r-p.false (node_at a.img.now a.p.idx_save) (listed_read a.r.path_count (node_at a.img.now) a.p.idx_save c.if-r-p-2.false) (sym (c.same_event.ensures ∙ ap (λ (x : LinkEvent). same_event a.h.est_next.link_event x) c.node_link_event-saved.ensures) ∙ c.if-same_event.true)
 
 pub returns : goal.returns
 returns c = let a = c.args in
     λ t occ dt dn b new divs pool mk.
-    L.move_empty (round_of t occ a.img.now dt dn a.r) (here_of a.h) (search_of a.p new divs pool (views_of a.r.est_count b a.ends.now)) (sym (c.is_blocked.ensures b) ∙ c.if-is_blocked.false) (sym (mk a.h.est_curr.idx_next) ∙ sym c.is_on_path.ensures ∙ c.if-is_on_path.false) c.if-r-p.false (node_at a.img.now a.p.idx_save) (listed_read a.r.path_count (node_at a.img.now) a.p.idx_save c.if-r-p-2.false) (sym (c.same_event.ensures ∙ ap (λ (x : LinkEvent). same_event a.h.est_next.link_event x) c.node_link_event.ensures) ∙ c.if-same_event.false)
+    L.move_empty (round_of t occ a.img.now dt dn a.r) (here_of a.h) (search_of a.p new divs pool (views_of a.r.est_count b a.ends.now)) (sym (c.is_blocked.ensures b) ∙ c.if-is_blocked.false) (sym (mk a.h.est_curr.idx_next) ∙ sym c.is_on_path.ensures ∙ c.if-is_on_path.false) c.if-r-p.false (node_at a.img.now a.p.idx_save) (listed_read a.r.path_count (node_at a.img.now) a.p.idx_save c.if-r-p-2.false) (sym (c.same_event.ensures ∙ ap (λ (x : LinkEvent). same_event a.h.est_next.link_event x) c.node_link_event-saved.ensures) ∙ c.if-same_event.false)

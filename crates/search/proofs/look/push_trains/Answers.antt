@@ -1,4 +1,3 @@
-use mathlib.Core.Path.{◌≡◌}
 use mathlib.Core.List.{append-nil}
 use native.Mathlib.Omega.{arith}
 use native.Mathlib.Nat.{add-zero}
@@ -17,9 +16,3 @@ pub loop-j-preserved : goal.loop-j-preserved
 loop-j-preserved c = let a = c.args in
     let l = c.loop-j in
     (omega arith, search rules, push_turn l.pool a.col.now (take a.len (trains a.pool.now)) a.len a.a l.j (omega arith) l.invariant.2 c.u32_of.result c.u32_of.ensures)
-
-pub returns : goal.returns
-returns c = let a = c.args in
-    let l = c.loop-j in
-    let e : l.j ≡ a.k = omega arith in
-    rw (← e) l.invariant.2

@@ -7,6 +7,3 @@ use Rattle.search.proofs.look.stored_from.Given as goal
 
 abbrev pub invariant-loop-k : goal.invariant-loop-k
 invariant-loop-k l = (l.k ≤ l.from) × (with_met l.met (stored_from (divs_of l.m l.dt l.dn) l.join l.moved l.k) ≡ stored_from (divs_of l.m l.dt l.dn) l.join l.moved l.from)
-
-abbrev pub decreases-loop-k : goal.decreases-loop-k
-decreases-loop-k l = l.k

@@ -2,11 +2,10 @@ use mathlib.Core.Path.{refl, sym, ◌∙◌}
 use Rattle.search.proofs.PushLaws.{push_far, push_near}
 use Rattle.search.proofs.moves.pushed.Goals as goal
 
--- src/moves.rt:46:1
 pub returns-then-not-in_reach : goal.returns-then-not-in_reach
 returns-then-not-in_reach c = let a = c.args in
-    (refl, λ r s. push_far s a.n (sym c.in_reach.ensures ∙ c.if-not-in_reach.true))
+    (tt, λ r standing. push_far (standing a.p) a.n (sym c.in_reach.ensures ∙ c.if-not-in_reach.true))
 
 pub returns : goal.returns
 returns c = let a = c.args in
-    (refl, λ r s. push_near s a.n (sym c.in_reach.ensures ∙ c.if-not-in_reach.false))
+    (refl, λ r standing. push_near (standing a.p) a.n (sym c.in_reach.ensures ∙ c.if-not-in_reach.false))

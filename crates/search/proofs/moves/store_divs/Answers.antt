@@ -9,16 +9,10 @@ use Rattle.search.proofs.DepositLaws.{divs-from, div_turn}
 use borrow.Author.Rules.{rules}
 use Rattle.search.proofs.moves.store_divs.Goals as goal
 
--- src/moves.rt:236:30
 pub loop-j-init : goal.loop-j-init
 unfolding listed
 loop-j-init c = (omega arith, refl, refl, rw (add-zero, append-nil))
 
--- src/moves.rt:235:5
-pub loop-j-smaller : goal.loop-j-smaller
-loop-j-smaller c = omega arith
-
--- src/moves.rt:222:1
 pub loop-j-preserved : goal.loop-j-preserved
 loop-j-preserved c = let a = c.args in
     let l = c.loop-j in

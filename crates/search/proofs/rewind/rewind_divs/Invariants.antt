@@ -8,6 +8,3 @@ use Rattle.search.proofs.rewind.rewind_divs.Given as goal
 
 abbrev pub invariant-loop-k : goal.invariant-loop-k
 invariant-loop-k l = (l.k ≤ l.count) × ((nt : List ℕ) → walk_back (off l.join) (divs_of l.count nt l.nn) l.k ≡ walk_back (off l.join) (divs_of l.count nt l.nn) l.count)
-
-abbrev pub decreases-loop-k : goal.decreases-loop-k
-decreases-loop-k l = l.k

@@ -7,6 +7,3 @@ use Rattle.search.proofs.rewind.walk_back.Given as goal
 
 abbrev pub invariant-loop-k : goal.invariant-loop-k
 invariant-loop-k l = (l.k ≤ l.n) × (walk_back not_fake (path_of l.img l.n) l.k ≡ walk_back not_fake (path_of l.img l.n) l.from)
-
-abbrev pub decreases-loop-k : goal.decreases-loop-k
-decreases-loop-k l = l.k

@@ -1,12 +1,9 @@
-use Prim.Native.Nat.{◌+◌, ◌*◌, ◌-◌, ◌≤◌}
+use Prim.Native.Nat.{◌+◌, ◌*◌}
 use mathlib.Core.Path.{◌≡◌}
-use lib.ListN.{length, take}
+use lib.ListN.{take}
 use Rattle.link_rules.specs.Octets.{le_at}
 use Rattle.disp_structs.specs.Listed.{listed}
 use Rattle.sheet_text.proofs.bundle.read_blocking.Given as goal
 
 abbrev pub invariant-loop-i : goal.invariant-loop-i
-invariant-loop-i l = (l.i ≤ length l.initial.blocking) × (length l.blocking ≡ length l.initial.blocking) × (take l.i l.blocking ≡ listed l.i (λ j. le_at 4 l.bundle (l.offset + 4 * j)))
-
-abbrev pub decreases-loop-i : goal.decreases-loop-i
-decreases-loop-i l = length l.initial.blocking - l.i
+invariant-loop-i l = take l.i l.blocking ≡ listed l.i (λ j. le_at 4 l.bundle (l.offset + 4 * j))

@@ -1,11 +1,11 @@
-use mathlib.Core.Path.{sym, ◌∙◌}
+use Rattle.std.proofs.Common.{rules, tests}
 use Rattle.sheet_text.specs.Sheet.{report_slots}
 use Rattle.sheet_text.proofs.bundle.report_slots.Goals as goal
 
 pub returns-then-yard_fits : goal.returns-then-yard_fits
 unfolding report_slots
-returns-then-yard_fits c = rw (sym c.yard_fits.ensures ∙ c.if-yard_fits.true) c.slot_count.ensures
+returns-then-yard_fits c = search (rules, tests)
 
-pub returns : goal.returns
+pub returns-else-yard_fits : goal.returns-else-yard_fits
 unfolding report_slots
-returns c = rw (sym c.yard_fits.ensures ∙ c.if-yard_fits.false)
+returns-else-yard_fits c = search (rules, tests)

@@ -1,4 +1,5 @@
 use mathlib.Core.Path.{ap, sym, ◌∙◌}
+use native.Mathlib.Omega.{arith}
 use Rattle.sheet_text.proofs.SheetLaws.{word-refused}
 use Rattle.disp_structs.specs.Listed.{listed}
 use Rattle.sheet_text.specs.Sheet.{refused_word, code_word}
@@ -6,30 +7,30 @@ use Rattle.text.specs.Ascii.{ascii}
 use Rattle.text.proofs.TextLaws.{put_is}
 use Rattle.sheet_text.proofs.sheet.put_code_word.Goals as goal
 
-pub returns-then-code-eq0 : goal.returns-then-code-eq0
+pub returns-in-0 : goal.returns-in-0
 unfolding code_word ascii listed
-returns-then-code-eq0 c = put_is (ap code_word c.if-code-eq0.true) c.put_bytes.ensures
+returns-in-0 c = put_is (ap code_word c.in-0.is) c.put_bytes.ensures
 
-pub returns-then-code-eq1 : goal.returns-then-code-eq1
+pub returns-in-1 : goal.returns-in-1
 unfolding code_word ascii listed
-returns-then-code-eq1 c = put_is (ap code_word c.if-code-eq1.true) c.put_bytes-then-code-eq1.ensures
+returns-in-1 c = put_is (ap code_word c.in-1.is) c.put_bytes-in-1.ensures
 
-pub returns-then-code-eq2 : goal.returns-then-code-eq2
+pub returns-in-2 : goal.returns-in-2
 unfolding code_word ascii listed
-returns-then-code-eq2 c = put_is (ap code_word c.if-code-eq2.true) c.put_bytes-then-code-eq2.ensures
+returns-in-2 c = put_is (ap code_word c.in-2.is) c.put_bytes-in-2.ensures
 
-pub returns-then-code-eq3 : goal.returns-then-code-eq3
+pub returns-in-3 : goal.returns-in-3
 unfolding code_word ascii listed
-returns-then-code-eq3 c = put_is (ap code_word c.if-code-eq3.true) c.put_bytes-then-code-eq3.ensures
+returns-in-3 c = put_is (ap code_word c.in-3.is) c.put_bytes-in-3.ensures
 
-pub returns-then-code-eq4 : goal.returns-then-code-eq4
+pub returns-in-4 : goal.returns-in-4
 unfolding code_word ascii listed
-returns-then-code-eq4 c = put_is (ap code_word c.if-code-eq4.true) c.put_bytes-then-code-eq4.ensures
+returns-in-4 c = put_is (ap code_word c.in-4.is) c.put_bytes-in-4.ensures
 
-pub returns-then-code-eq5 : goal.returns-then-code-eq5
+pub returns-in-5 : goal.returns-in-5
 unfolding code_word ascii listed
-returns-then-code-eq5 c = put_is (ap code_word c.if-code-eq5.true) c.put_bytes-then-code-eq5.ensures
+returns-in-5 c = put_is (ap code_word c.in-5.is) c.put_bytes-in-5.ensures
 
-pub returns : goal.returns
-returns c = let x = c.args.code in
-    put_is (word-refused x c.if-code-eq0.false c.if-code-eq1.false c.if-code-eq2.false c.if-code-eq3.false c.if-code-eq4.false c.if-code-eq5.false ∙ ap refused_word (sym c.refusal_of.ensures)) c.put_refused_word.ensures
+pub returns-in_default : goal.returns-in_default
+returns-in_default c =
+    put_is (word-refused c.args.code (λ e. absurd (omega arith)) (λ e. absurd (omega arith)) (λ e. absurd (omega arith)) (λ e. absurd (omega arith)) (λ e. absurd (omega arith)) (λ e. absurd (omega arith)) ∙ ap refused_word (sym c.saturating_sub.ensures)) c.put_refused_word.ensures

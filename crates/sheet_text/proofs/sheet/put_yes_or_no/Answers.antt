@@ -9,6 +9,6 @@ pub returns-then-flag : goal.returns-then-flag
 unfolding ascii listed
 returns-then-flag c = put_is (ap yes_or_no c.if-flag.true) c.put_bytes.ensures
 
-pub returns : goal.returns
+pub returns-else-flag : goal.returns-else-flag
 unfolding ascii listed
-returns c = put_is (ap yes_or_no c.if-flag.false) c.put_bytes-2.ensures
+returns-else-flag c = put_is (ap yes_or_no c.if-flag.false) c.put_bytes-else-flag.ensures

@@ -41,4 +41,4 @@ returns-then-m-r c = let a = c.args in
 pub returns : goal.returns
 unfolding at_split
 returns c = let a = c.args in
-    rw (eq-eqb a.r.new_count 0 c.if-r-ne0.false, eq-eqb a.r.div_count 1 c.if-r-ne1.false, eq-eqb a.r.join a.r.split c.if-r.false, lt-ltb a.r.split a.n (omega arith), eq-eqb a.alt.0 (node_at a.img.now a.r.split).est_idx.0 (c.if-alt-e.false ∙ ap (λ (x : EstIdx). x.0) c.node_est_idx-e.ensures), lt-ltb a.r.div_split a.m (omega arith)) (ap (λ (x : ℕ). eqb a.r.split x) c.u32_of-d.ensures)
+    rw (eq-eqb a.r.new_count 0 c.if-r-ne0.false, eq-eqb a.r.div_count 1 c.if-r-ne1.false, eq-eqb a.r.join a.r.split c.if-r.false, lt-ltb a.r.split a.n (omega arith), eq-eqb a.alt.0 (node_at a.img.now a.r.split).est_idx.0 (c.if-alt-e.false ∙ ap (λ (x : EstIdx). x.0) c.node_est_idx-e.ensures), lt-ltb a.r.div_split a.m (omega arith)) (ap (λ (x : ℕ). eqb a.r.split x) c.u32_of.ensures)

@@ -1,23 +1,14 @@
-use mathlib.Core.Path.{refl, sym, ◌∙◌}
-use native.Mathlib.Omega.{arith}
+use Rattle.std.proofs.Common.{rules, tests, refl, ap, ◌∙◌}
+use Rattle.std.proofs.lemmas.Iterator.{YieldsList-from_range}
+use Rattle.std.proofs.lemmas.Iterator.Search.{find_from_yields_List}
 use lib.Dec.{ltb}
 use lib.ListN.{get_or}
-use borrow.Author.Tests.{lt-ltb, le-ltb}
+use Rattle.free_path.specs.Halts.{answered}
 use Rattle.free_path.specs.Columns.{div_at}
-use Rattle.splice.proofs.ListLaws.{walk_hit, walk_miss, walk_none}
+use Rattle.splice.proofs.ListLaws.{walk_answer}
 use Rattle.splice.proofs.diverge.walk_above.Goals as goal
-
-pub loop-k-init : goal.loop-k-init
-loop-k-init c = λ ts. refl
-
-pub returns-then-x-d : goal.returns-then-x-d
-returns-then-x-d c = let a = c.args in
-    λ ts. sym (walk_hit (λ d. ltb a.x d.disp_node_idx) a.m (div_at ts a.dn.now) c.loop-k.k (omega arith) (lt-ltb a.x (get_or a.dn.now c.loop-k.k 0) (omega (arith, c.u32_of-d.ensures)))) ∙ c.loop-k.invariant ts
-
-pub loop-k-preserved : goal.loop-k-preserved
-loop-k-preserved c = let a = c.args in
-    λ ts. walk_miss (λ d. ltb a.x d.disp_node_idx) a.m (div_at ts a.dn.now) c.loop-k.k (omega arith) (le-ltb a.x (get_or a.dn.now c.loop-k.k 0) (omega (arith, c.u32_of-d.ensures))) ∙ c.loop-k.invariant ts
 
 pub returns : goal.returns
 returns c = let a = c.args in
-    λ ts. sym (walk_none (λ d. ltb a.x d.disp_node_idx) a.m (div_at ts a.dn.now) c.loop-k.k (omega arith)) ∙ c.loop-k.invariant ts
+    λ ts. ap answered c.ok_or.ensures.value
+    ∙ walk_answer (λ d. ltb a.x d.disp_node_idx) a.m (div_at ts a.dn.now) a.i _ (find_from_yields_List (λ k. ltb a.x (get_or a.dn.now k 0)) _ _ _ c.find.ensures.ran (YieldsList-from_range a.i a.m _ refl refl) (λ k b q h. search (rules, tests)))

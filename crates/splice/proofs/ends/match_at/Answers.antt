@@ -5,12 +5,11 @@ use Rattle.image.specs.Image.{node_at}
 use Rattle.disp_structs.specs.Listed.{listed}
 use Rattle.update_definition.specs.Join.{match_new}
 use Rattle.splice.proofs.ListLaws.{read_in, read_out}
-use borrow.Author.Rules.{rules}
 use Rattle.splice.proofs.ends.match_at.Goals as goal
 
 pub returns-then-n-i : goal.returns-then-n-i
 returns-then-n-i c = let a = c.args in
-    (read_out a.n (node_at a.img.now) a.i (λ x. match_new (listed a.k (node_at a.fresh.now)) a.from x.link_event) (omega arith), search rules)
+    (read_out a.n (node_at a.img.now) a.i (λ x. match_new (listed a.k (node_at a.fresh.now)) a.from x.link_event) (omega arith), tt)
 
 pub returns : goal.returns
 returns c = let a = c.args in

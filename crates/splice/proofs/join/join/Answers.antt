@@ -1,22 +1,21 @@
-use mathlib.Core.Path.{sym, ap, ◌∙◌}
-use Prim.Native.Nat.{ℕ, ◌+◌}
+use Rattle.std.proofs.Common.{rules, tests, ◌≡◌, ◌+◌, subst, ◌∙◌}
+use Rattle.std.specs.Prelude.{ℕ, Err, IfOk}
 use Rattle.free_path.specs.Base.{Res}
-use Rattle.free_path.specs.Columns.{answer}
+use Rattle.free_path.specs.Halts.{number_of}
+use Rattle.splice.specs.Read.{Kept}
 use Rattle.splice.specs.Parts.{moves_of}
-use Rattle.splice.proofs.JoinLaws.{told, moves_none, join_walk, join_found}
+use Rattle.splice.proofs.JoinLaws.{join_walk, join_found}
 use Rattle.splice.proofs.join.join.Goals as goal
 
-pub returns-then-found-ne0 : goal.returns-then-found-ne0
-returns-then-found-ne0 c = let a = c.args in
-    let j = c.join_base-found in
-    ((λ R H S st jo. told _ _ _ c.stopped.ensures.0 (join_walk a.img.now a.dt.now a.dn.now a.h a.r a.est R H S st j.result.code j.result.at j.ensures c.if-found-ne0.true _)), (λ z. absurd (c.if-found-ne0.true (sym c.stopped.ensures.0 ∙ z))), c.stopped.ensures.1 ∙ moves_none _ _ _ _ (λ z. c.if-found-ne0.true (sym c.stopped.ensures.0 ∙ z)))
-
-pub splice_at-requires : goal.splice_at-requires
-splice_at-requires c = let j = c.join_base-found in
-    (c.requires, sym j.ensures ∙ ap (λ (x : ℕ). answer x j.result.at) c.if-found-ne0.false)
+pub returns-in_err-base : goal.returns-in_err-base
+returns-in_err-base c = let a = c.args in
+    let s = c.in_err-base in
+    let e : c.from_residual.result ≡ Err s.field-0.0 = search (rules, tests) in
+    rw e ((λ R H S st jo. join_walk a.img.now a.dt.now a.dn.now a.h a.r a.est R H S st (number_of s.field-0.0) s.ensures), tt)
 
 pub returns : goal.returns
 returns c = let a = c.args in
-    let j = c.join_base-found in
-    let t = c.splice_at in
-    ((λ R H S st jo. t.ensures.0 R H S st jo ∙ join_found a.img.now a.dt.now a.dn.now a.h a.r a.est R H S st j.result.code j.result.at j.ensures c.if-found-ne0.false), t.ensures.1, t.ensures.2 ∙ ap (λ (b : Res ℕ). moves_of t.result.code (a.r.split + a.r.new_count) a.h.path_count b) (sym (ap (λ (x : ℕ). answer x j.result.at) c.if-found-ne0.false) ∙ j.ensures))
+    let t = c.splice_at in (
+      (λ R H S st jo. t.ensures.0 R H S st jo ∙ join_found a.img.now a.dt.now a.dn.now a.h a.r a.est R H S st _ c.in_ok-base.ensures),
+      subst (λ (b : Res ℕ). IfOk t.result (λ v. Kept t.new.img a.img.now × (v.moves ≡ moves_of (a.r.split + a.r.new_count) a.h.path_count b))) c.in_ok-base.ensures t.ensures.1,
+    )

@@ -1,26 +1,24 @@
-use mathlib.Core.Path.{refl}
-use native.Mathlib.Omega.{arith}
+use Rattle.std.proofs.Common.{rules, tests, ◌≡◌, arith}
+use Rattle.std.specs.Prelude.{Ok, Err}
 use Rattle.image.specs.Image.{node_at}
 use Rattle.splice.proofs.FlagLaws.{event_eq, range_next, range_stop, range_end}
-use borrow.Author.Rules.{rules}
 use Rattle.splice.proofs.links.exchange_range.Goals as goal
 
-pub loop-i-init : goal.loop-i-init
-loop-i-init c = (refl, (λ code out n b h q bl k on z. k on z))
-
-pub returns-then-c-ne0 : goal.returns-then-c-ne0
-returns-then-c-ne0 c = let l = c.loop-i in
+pub returns-in_err-exchange_event : goal.returns-in_err-exchange_event
+returns-in_err-exchange_event c = let l = c.loop-i in
     let a = c.args in
     let f = node_at a.img.now in
-    λ n b on h q z bl. l.invariant.1 _ _ n b h q bl (λ x y. range_stop b f n l.i a.e x (omega arith) h _ _ _ c.if-c-ne0.true (event_eq b _ _ x _ _ c.node_link_event-event.ensures (bl l.i (omega arith)) (c.exchange_event-c.ensures b x q y))) on z
+    let s = c.in_err-exchange_event in
+    let e : c.from_residual.result ≡ Err s.field-0.0 = search (rules, tests) in
+    rw e (λ n on h z bl. l.invariant (Err s.field-0.0) _ n h bl (λ x y. range_stop a.there f n l.i a.e x (omega arith) h _ _ s.field-0.0 (event_eq a.there _ _ x _ _ c.node_link_event.ensures (bl l.i (omega arith)) (s.ensures x y))) on z)
 
 pub loop-i-preserved : goal.loop-i-preserved
 loop-i-preserved c = let l = c.loop-i in
     let a = c.args in
     let f = node_at a.img.now in
-    (search rules, (λ code out n b h q bl k. l.invariant.1 code out n b h q bl (λ x y. range_next b f n l.i a.e x (omega arith) h _ out code _ c.if-c-ne0.false (event_eq b _ _ x _ _ c.node_link_event-event.ensures (bl l.i (omega arith)) (c.exchange_event-c.ensures b x q y)) k)))
+    λ r out n h bl k. l.invariant r out n h bl (λ x y. range_next a.there f n l.i a.e x (omega arith) h _ out r (event_eq a.there _ _ x _ _ c.node_link_event.ensures (bl l.i (omega arith)) (c.in_ok-exchange_event.ensures x y)) k)
 
 pub returns : goal.returns
 returns c = let l = c.loop-i in
     let a = c.args in
-    λ n b on h q z bl. l.invariant.1 0 l.flags n b h q bl (λ x y. range_end b (node_at a.img.now) n l.i a.e l.flags x (omega arith) y) on z
+    λ n on h z bl. l.invariant (Ok tt) l.flags n h bl (λ x y. range_end a.there (node_at a.img.now) n l.i a.e l.flags x (omega arith) y) on z

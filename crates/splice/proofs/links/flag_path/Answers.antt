@@ -1,26 +1,17 @@
-use mathlib.Core.Path.{◌≡◌, refl, ap, subst, ◌∙◌}
-use Prim.Native.Nat.{ℕ}
-use native.Mathlib.Omega.{arith}
+use mathlib.Core.Path.{ap, ◌∙◌}
 use Rattle.disp_structs.specs.declared.LinkEvent.{LinkEvent}
 use Rattle.image.specs.Image.{node_at}
 use Rattle.free_path.specs.LinkOptType.{links_on_path}
 use Rattle.disp_structs.specs.Listed.{listed}
-use Rattle.splice.specs.Flags.{Holds, flag_event}
+use Rattle.splice.specs.Flags.{flag_event}
 use Rattle.splice.proofs.FlagLaws.{holds_eq, path-turn}
-use borrow.Author.Rules.{rules}
 use Rattle.splice.proofs.links.flag_path.Goals as goal
 
 pub loop-i-init : goal.loop-i-init
 unfolding links_on_path listed
-loop-i-init c = (search rules, refl, (λ h. h))
+loop-i-init c = λ h. h
 
 pub loop-i-preserved : goal.loop-i-preserved
 loop-i-preserved c = let l = c.loop-i in
     let a = c.args in
-    (search rules, search rules, (λ h. holds_eq _ _ _ (c.flag_event.ensures ∙ ap (λ (e : LinkEvent). flag_event e l.flags) c.node_link_event-e.ensures) (path-turn l.flags (node_at a.img.now) l.i (l.invariant.2 h))))
-
-pub returns : goal.returns
-returns c = let l = c.loop-i in
-    let a = c.args in
-    let e : l.i ≡ a.n = omega arith in
-    λ h. subst (λ (m : ℕ). Holds l.flags (links_on_path (listed m (node_at a.img.now)))) e (l.invariant.2 h)
+    λ h. holds_eq _ _ _ (c.flag_event.ensures ∙ ap (λ (e : LinkEvent). flag_event e l.flags) c.node_link_event.ensures) (path-turn l.flags (node_at a.img.now) l.i (l.invariant h))

@@ -1,4 +1,4 @@
-use mathlib.Core.Path.{refl, sym, ap, ◌∙◌}
+use mathlib.Core.Path.{sym, ap, ◌∙◌}
 use mathlib.Core.List.{List}
 use Prim.Native.Nat.{ℕ, ◌+◌}
 use native.Mathlib.Omega.{arith}
@@ -11,12 +11,6 @@ use Rattle.update_definition.specs.Join.{shift_offsets}
 use Rattle.splice.specs.Parts.{from_on, put_offset}
 use Rattle.splice.proofs.NodeLaws.{kept-count, kept_then, kept_eq, offset-kept, offsets-end, offsets-no, offsets-turn}
 use Rattle.splice.proofs.path.shift_offsets.Goals as goal
-
-pub loop-k-init : goal.loop-k-init
-loop-k-init c = (record { size = refl; below = λ j h. refl }, refl)
-
-pub shape_of-img-then-not-in_reach : goal.shape_of-img-then-not-in_reach
-shape_of-img-then-not-in_reach c = c.loop-k.invariant.0.size
 
 pub returns-then-not-in_reach : goal.returns-then-not-in_reach
 returns-then-not-in_reach c = let l = c.loop-k in
@@ -34,9 +28,6 @@ loop-k-preserved c = let l = c.loop-k in
       kept_then _ l.img a.img.now (kept_eq _ _ l.img e (offset-kept l.img _ l.k)) l.invariant.0,
       ap (λ (x : List ℕ). from_on (shift_offsets a.change) (l.k + 1) (listed a.n (node_at x))) e ∙ offsets-turn a.change l.img a.n l.k (omega arith) (omega (arith, c.requires)) near ∙ l.invariant.1,
     )
-
-pub shape_of-img : goal.shape_of-img
-shape_of-img c = c.loop-k.invariant.0.size
 
 pub returns : goal.returns
 returns c = let l = c.loop-k in

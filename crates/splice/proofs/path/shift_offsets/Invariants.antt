@@ -1,5 +1,4 @@
 use mathlib.Core.Path.{◌≡◌}
-use Prim.Native.Nat.{◌-◌}
 use Rattle.image.specs.Image.{node_at}
 use Rattle.disp_structs.specs.Listed.{listed}
 use Rattle.update_definition.specs.Join.{shift_offsets}
@@ -8,7 +7,4 @@ use Rattle.splice.specs.Parts.{from_on}
 use Rattle.splice.proofs.path.shift_offsets.Given as goal
 
 abbrev pub invariant-loop-k : goal.invariant-loop-k
-invariant-loop-k l = Kept l.img l.initial.img × (from_on (shift_offsets (record { 0 = l.c })) l.k (listed l.n (node_at l.img)) ≡ from_on (shift_offsets (record { 0 = l.c })) l.i (listed l.n (node_at l.initial.img)))
-
-abbrev pub decreases-loop-k : goal.decreases-loop-k
-decreases-loop-k l = l.n - l.k
+invariant-loop-k l = Kept l.img l.initial.img × (from_on (shift_offsets l.change) l.k (listed l.n (node_at l.img)) ≡ from_on (shift_offsets l.change) l.i (listed l.n (node_at l.initial.img)))

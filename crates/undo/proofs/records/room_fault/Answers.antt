@@ -1,9 +1,9 @@
-use mathlib.Core.Path.{◌∙◌}
-use Rattle.undo.proofs.TestLaws.{room-over, room_within}
+use Rattle.std.proofs.Common.{◌∙◌, ap, arith}
+use Rattle.link_rules.specs.Refusals.{raised, refused_unless}
+use Rattle.link_rules.proofs.RefusalLaws.{raised_unless}
+use Rattle.undo.specs.Undo.{room_fault}
 use Rattle.undo.proofs.records.room_fault.Goals as goal
 
-pub returns-then-y-gt2147483639 : goal.returns-then-y-gt2147483639
-returns-then-y-gt2147483639 c = let a = c.args in c.refused_unless.ensures ∙ room-over a.y a.room c.if-y-gt2147483639.true
-
 pub returns : goal.returns
-returns c = let a = c.args in c.refused_unless-2.ensures ∙ room_within a.y a.room c.if-y-gt2147483639.false
+unfolding room_fault
+returns c = c.refuse_unless.ensures ∙ raised_unless c.has_room.result 20 (λ z. absurd (omega arith)) ∙ ap (λ b. raised (refused_unless b 20)) c.has_room.ensures

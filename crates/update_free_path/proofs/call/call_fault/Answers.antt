@@ -1,37 +1,33 @@
-use mathlib.Core.Path.{◌≡◌, sym, ◌∙◌}
-use mathlib.Core.Bool.{true, false}
-use native.Mathlib.Omega.{arith}
-use lib.ListN.{length}
-use borrow.Author.Tests.{le-leb, lt-leb}
-use Rattle.update_definition.specs.UpdateImage.{links_below, call_fault}
+use Rattle.std.proofs.Common.{◌≡◌, Bool, rules, tests, sym, ap, ◌∙◌, arith}
+use Rattle.link_rules.specs.Refusals.{Refused, refuse_unless}
+use Rattle.link_rules.proofs.RefusalLaws.{first_unless, next_unless}
+use Rattle.update_definition.specs.UpdateImage.{call_fault}
+use Rattle.update_free_path.proofs.FaultLaws.{order_turned}
 use Rattle.update_free_path.proofs.call.call_fault.Goals as goal
 
-pub returns-then-l-lt2 : goal.returns-then-l-lt2
+pub returns-in_err-refuse_unless : goal.returns-in_err-refuse_unless
 unfolding call_fault
-returns-then-l-lt2 c occ q = let l = c.args.l in
-    rw (q, lt-leb 2 l (omega arith))
+returns-in_err-refuse_unless c occ q =
+    let e : c.from_residual.result ≡ Refused c.in_err-refuse_unless.field-0.0 = search (rules, tests) in
+    rw (q, ← c.length_fits.ensures) (e ∙ first_unless _ 2 _ _ (λ z. absurd (omega arith)) (sym c.refuse_unless.ensures ∙ c.in_err-refuse_unless.was))
 
-pub returns-then-l-gt4000 : goal.returns-then-l-gt4000
+pub returns-in_err-refuse_unless-2 : goal.returns-in_err-refuse_unless-2
 unfolding call_fault
-returns-then-l-gt4000 c occ q = let l = c.args.l in
-    rw (q, le-leb 2 l (omega arith), lt-leb l 4000 (omega arith))
-
-pub returns-then-blocking-gt4000 : goal.returns-then-blocking-gt4000
-unfolding call_fault
-returns-then-blocking-gt4000 c occ q = let a = c.args in
-    let l = a.l in
-    rw (q, le-leb 2 l (omega arith), le-leb l 4000 (omega arith), lt-leb (length a.blocking.now) 4000 (omega arith))
-
-pub returns-then-links_below : goal.returns-then-links_below
-unfolding call_fault
-returns-then-links_below c occ q = let a = c.args in
-    let l = a.l in
-    let b : links_below l a.blocking.now ≡ true = sym c.links_below.ensures ∙ c.if-links_below.true in
-    rw (q, le-leb 2 l (omega arith), le-leb l 4000 (omega arith), le-leb (length a.blocking.now) 4000 (omega arith), b) c.order_fault.ensures
+returns-in_err-refuse_unless-2 c occ q =
+    let e : c.from_residual-in_err-refuse_unless-2.result ≡ Refused c.in_err-refuse_unless-2.field-0.0 = search (rules, tests) in
+    rw (q, ← c.length_fits.ensures, ← c.blocking_fits.ensures) (
+    e
+    ∙ first_unless _ 4 _ _ (λ z. absurd (omega arith)) (sym c.refuse_unless-2.ensures ∙ c.in_err-refuse_unless-2.was)
+    ∙ next_unless _ 2 _ (λ z. absurd (omega arith)) (sym c.refuse_unless.ensures ∙ c.in_ok-refuse_unless.was)
+    )
 
 pub returns : goal.returns
 unfolding call_fault
 returns c occ q = let a = c.args in
-    let l = a.l in
-    let b : links_below l a.blocking.now ≡ false = sym c.links_below.ensures ∙ c.if-links_below.false in
-    rw (q, le-leb 2 l (omega arith), le-leb l 4000 (omega arith), le-leb (length a.blocking.now) 4000 (omega arith), b)
+    rw (q, ← c.length_fits.ensures, ← c.blocking_fits.ensures) (
+    c.refuse_unless-3.ensures
+    ∙ ap (λ (t : Bool). refuse_unless t 5) c.order_fits.ensures
+    ∙ order_turned a.moved.0 a.limit
+    ∙ next_unless _ 4 _ (λ z. absurd (omega arith)) (sym c.refuse_unless-2.ensures ∙ c.in_ok-refuse_unless-2.was)
+    ∙ next_unless _ 2 _ (λ z. absurd (omega arith)) (sym c.refuse_unless.ensures ∙ c.in_ok-refuse_unless.was)
+    )

@@ -6,5 +6,5 @@ use Rattle.yard_check.proofs.check.answered.Goals as goal
 pub returns-then-y-ne0 : goal.returns-then-y-ne0
 returns-then-y-ne0 c = let y = c.args.y in erred-answer y.erred (not (eqb y.blocked 0)) y.next c.if-y-ne0.true
 
-pub returns : goal.returns
-returns c = rw c.if-y-ne0.false
+pub returns-else-y-ne0 : goal.returns-else-y-ne0
+returns-else-y-ne0 c = rw c.if-y-ne0.false

@@ -1,25 +1,31 @@
-use mathlib.Core.Path.{◌≡◌, sym, ◌∙◌}
-use mathlib.Core.Bool.{true, false}
-use borrow.Author.Tests.{eq-eqb, ne_eqb}
+use Rattle.std.proofs.Common.{◌≡◌, ◌∙◌, sym, arith, rules, tests}
+use Rattle.link_rules.specs.Refusals.{Refused}
+use Rattle.link_rules.proofs.RefusalLaws.{raised_first, raised_next, first_unless, next_unless}
 use Rattle.image_fault.specs.declared.Widths.TheVariants.{Narrow}
-use Rattle.yard_check.specs.Yard.{yard_fits}
 use Rattle.yard_check.specs.Check.{slots_fault, check_fault}
 use Rattle.yard_check.proofs.check.check_fault.Goals as goal
 
-pub returns-then-f-ne0 : goal.returns-then-f-ne0
+pub returns-in_err-call_fault : goal.returns-in_err-call_fault
 unfolding check_fault
-returns-then-f-ne0 c occ q = let f = c.call_fault-f in rw (← f.ensures occ q, ne_eqb f.result.number 0 c.if-f-ne0.true)
+returns-in_err-call_fault c occ q =
+    let e : c.from_residual.result ≡ Refused c.in_err-call_fault.field-0.0 = search (rules, tests) in
+    e ∙ raised_first _ _ _ (sym (c.call_fault.ensures occ q) ∙ c.in_err-call_fault.was)
 
-pub returns-then-yard_fits : goal.returns-then-yard_fits
-unfolding check_fault slots_fault
-returns-then-yard_fits c occ q = let f = c.call_fault-f in
-    let y = c.args.yard.now in
-    let ok : yard_fits y ≡ true = sym c.yard_fits.ensures ∙ c.if-yard_fits.true in
-    rw (← f.ensures occ q, eq-eqb f.result.number 0 c.if-f-ne0.false, ok, ← c.slot_count.ensures) (c.slots_or_report_fault.ensures Narrow)
+pub returns-in_err-refuse_unless : goal.returns-in_err-refuse_unless
+unfolding check_fault
+returns-in_err-refuse_unless c occ q =
+    let e : c.from_residual-in_err-refuse_unless.result ≡ Refused c.in_err-refuse_unless.field-0.0 = search (rules, tests) in
+    rw (← c.yard_fits.ensures) (
+    e
+    ∙ first_unless c.yard_fits.result 14 _ _ (λ z. absurd (omega arith)) (sym c.refuse_unless.ensures ∙ c.in_err-refuse_unless.was)
+    ∙ raised_next _ _ (sym (c.call_fault.ensures occ q) ∙ c.in_ok-call_fault.was)
+    )
 
 pub returns : goal.returns
-unfolding check_fault
-returns c occ q = let f = c.call_fault-f in
-    let y = c.args.yard.now in
-    let bad : yard_fits y ≡ false = sym c.yard_fits.ensures ∙ c.if-yard_fits.false in
-    rw (← f.ensures occ q, eq-eqb f.result.number 0 c.if-f-ne0.false, bad) c.fault.ensures
+unfolding check_fault slots_fault
+returns c occ q =
+    rw (← c.yard_fits.ensures, ← c.slot_count.ensures) (
+    (c.slots_or_report_fault.ensures Narrow)
+    ∙ next_unless c.yard_fits.result 14 _ (λ z. absurd (omega arith)) (sym c.refuse_unless.ensures ∙ c.in_ok-refuse_unless.was)
+    ∙ raised_next _ _ (sym (c.call_fault.ensures occ q) ∙ c.in_ok-call_fault.was)
+    )

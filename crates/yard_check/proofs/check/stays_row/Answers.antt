@@ -1,37 +1,28 @@
-use mathlib.Core.Path.{◌≡◌, sym, ap, ◌∙◌}
-use mathlib.Core.List.{List}
-use Prim.Native.Nat.{ℕ}
-use native.Mathlib.Omega.{arith}
+use Rattle.std.proofs.Common.{◌≡◌, ◌∙◌, ℕ, refl, sym, ap, arith}
 use Rattle.link_rules.specs.declared.refusal.Refusal.{Refusal}
-use Rattle.link_rules.specs.Refusals.{no_refusal}
+use Rattle.link_rules.specs.Refusals.{no_refusal, raised, Done}
+use Rattle.link_rules.proofs.RefusalLaws.{raised_none, none_raised, some_raised}
 use Rattle.image_fault.specs.ImageFault.{fault_with}
-use Rattle.image_fault.specs.declared.Widths.{Widths}
-use Rattle.yard_check.specs.Checks.{stays_row}
 use Rattle.image_fault.proofs.NumberLaws.{fault-number}
+use Rattle.yard_check.specs.Checks.{stays_row}
 use Rattle.yard_check.proofs.RowLaws.{stays_refused}
 use Rattle.yard_check.proofs.check.stays_row.Goals as goal
 
--- the call's own refusal is none
-
-own-none : (w : Widths) (img : List ℕ) (links : ℕ) (f own : Refusal) → own ≡ no_refusal → f ≡ fault_with w own img links → f ≡ fault_with w no_refusal img links
-own-none w img links f own e h = h ∙ ap (λ (x : Refusal). fault_with w x img links) e
+own-none : Done ≡ raised no_refusal
+own-none = sym (raised_none no_refusal refl)
 
 pub refused_row-requires : goal.refused_row-requires
 refused_row-requires c = let a = c.args in
-    let f = c.fault_with-f in
-    let e = own-none a.w a.img.now a.links f.result c.fault.result c.fault.ensures f.ensures in
-    omega (arith, fault-number a.w no_refusal (omega arith) a.img.now a.links, ap (λ (x : Refusal). x.number) e)
+    let some = some_raised (fault_with a.w no_refusal a.img.now a.links) c.in-Err.f (sym (c.fault_with.ensures no_refusal own-none) ∙ c.in-Err.is) in
+    omega (arith, fault-number a.w no_refusal (omega arith) a.img.now a.links, ap (λ (x : Refusal). x.number) some.0)
 
-pub returns-then-f-ne0 : goal.returns-then-f-ne0
-returns-then-f-ne0 c = let a = c.args in
-    let f = c.fault_with-f in
-    let code = a.code in
-    let e = own-none a.w a.img.now a.links f.result c.fault.result c.fault.ensures f.ensures in
-    c.refused_row.ensures ∙ (stays_refused f.result.number f.result code c.if-f-ne0.true ∙ ap (λ (x : Refusal). stays_row x.number x code) e)
+pub returns-in-Ok : goal.returns-in-Ok
+returns-in-Ok c = let a = c.args in
+    let f = fault_with a.w no_refusal a.img.now a.links in
+    c.plain_row.ensures ∙ ap (λ (n : ℕ). stays_row n f a.code) (sym (none_raised f (sym (c.fault_with.ensures no_refusal own-none) ∙ c.in-Ok.is)))
 
-pub returns : goal.returns
-returns c = let a = c.args in
-    let f = c.fault_with-f in
-    let code = a.code in
-    let e = own-none a.w a.img.now a.links f.result c.fault.result c.fault.ensures f.ensures in
-    c.plain_row.ensures ∙ (ap (λ (n : ℕ). stays_row n f.result code) (sym c.if-f-ne0.false) ∙ ap (λ (x : Refusal). stays_row x.number x code) e)
+pub returns-in-Err : goal.returns-in-Err
+returns-in-Err c = let a = c.args in
+    let f = fault_with a.w no_refusal a.img.now a.links in
+    let some = some_raised f c.in-Err.f (sym (c.fault_with.ensures no_refusal own-none) ∙ c.in-Err.is) in
+    rw some.0 (c.refused_row.ensures ∙ stays_refused c.in-Err.f.number c.in-Err.f a.code (λ z. some.1 (ap (λ (x : Refusal). x.number) some.0 ∙ z)))

@@ -1,22 +1,7 @@
-use mathlib.Core.Path.{refl, ◌≡◌, sym, ◌∙◌}
-use mathlib.Core.Bool.{true}
-use Prim.Native.Nat.{◌+◌}
-use native.Mathlib.Omega.{arith}
-use borrow.Author.Rules.{rules}
-use Rattle.link_rules.specs.Network.{all_below}
-use Rattle.link_rules.proofs.TableLaws.{all_more, all_fails}
+use Rattle.std.proofs.Common.{◌+◌, rules, tests}
 use Rattle.yard_check.specs.Pair.{part_lies}
+use Rattle.link_rules.proofs.RangeLaws.{all_ran}
 use Rattle.yard_check.proofs.pair.parts_lie.Goals as goal
 
-pub loop-i-init : goal.loop-i-init
-unfolding all_below
-loop-i-init c = (search rules, refl)
-
-pub loop-i-preserved : goal.loop-i-preserved
-loop-i-preserved c = let a = c.args in (search rules, all_more (λ j. part_lies a.yard.now (j + 1)) c.loop-i.i c.loop-i.invariant.1 (sym c.part_lies.ensures ∙ c.if-part_lies.true))
-
-pub returns-else-part_lies : goal.returns-else-part_lies
-returns-else-part_lies c = let a = c.args in sym (all_fails (λ j. part_lies a.yard.now (j + 1)) a.slots c.loop-i.i (omega (arith, c.loop-i-test.true)) (sym c.part_lies.ensures ∙ c.if-part_lies.false))
-
 pub returns : goal.returns
-returns c = let a = c.args in let e : c.loop-i.i ≡ a.slots = omega (arith, c.loop-i.invariant.0, c.loop-i-test.false) in rw (← e) (sym c.loop-i.invariant.1)
+returns c = all_ran (λ i. part_lies c.args.yard.now (i + 1)) c.args.slots c.all.ensures.ran (λ x b q k. search (rules, tests))

@@ -1,17 +1,11 @@
-use Prim.Native.Nat.{◌≤◌, ◌<◌}
-use native.Mathlib.Omega.{arith}
-use borrow.Author.Tests.{lt-ltb, le-ltb}
-use Rattle.yard_check.specs.Yard.{slot_count, part_end}
+use Rattle.std.proofs.Common.{rules, tests}
+use Rattle.yard_check.specs.Yard.{part_end}
 use Rattle.yard_check.proofs.yard.part_end.Goals as goal
 
 pub returns-then-t-slot_count : goal.returns-then-t-slot_count
 unfolding part_end
-returns-then-t-slot_count c = let a = c.args in
-    let h : a.t < slot_count a.yard.now = omega arith in
-    rw (lt-ltb a.t (slot_count a.yard.now) h) c.part_begin.ensures
+returns-then-t-slot_count c = search (rules, tests)
 
-pub returns : goal.returns
+pub returns-else-t-slot_count : goal.returns-else-t-slot_count
 unfolding part_end
-returns c = let a = c.args in
-    let h : slot_count a.yard.now ≤ a.t = omega arith in
-    rw (le-ltb a.t (slot_count a.yard.now) h)
+returns-else-t-slot_count c = search (rules, tests)

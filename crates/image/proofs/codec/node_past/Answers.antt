@@ -1,6 +1,0 @@
-use Rattle.image.specs.Image.{node_from}
-use Rattle.image.proofs.codec.node_past.Goals as goal
-
-pub returns : goal.returns
-unfolding node_from
-returns c = cc

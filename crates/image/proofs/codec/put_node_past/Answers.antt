@@ -1,6 +1,0 @@
-use Rattle.image.specs.Image.{put_node}
-use Rattle.image.proofs.codec.put_node_past.Goals as goal
-
-pub returns : goal.returns
-unfolding put_node
-returns c = cc

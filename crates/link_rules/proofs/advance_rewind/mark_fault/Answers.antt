@@ -1,0 +1,27 @@
+use Rattle.std.proofs.Common.{◌≡◌, rules, tests, sym, ◌∙◌, arith}
+use Rattle.link_rules.specs.Refusals.{Refused}
+use Rattle.link_rules.proofs.RefusalLaws.{raised_unless, first_unless, next_unless}
+use Rattle.link_rules.proofs.advance_rewind.mark_fault.Goals as goal
+
+pub returns-in_err-refuse_unless : goal.returns-in_err-refuse_unless
+returns-in_err-refuse_unless c =
+    let e : c.from_residual.result ≡ Refused c.in_err-refuse_unless.field-0.0 = search (rules, tests) in
+    e ∙ first_unless c.args.fits 1 _ _ (λ z. absurd (omega arith)) (sym c.refuse_unless.ensures ∙ c.in_err-refuse_unless.was)
+
+pub returns-in_err-refuse_unless-2 : goal.returns-in_err-refuse_unless-2
+returns-in_err-refuse_unless-2 c =
+    let e : c.from_residual-in_err-refuse_unless-2.result ≡ Refused c.in_err-refuse_unless-2.field-0.0 = search (rules, tests) in
+    rw (← c.link_count.ensures) (
+    e
+    ∙ first_unless _ 2 _ _ (λ z. absurd (omega arith)) (sym c.refuse_unless-2.ensures ∙ c.in_err-refuse_unless-2.was)
+    ∙ next_unless c.args.fits 1 _ (λ z. absurd (omega arith)) (sym c.refuse_unless.ensures ∙ c.in_ok-refuse_unless.was)
+    )
+
+pub returns : goal.returns
+returns c =
+    rw (← c.link_count.ensures, ← c.is_link.ensures) (
+    c.refuse_unless-3.ensures
+    ∙ raised_unless c.is_link.result 3 (λ z. absurd (omega arith))
+    ∙ next_unless _ 2 _ (λ z. absurd (omega arith)) (sym c.refuse_unless-2.ensures ∙ c.in_ok-refuse_unless-2.was)
+    ∙ next_unless c.args.fits 1 _ (λ z. absurd (omega arith)) (sym c.refuse_unless.ensures ∙ c.in_ok-refuse_unless.was)
+    )

@@ -1,6 +1,0 @@
-use Rattle.std.proofs.Common.{sym}
-use lib.ListN.{get_or-eq_default}
-use Rattle.link_rules.proofs.advance_rewind.train_at.Goals as goal
-
-pub returns : goal.returns
-returns c = let a = c.args in sym (get_or-eq_default a.occupancy.now 0 c.if-at-occupancy.false)

@@ -1,7 +1,0 @@
-use Rattle.std.proofs.Common.{ℕ, ◌+◌, ◌*◌, ap, ◌∙◌}
-use Rattle.link_rules.specs.Octets.{le_at}
-use Rattle.link_rules.proofs.network.lockout_at.Goals as goal
-
-pub returns : goal.returns
-returns c = let a = c.args in
-    c.u32_at.ensures ∙ ap (λ (n : ℕ). le_at 4 a.table.now (16 + 12 * n + 4 * a.j)) c.link_count.ensures

@@ -1,7 +1,0 @@
-use Rattle.link_rules.proofs.refusal.refused_unless.Goals as goal
-
-pub returns-then-fits : goal.returns-then-fits
-returns-then-fits c = rw c.if-fits.true
-
-pub returns : goal.returns
-returns c = rw c.if-fits.false

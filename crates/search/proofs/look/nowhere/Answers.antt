@@ -1,4 +1,0 @@
-use Rattle.search.proofs.look.nowhere.Goals as goal
-
-pub returns : goal.returns
-returns c = cc

@@ -1,8 +1,0 @@
-use borrow.Author.Tests.{le-leb, lt-leb}
-use Rattle.tally.proofs.sum_of.Goals as goal
-
-pub returns-then-b-a : goal.returns-then-b-a
-returns-then-b-a c = simp (le-leb _ _ c.if-b-a.true)
-
-pub returns : goal.returns
-returns c = simp (lt-leb _ _ c.if-b-a.false)

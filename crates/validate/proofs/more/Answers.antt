@@ -1,8 +1,0 @@
-use native.Mathlib.Omega.{arith}
-use Rattle.validate.proofs.more.Goals as goal
-
-pub returns-then-one : goal.returns-then-one
-returns-then-one c = rw c.if-one.true
-
-pub returns : goal.returns
-returns c = rw c.if-one.false (omega arith)
