@@ -1,6 +1,7 @@
 // A leaf of update_free_path, called alone: the class of a blocking list, the sentinels, the intersection search, the union of two views,
 // near, and the error of a step. Its answer is three numbers.
 ghost use Rattle.std.specs.Prelude.{◌≡◌, length};
+ghost use Rattle.free_path.specs.Halts.{number_of};
 
 use crate::{case, print};
 use disp_structs::{DispNode, EstIdx, EstType, LinkEvent, Metres, Seconds, TrainIdxsView, floats};
@@ -63,7 +64,9 @@ fn print_line(rt: &impl Print, x: u32, y: usize, z: usize) -> io::Result<()> {
 }
 
 // The number of a refusal within an update.
-fn number_of(h: Halt) -> u32 {
+fn number_of(h: Halt) -> u32
+    ensures { result ≡ number_of h }
+{
     match h {
         Halt::NoRoom => 11,
         Halt::Panic => 13,

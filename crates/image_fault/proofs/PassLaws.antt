@@ -1,12 +1,12 @@
 -- Where the one pass finds that all fits, no refusal applies. Assumes nothing.
-use mathlib.Core.Path.{◌≡◌, refl, subst}
+use mathlib.Core.Path.{◌≡◌, refl, sym, ap, subst, ◌∙◌}
 use mathlib.Core.Bool.{Bool, true, false, not, cond, ◌&&◌}
 use mathlib.Core.List.{List}
 use Prim.Native.Nat.{ℕ, zero, suc, ◌+◌, ◌≤◌, ◌<◌}
 use native.Mathlib.Omega.{arith}
 use lib.Dec.{leb, ltb, eqb}
 use lib.ListN.{length}
-use borrow.Author.Tests.{eqb-true, leb-true, le-leb}
+use borrow.Author.Tests.{eqb-true, eqb-false, leb-true, le-leb}
 use Rattle.link_rules.specs.Octets.{le_at}
 use Rattle.link_rules.specs.Network.{all_below}
 use Rattle.link_rules.proofs.TableLaws.{all-at, both}
@@ -16,9 +16,10 @@ use Rattle.est_times.specs.Cycles.{first_on_cycle}
 use Rattle.std.proofs.Common.{Option, Some, None}
 use Rattle.image.specs.Fields.{diverge_words}
 use Rattle.image.specs.Image.{est_count, path_count_of, diverge_count_of, is_wide, est_place, node_place, type_of, est_from, node_from, node_at}
-use Rattle.image_fault.specs.ImageFault.{first_unfit, counts_fit, parts_fit, train_fits, est_type_fits, node_type_fits, diverge_spare_fits, unused_zero, records_fit, image_fits, float_fits, time_fits, event_fits, est_links_fit, est_fits, node_fits, header_fits, diverge_train_fits, trains_fault, value_fault, nexts, alts, cycle_refused, cycle_fault, on_route, diverge_fits, route_fault, fault_with}
+use Rattle.image_fault.specs.ImageFault.{first_unfit, counts_fit, parts_fit, train_fits, est_type_fits, node_type_fits, diverge_spare_fits, unused_zero, records_fit, image_fits, float_fits, time_fits, event_fits, est_links_fit, est_fits, node_fits, header_fits, diverge_train_fits, trains_fault, value_fault, nexts, alts, cycle_refused, cycle_fault, on_route, diverge_fits, route_fault, fault_with, own_answer}
 use Rattle.image_fault.specs.declared.Widths.{Widths}
-use Rattle.link_rules.specs.Refusals.{no_refusal, or_else, raised}
+use Rattle.link_rules.specs.Refusals.{no_refusal, or_else, raised, Answer}
+use Rattle.link_rules.proofs.RefusalLaws.{raised_none, raised_some}
 use Rattle.link_rules.specs.declared.refusal.Refusal.{Refusal}
 use Rattle.image_fault.specs.AllFit.{event_passes, acyclic, est_passes, node_passes, path_passes, head_passes, wide_passes, diverges_pass, records_pass, all_fit}
 use Rattle.image_fault.proofs.ScanLaws.{step_fit}
@@ -146,6 +147,14 @@ raised_last f = go (eqb f.number 0) refl
     go : (t : Bool) → eqb f.number 0 ≡ t → raised (cond t no_refusal f) ≡ raised f
     go true e = rw e
     go false e = refl
+
+-- a call's own refusal, handed on as its answer
+pub own_raised : {own : Answer} → (f : Refusal) → own ≡ raised f → own_answer own ≡ raised f
+own_raised f h = ap own_answer h ∙ go (eqb f.number 0) refl
+  where
+    go : (t : Bool) → eqb f.number 0 ≡ t → own_answer (raised f) ≡ raised f
+    go true e = let z = raised_none f (eqb-true f.number 0 e) in ap own_answer z ∙ sym z
+    go false e = ap own_answer (raised_some f (eqb-false f.number 0 e))
 
 -- ---- all of them
 

@@ -1,6 +1,6 @@
 -- Refusals 6 to 9 of an image with their places (document 01, Update), and 22 of its diverge records (document 02, Q-6). L is the number of links.
 -- Assumes nothing.
-use Rattle.std.specs.Prelude.{ℕ, zero, suc, ◌+◌, ◌*◌, ◌-◌, ◌%◌, Bool, true, false, cond, not, ◌&&◌, ◌||◌, List, ltb, leb, eqb, length, Option, Some, None}
+use Rattle.std.specs.Prelude.{ℕ, zero, suc, ◌+◌, ◌*◌, ◌-◌, ◌%◌, Bool, true, false, cond, not, ◌&&◌, ◌||◌, List, ltb, leb, eqb, length, Option, Some, None, Ok, Err}
 use Rattle.std.specs.Float.Ieee.{lt}
 use Rattle.link_rules.specs.Octets.{le_at}
 use Rattle.link_rules.specs.LinkIdx.{no_link, same_link}
@@ -20,7 +20,7 @@ use Rattle.image.specs.declared.codec.PathHeader.{PathHeader}
 use Rattle.link_rules.specs.declared.refusal.Refusal.{Refusal}
 use Rattle.image_fault.specs.declared.Widths.{Widths}
 use Rattle.image_fault.specs.declared.Widths.TheVariants.{Narrow, Either}
-use Rattle.link_rules.specs.Refusals.{no_refusal, refused, or_else, refused_unless}
+use Rattle.link_rules.specs.Refusals.{no_refusal, refused, or_else, refused_unless, Answer, Done, raised}
 
 -- refusal n at the first of the k indices from i on that does not fit
 unfoldable pub first_unfit : (n : ℕ) (fits : ℕ → Bool) (k i : ℕ) → Refusal
@@ -213,6 +213,11 @@ fault_with w f bs l =
     (or_else (value_fault bs l)
     (or_else (cycle_fault bs)
     (route_fault bs)))))
+
+-- a call's own answer between 6 and 7: an Err with number 0 is none
+abbrev pub own_answer : Answer → Answer
+own_answer (Ok _) = Done
+own_answer (Err f) = raised f
 
 -- in a call that takes narrow images alone, and has no refusal of its own there
 abbrev pub image_fault : (bs : List ℕ) (l : ℕ) → Refusal

@@ -8,7 +8,7 @@ ghost use Rattle.std.specs.Prelude.{Bool, false, ◌≡◌, ◌&&◌, leb, lengt
 ghost use Rattle.link_rules.specs.Network.{all_below};
 ghost use Rattle.link_rules.specs.Refusals.{raised};
 ghost use Rattle.image.specs.Image.{est_count, path_count_of, diverge_count_of, is_wide, est_at, node_at, diverge_at};
-ghost use Rattle.image_fault.specs.ImageFault.{fault_with, image_fault, image_fits, trains_fault, diverge_train_fits, value_fault, cycle_fault, route_fault, first_unfit, counts_fit, parts_fit, width_number, train_fits, est_type_fits, node_type_fits, diverge_spare_fits, zero_word, unused_zero, records_fit, float_fits, time_fits, dist_fits, event_fits, est_links_fit, est_fits, node_fits, indices_fit, header_fits, steps_to, comes_from, ends_at, on_route, inner_fits, diverge_fits, is_accepted};
+ghost use Rattle.image_fault.specs.ImageFault.{fault_with, own_answer, image_fault, image_fits, trains_fault, diverge_train_fits, value_fault, cycle_fault, route_fault, first_unfit, counts_fit, parts_fit, width_number, train_fits, est_type_fits, node_type_fits, diverge_spare_fits, zero_word, unused_zero, records_fit, float_fits, time_fits, dist_fits, event_fits, est_links_fit, est_fits, node_fits, indices_fit, header_fits, steps_to, comes_from, ends_at, on_route, inner_fits, diverge_fits, is_accepted};
 ghost use Rattle.image_fault.specs.CodeFacts.{CountsFit, zero_byte, is_later, leads_on};
 
 use disp_structs::{DivergeNode, EstIdx, EstTime, EstType, LinkEvent, floats};
@@ -445,6 +445,8 @@ fn inner_fits(n: u32, d: DivergeNode, b: DivergeNode) -> bool
 }
 
 // In the next three, wide is the width of the image, which is asked once for all records: a parameter, since an image is lent as its bytes.
+// Inlined, since a call for each record makes an image of many diverge nodes slower (measured).
+#[inline(always)]
 fn diverge_of(img: &[u8], wide: bool, i: u32) -> DivergeNode
     requires { wide ≡ is_wide img.now }
     ensures { result ≡ diverge_at img.now i }
@@ -489,6 +491,21 @@ fn first_fault(img: &[u8], links: u32, w: Widths, own: Result<(), Refusal>) -> R
     route_fault(img, links)
 }
 
+// An Err with number 0 is none.
+fn own_answer(own: Result<(), Refusal>) -> Result<(), Refusal>
+    ensures { result ≡ own_answer own }
+{
+    match own {
+        Ok(()) => Ok(()),
+        Err(f) => {
+            if f.number == 0 {
+                return Ok(());
+            }
+            Err(f)
+        }
+    }
+}
+
 // The first refusal of an image of the widths w over `links` links, in the order of documents 01 and 02; own is the call's between 6 and 7, or none.
 // Most images have none, and one pass tells.
 pub fn fault_with(
@@ -497,12 +514,13 @@ pub fn fault_with(
     w: Widths,
     own: Result<(), Refusal>,
 ) -> Result<(), Refusal>
-    ensures { (f : Refusal) → own ≡ raised f → result ≡ raised (fault_with w f img.now links) }
+    ensures { (f : Refusal) → own_answer own ≡ raised f → result ≡ raised (fault_with w f img.now links) }
 {
+    let call = own_answer(own);
     if pass::all_fit(img, links, w) {
-        return own;
+        return call;
     }
-    first_fault(img, links, w, own)
+    first_fault(img, links, w, call)
 }
 
 // The first refusal of a narrow image over `links` links, in document 01's order; a wide one is refused by 6.

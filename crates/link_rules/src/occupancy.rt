@@ -24,6 +24,7 @@ impl Entry for u16 {
     }
 }
 
+// The test is turned round, so that an edit can name its line.
 impl Entry for u32 {
     ghost number = { λ t. t };
 
@@ -32,7 +33,7 @@ impl Entry for u32 {
     }
 
     fn is_none(self) -> bool {
-        self == 0
+        0 == self
     }
 }
 

@@ -28,19 +28,32 @@ pub fn u64_at(s: &[u8], at: usize) -> u64
     u64::from_le_bytes(octets_at(s, at))
 }
 
-// The W octets from at. Where all lie within the slice their count is a constant, so that they are read at once.
+// The W octets from at, 0 past the end. Where all lie within the slice their count is a constant, so that they are read at once.
 fn octets_at<const W: usize>(s: &[u8], at: usize) -> [u8; W]
     ensures { (i : ℕ) → i < W → slice_index result i ≡ slice_index s.now (at + i) }
 {
-    let mut octets = [0; W];
-    if at < s.len() {
-        let rest = &s[at..];
-        if W <= rest.len() {
-            octets.copy_from_slice(&rest[..W]);
-        } else {
-            octets[..rest.len()].copy_from_slice(rest);
-        }
+    if s.len() <= at {
+        return [0; W];
     }
+    let rest = &s[at..];
+    if rest.len() < W {
+        return octets_of(rest);
+    }
+    let mut octets = [0; W];
+    octets.copy_from_slice(&rest[..W]);
+    octets
+}
+
+// Fewer than W octets, and 0 behind them. A call apart: within octets_at a copy of a length that is known only when it runs makes the readers slower
+// (measured).
+#[cold]
+#[inline(never)]
+fn octets_of<const W: usize>(rest: &[u8]) -> [u8; W]
+    requires { length rest.now < W }
+    ensures { (i : ℕ) → i < W → slice_index result i ≡ slice_index rest.now i }
+{
+    let mut octets = [0; W];
+    octets[..rest.len()].copy_from_slice(rest);
     octets
 }
 

@@ -140,7 +140,7 @@ fn stored_from(
                 met,
             });
         }
-        met = met || columns::u32_of(dt, k) == moved.0;
+        met |= columns::u32_of(dt, k) == moved.0;
     }
     Err(Halt::Panic)
 }

@@ -52,11 +52,13 @@ fn move_nodes(s: &mut [u8], p: usize, i: usize, j: usize, k: usize) -> usize
     if i == j {
         return 0;
     }
+    let mut moves = 0;
     for moved in 0..k {
         let x = next_moved(i, j, k, moved);
         move_node(s, p + 32 * (i + x), p + 32 * (j + x));
+        moves += 1;
     }
-    k
+    moves
 }
 
 // The tail first, since the new nodes may come to stand where it stood; the answer counts the nodes that moved.

@@ -18,6 +18,17 @@ unfolding links_below
 below_all l [] = refl
 below_all l (b ∷ bs) = ap (λ (t : Bool). ltb b l && t) (below_all l bs)
 
+-- one more link asked
+pub below_more : (l : ℕ) (bs : List ℕ) (i : ℕ) (t : Bool) → i < length bs → ((t && ltb (get_or bs i 0) l) && links_below l (drop (i + 1) bs)) ≡ (t && links_below l (drop i bs))
+unfolding links_below
+below_more l bs i true h = rw (add-one, drop-cons bs i 0 h)
+below_more l bs i false h = refl
+
+pub below_asked : (l : ℕ) (bs : List ℕ) (i : ℕ) (t : Bool) → length bs ≤ i → t ≡ (t && links_below l (drop i bs))
+unfolding links_below
+below_asked l bs i true h = rw (drop_of_length-le)
+below_asked l bs i false h = refl
+
 pub order_turned : (moved limit : ℕ) → refuse_unless (not (eqb moved 0 || eqb limit 0)) 5 ≡ raised (order_fault moved limit)
 order_turned moved limit = go (eqb moved 0 || eqb limit 0)
   where

@@ -25,13 +25,21 @@ fn length_fits(l: usize) -> bool
     2 <= l && l <= 4000
 }
 
+// All are asked, so that the compiler can take several at once.
 fn links_below(blocking: &[u32], l: usize) -> bool
+    requires { l < 2 ^ 32 }
     ensures { result ≡ links_below l blocking.now }
 {
-    blocking.iter().all(|x| (*x as usize) < l)
+    let links = l as u32;
+    let mut below = true;
+    for x in blocking {
+        below &= *x < links;
+    }
+    below
 }
 
 fn blocking_fits(blocking: &[u32], l: usize) -> bool
+    requires { l < 2 ^ 32 }
     ensures { result ≡ (leb (length blocking.now) 4000 && links_below l blocking.now) }
 {
     blocking.len() <= 4000 && links_below(blocking, l)

@@ -33,7 +33,7 @@ returns-in_err-refuse_unless c = let a = c.args in
     let f = c.in_err-refuse_unless.field-0.0 in
     let e : c.from_residual-in_err-refuse_unless.result ≡ Refused f = search (rules, tests) in
     let z = none_raised (fault_with Either no_refusal img most_links) (sym (c.fault_with.ensures no_refusal none-is) ∙ c.in_ok-fault_with.was) in
-    let s = room_false (40 * n.result) (length page) f (sym c.refuse_unless.ensures ∙ c.in_err-refuse_unless.was) in
+    let s = room_false _ (length page) f (sym c.refuse_unless.ensures ∙ c.in_err-refuse_unless.was) in
     let l : length page < 40 * path_count_of img = omega (arith, s.0, n.ensures) in
     let k = too_short drawing_rule img page z l in
     (e ∙ ap (λ (x : Refusal). Refused x) (sym s.1) ∙ sym (raised_some (refused 18 0) (λ q. absurd (omega arith))) ∙ ap raised (sym k), stays drawing_rule img page (refused 18 0) k (λ q. (omega arith)))

@@ -1,4 +1,4 @@
-use mathlib.Core.Path.{◌≡◌, refl, sym, ap}
+use mathlib.Core.Path.{◌≡◌, refl, sym, ap, ◌∙◌}
 use mathlib.Core.Bool.{Bool, cond}
 use Prim.Native.Nat.{◌+◌, ◌*◌}
 use native.Mathlib.Omega.{arith}
@@ -21,13 +21,13 @@ loop-moved-preserved c = let a = c.args in
     let g = c.loop-moved-test.true in
     let n = c.next_moved-x in
     let v = c.move_node in
-    let r = moved-next a.p a.i a.j a.k l.moved n.result q g l.s a.s.now v.new.s (ltb a.i a.j) refl n.ensures.0 l.invariant.0 (omega arith) (omega arith) l.invariant.1 v.ensures in
-    (r.size, r)
+    let r = moved-next a.p a.i a.j a.k l.moved n.result q g l.s a.s.now v.new.s (ltb a.i a.j) refl n.ensures.0 l.invariant.1 (omega arith) (omega arith) l.invariant.2 v.ensures in
+    (omega (arith, l.invariant.0), r.size, r)
 
 pub returns : goal.returns
 returns c = let a = c.args in
     let l = c.loop-moved in
     let e : l.moved ≡ a.k = omega arith in (
-      moved-last l.s a.s.now (a.p + 32 * a.i) (a.p + 32 * a.j) a.k l.moved (ltb a.i a.j) e (omega arith) (omega arith) l.invariant.1,
-      ap (λ (t : Bool). cond t 0 a.k) (sym (ne_eqb a.i a.j c.if-i-j.false)),
+      moved-last l.s a.s.now (a.p + 32 * a.i) (a.p + 32 * a.j) a.k l.moved (ltb a.i a.j) e (omega arith) (omega arith) l.invariant.2,
+      l.invariant.0 ∙ e ∙ ap (λ (t : Bool). cond t 0 a.k) (sym (ne_eqb a.i a.j c.if-i-j.false)),
     )

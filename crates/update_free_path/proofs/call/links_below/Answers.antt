@@ -1,10 +1,11 @@
-use Rattle.std.proofs.Common.{ltb, ◌∙◌, rules, tests}
-use Rattle.std.proofs.lemmas.Iterator.{YieldsList-from_slice}
-use Rattle.std.proofs.lemmas.Iterator.Search.{all_from_yields_List}
-use Rattle.update_free_path.proofs.FaultLaws.{below_all}
+use Rattle.std.proofs.Common.{◌∙◌}
+use Rattle.update_free_path.proofs.FaultLaws.{below_more, below_asked}
 use Rattle.update_free_path.proofs.call.links_below.Goals as goal
+
+pub loop-x-preserved : goal.loop-x-preserved
+loop-x-preserved c = let a = c.args in
+    below_more a.l a.blocking.now c.loop-x.x-index c.loop-x.below c.loop-x-test.true ∙ c.loop-x.invariant
 
 pub returns : goal.returns
 returns c = let a = c.args in
-    all_from_yields_List (λ x. ltb x a.l) _ _ _ c.all.ensures.ran (YieldsList-from_slice a.blocking.now (search rules)) (λ x b q k. search (rules, tests))
-    ∙ below_all a.l a.blocking.now
+    below_asked a.l a.blocking.now c.loop-x.x-index c.loop-x.below c.loop-x-test.false ∙ c.loop-x.invariant

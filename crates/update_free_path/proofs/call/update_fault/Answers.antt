@@ -3,6 +3,7 @@ use lib.ListN.{length-replicate}
 use Rattle.link_rules.specs.Refusals.{Refused, raised}
 use Rattle.link_rules.proofs.RefusalLaws.{none_raised, raised_first, raised_next}
 use Rattle.image_fault.specs.ImageFault.{fault_with}
+use Rattle.image_fault.proofs.PassLaws.{own_raised}
 use Rattle.update_definition.specs.UpdateImage.{call_fault, given_fault, update_fault_in}
 use Rattle.update_free_path.proofs.FaultLaws.{call-links}
 use Rattle.update_free_path.proofs.call.update_fault.Goals as goal
@@ -24,6 +25,6 @@ pub returns : goal.returns
 unfolding update_fault_in
 returns c occ q g = let a = c.args in
     let own = given_fault a.w a.image.now occ a.o.moved.0 in
-    c.fault_with.ensures own g
+    c.fault_with.ensures own (own_raised own g)
     ∙ ap (λ (n : ℕ). raised (fault_with a.w own a.image.now n)) (sym q)
     ∙ raised_next _ _ (sym (c.call_fault.ensures occ q) ∙ c.in_ok-call_fault.was)
